@@ -1,0 +1,45 @@
+// The values that a leaf may hold.
+use crate::list::{Listing, Text};
+
+/// A double-point position (IEC 61850-7-3, DPC: stVal), in the order of its two bits.
+#[derive(Clone, Copy, Debug, PartialEq, Eq)]
+pub enum Dbpos {
+    /// Neither end position is reached.
+    Intermediate,
+    /// Open.
+    Off,
+    /// Closed.
+    On,
+    /// Both end positions are reported at once.
+    Bad,
+}
+
+/// The validity of a value (IEC 61850-7-3, Quality).
+#[derive(Clone, Copy, Debug, PartialEq, Eq)]
+pub enum Quality {
+    Good,
+    Invalid,
+}
+
+/// A leaf's value, of one of the eleven types of this profile.
+#[derive(Debug, Drop)]
+pub enum Leaf {
+    /// A BOOLEAN.
+    Truth(bool),
+    /// A bit string of two bits: a position, or the checks of a control.
+    Dbpos(Dbpos),
+    /// A bit string of thirteen bits.
+    Quality(Quality),
+    Int8(i8),
+    Int32(i32),
+    Unsigned8(u8),
+    Unsigned32(u32),
+    /// At most 64 octets.
+    Octets(Listing<u8>),
+    /// An object reference, at most 129 characters.
+    Reference(Text),
+    /// At most 255 characters.
+    Text(Text),
+    /// Milliseconds since 1970.
+    Utc(u64),
+}

@@ -1,0 +1,7 @@
+// The tree of named values that clients browse: rows in the order of their names, each a structure or
+// a leaf with a typed value (IEC 61850-8-1, mapping of names to MMS named variables).
+#![tactic(auto)]
+
+pub mod leaf;
+pub mod list;
+pub mod row;

@@ -1,0 +1,12 @@
+// A row of the tree.
+use crate::leaf::Leaf;
+use crate::list::Text;
+
+/// A named value, or the name of a structure.
+#[derive(Debug, Drop)]
+pub struct Row {
+    /// The name, whose words are parted by `$`.
+    pub name: Text,
+    /// The value; None for a structure.
+    pub leaf: Option<Leaf>,
+}
