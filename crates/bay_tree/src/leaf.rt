@@ -1,4 +1,7 @@
 // The values that a leaf may hold.
+ghost use Rattle.std.specs.Prelude.{◌≡◌};
+ghost use Rattle.bay_tree.specs.Kinds.{kind_of};
+
 use crate::list::{Listing, Text};
 
 /// A double-point position (IEC 61850-7-3, DPC: stVal), in the order of its two bits.
@@ -42,4 +45,41 @@ pub enum Leaf {
     Text(Text),
     /// Milliseconds since 1970.
     Utc(u64),
+}
+
+/// The type of a leaf's value, which never changes.
+#[derive(Clone, Copy, Debug, PartialEq, Eq)]
+pub enum Kind {
+    Truth,
+    Dbpos,
+    Quality,
+    Int8,
+    Int32,
+    Unsigned8,
+    Unsigned32,
+    Octets,
+    Reference,
+    Text,
+    Utc,
+}
+
+impl Leaf {
+    /// The type of this value.
+    pub fn kind(&self) -> Kind
+        ensures { result ≡ kind_of self.now }
+    {
+        match self {
+            Leaf::Truth(_) => Kind::Truth,
+            Leaf::Dbpos(_) => Kind::Dbpos,
+            Leaf::Quality(_) => Kind::Quality,
+            Leaf::Int8(_) => Kind::Int8,
+            Leaf::Int32(_) => Kind::Int32,
+            Leaf::Unsigned8(_) => Kind::Unsigned8,
+            Leaf::Unsigned32(_) => Kind::Unsigned32,
+            Leaf::Octets(_) => Kind::Octets,
+            Leaf::Reference(_) => Kind::Reference,
+            Leaf::Text(_) => Kind::Text,
+            Leaf::Utc(_) => Kind::Utc,
+        }
+    }
 }

@@ -2,6 +2,8 @@
 // a leaf with a typed value (IEC 61850-8-1, mapping of names to MMS named variables).
 #![tactic(auto)]
 
+pub mod fault;
 pub mod leaf;
 pub mod list;
 pub mod row;
+pub mod tree;

@@ -1,0 +1,45 @@
+-- A new value at a place leaves every name, and so the tree, as it was.
+use Rattle.std.proofs.Common.{◌≡◌, ◌≢◌, ℕ, ◌<◌, Option, Some, None, option_map, IfSome, List, [], length, ap, ◌∙◌, ⊎_elim, arith}
+use Rattle.std.proofs.Math.ListN.{set, length-set}
+use Rattle.std.proofs.lemmas.List.{get_or-set_same, get_or-set_other}
+use Rattle.std.proofs.lemmas.Bool.{cases_eq}
+use Rattle.std.proofs.lemmas.List.Quantifiers.{position-Some}
+use Rattle.std.proofs.lemmas.Slice.Eq.{bytes_eq-Decides}
+use Rattle.std.specs.Str.{bytes_eq}
+use Rattle.bay_tree.specs.declared.row.Row.{Row}
+use Rattle.bay_tree.specs.declared.leaf.Kind.{Kind}
+use Rattle.bay_tree.specs.Kinds.{kind_of}
+use Rattle.bay_tree.specs.Rows.{row_at, name_at, leaf_at, kind_at, place_of, IsHandle, IsTree, IsStructureNamed}
+
+pub name_at-set : (rows : List Row) (place : ℕ) (row : Row) (k : ℕ) → place < length rows → row.name ≡ name_at rows place → name_at (set rows place row) k ≡ name_at rows k
+name_at-set rows place row k within same =
+    ⊎_elim (λ (here : k ≡ place). rw here (ap (λ (r : Row). r.name) (get_or-set_same rows place row _ within) ∙ same))
+    (λ (other : k ≢ place). ap (λ (r : Row). r.name) (get_or-set_other rows place k row _ other)) (cases_eq k place)
+
+IfSome-weaken : (o : Option (List ℕ)) (P Q : List ℕ → Type 0) → ((x : List ℕ) → P x → Q x) → IfSome o P → IfSome o Q
+IfSome-weaken None P Q f h = tt
+IfSome-weaken (Some x) P Q f h = f x h
+
+-- a structure is not the row whose value is replaced
+structure-set : (rows : List Row) (place : ℕ) (row : Row) (k : ℕ) (name : List ℕ) → leaf_at rows place ≢ None → IsStructureNamed name (row_at rows k) → IsStructureNamed name (row_at (set rows place row) k)
+structure-set rows place row k name leaf is =
+    ⊎_elim (λ (here : k ≡ place). absurd (leaf (rw (← here) is.structure)))
+    (λ (other : k ≢ place). rw (get_or-set_other rows place k row _ other) is) (cases_eq k place)
+
+pub IsTree-set : (rows : List Row) (place : ℕ) (row : Row) → place < length rows → leaf_at rows place ≢ None → row.name ≡ name_at rows place → IsTree rows → IsTree (set rows place row)
+IsTree-set rows place row within leaf same tree =
+    let long : length (set rows place row) ≡ length rows = length-set rows place row in
+    let named = λ (k : ℕ). name_at-set rows place row k within same in
+    record {
+      distinct = λ i j lt in_rows. rw (named i, named j) (tree.distinct i j lt (omega arith));
+      parents = λ k in_rows. rw (named k) (IfSome-weaken _ _ (λ parent. (j : ℕ) × (j < k) × IsStructureNamed parent (row_at (set rows place row) j)) (λ parent w. (w.0, w.1, structure-set rows place row w.0 parent leaf w.2)) (tree.parents k (omega arith)));
+    }
+
+pub leaf_from_kind : (rows : List Row) (place : ℕ) (kind : Kind) → kind_at rows place ≡ Some kind → leaf_at rows place ≢ None
+leaf_from_kind rows place kind h = λ none. let e : option_map kind_of None ≡ Some kind = rw none at h in cc
+
+-- the place found is a row's, and that row has the name
+pub place_of-found : (rows : List Row) (name : List ℕ) (place : ℕ) → place_of rows name ≡ Some place → IsHandle rows place × (name_at rows place ≡ name)
+place_of-found rows name place h =
+    let found = position-Some (λ (row : Row). bytes_eq row.name name) rows place (record { name = []; leaf = None }) h in
+    (found.0, (bytes_eq-Decides (name_at rows place) name).0 found.1)

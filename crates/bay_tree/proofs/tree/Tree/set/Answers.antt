@@ -1,0 +1,34 @@
+use Rattle.std.proofs.Common.{◌≡◌, ◌<◌, Some, None, option_map, [], length, ap, sym, ◌∙◌}
+use Rattle.std.proofs.lemmas.List.{get_or_read}
+use Rattle.std.proofs.Math.Seq.{map-set_same}
+use Rattle.bay_tree.specs.Kinds.{kind_of}
+use Rattle.bay_tree.specs.Rows.{kind_at, row_at, names_of, kinds_of}
+use Rattle.bay_tree.specs.declared.row.Row.{Row}
+use Rattle.bay_tree.proofs.RowLemmas.{IsTree-set, leaf_from_kind}
+use Rattle.bay_tree.proofs.tree.Tree.set.Goals as goal
+
+pub invariant_of-self : goal.invariant_of-self
+invariant_of-self c =
+    let rows = c.self.inside.rows.items in
+    let place = c.handle.inside.index in
+    let within : place < length rows = rw (c.handle.view_is, c.self.view_is) c.requires in
+    let kind : kind_at rows place ≡ Some (kind_of c.args.leaf) =
+    rw (c.handle.view_is, c.self.view_is, ← c.kind.ensures) (c.has_kind.ensures.0 c.if-not-has_kind.false) in
+    let same : c.index_mut.result.now ≡ row_at rows place = get_or_read rows place _ within c.index_mut.ensures.value _ in
+    IsTree-set rows place _ within (leaf_from_kind rows place _ kind) (ap (λ (r : Row). r.name) same) c.self.invariant
+
+pub returns-clause-names : goal.returns-clause-names
+returns-clause-names c =
+    let rows = c.self.inside.rows.items in
+    let place = c.handle.inside.index in
+    let within : place < length rows = rw (c.handle.view_is, c.self.view_is) c.requires in
+    let same : c.index_mut.result.now ≡ row_at rows place = get_or_read rows place _ within c.index_mut.ensures.value _ in
+    map-set_same (λ (r : Row). r.name) rows place _ (record { name = []; leaf = None }) (ap (λ (r : Row). r.name) same) ∙ ap names_of c.self.view_is
+
+pub returns-clause-kinds : goal.returns-clause-kinds
+returns-clause-kinds c =
+    let rows = c.self.inside.rows.items in
+    let place = c.handle.inside.index in
+    let kind : kind_at rows place ≡ Some (kind_of c.args.leaf) =
+    rw (c.handle.view_is, c.self.view_is, ← c.kind.ensures) (c.has_kind.ensures.0 c.if-not-has_kind.false) in
+    map-set_same (λ (r : Row). option_map kind_of r.leaf) rows place _ (record { name = []; leaf = None }) (sym kind) ∙ ap kinds_of c.self.view_is

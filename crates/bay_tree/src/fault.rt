@@ -1,0 +1,28 @@
+// Why a call on the tree is refused.
+ghost use Rattle.std.specs.Prelude.{◌≡◌};
+ghost use Rattle.bay_tree.specs.Code.{code_of};
+
+use thiserror::Error;
+
+/// Why a look-up or a write is refused. Neither takes memory, and nothing is changed.
+#[derive(Clone, Copy, Debug, PartialEq, Eq, Error)]
+pub enum TreeFault {
+    /// No row has the name.
+    #[error("no row has this name")]
+    NoSuchName,
+    /// The row is a structure, or its value is of another type.
+    #[error("the value is of another type than the row's")]
+    WrongType,
+}
+
+impl TreeFault {
+    /// The fault's number: 40 for an unknown name, 41 for another type.
+    pub fn code(self) -> u8
+        ensures { result ≡ code_of self }
+    {
+        match self {
+            TreeFault::NoSuchName => 40,
+            TreeFault::WrongType => 41,
+        }
+    }
+}

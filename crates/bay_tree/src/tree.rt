@@ -1,0 +1,104 @@
+// The tree as a list of rows.
+ghost use Rattle.std.specs.Prelude.{◌≡◌, ◌↔◌, length, map, Some, Ok, Err, IfOk, IsOk, OnOk, OnErr, IfErr, IsTrue};
+ghost use Rattle.std.specs.Option.{ok_or, option_copied};
+ghost use Rattle.bay_tree.specs.Rows.{IsTree, IsHandle, place_of, name_at, leaf_at, kind_at, names_of, kinds_of, with_leaf};
+ghost use Rattle.bay_tree.specs.Kinds.{kind_of};
+
+use crate::fault::TreeFault;
+use crate::leaf::{Kind, Leaf};
+use crate::row::Row;
+use std::alloc::{AllocError, Global};
+use std::marker::Model;
+
+/// The place of a row in the tree that gave it.
+#[derive(Clone, Copy, Debug, PartialEq, Eq)]
+pub struct Handle {
+    index: usize,
+}
+
+impl Model for Handle {
+    ghost use Rattle.std.specs.Prelude.{ℕ};
+
+    ghost Value = { ℕ };
+
+    ghost view = { λ h. h.index };
+
+    ghost inverse = { λ n. record { index = n } };
+}
+
+/// The tree of named values of one logical device, which contracts see as the list of its rows.
+#[derive(Debug, Drop)]
+pub struct Tree {
+    rows: Vec<Row>,
+}
+
+impl Model for Tree {
+    ghost use Rattle.std.specs.Prelude.{List};
+    ghost use Rattle.bay_tree.specs.declared.row.Row.{Row};
+    ghost use Rattle.bay_tree.specs.Rows.{IsTree};
+
+    ghost Value = { List Row };
+
+    ghost view = { λ t. t.rows.items };
+
+    ghost invariant = { λ t. IsTree t.rows.items };
+}
+
+impl Tree {
+    /// The tree of these rows, in their order.
+    pub fn build(_alloc: Global, rows: Vec<Row>) -> Result<Self, AllocError>
+        requires { IsTree rows.items }
+        ensures { IfOk result (λ tree. tree ≡ rows.items) }
+    {
+        Ok(Tree { rows })
+    }
+
+    /// The handle of the row with this name.
+    pub fn find(&self, name: &str) -> Result<Handle, TreeFault>
+        ensures place { result ≡ ok_or (place_of self.now name.now) TreeFault.NoSuchName }
+        ensures found { IfOk result (λ handle. IsHandle self.now handle × (name_at self.now handle ≡ name.now)) }
+    {
+        match self.rows.iter().position(|row| row.name.as_str() == name) {
+            Some(index) => Ok(Handle { index }),
+            None => Err(TreeFault::NoSuchName),
+        }
+    }
+
+    /// The value of a row; None for a structure.
+    pub fn get(&self, handle: Handle) -> Option<&Leaf>
+        requires { IsHandle self.now handle }
+        ensures { option_copied result ≡ leaf_at self.now handle }
+    {
+        self.rows[handle.index].leaf.as_ref()
+    }
+
+    /// Whether a row has a value of this kind.
+    fn has_kind(&self, handle: Handle, kind: Kind) -> bool
+        requires { IsHandle self.now handle }
+        ensures { IsTrue result ↔ (kind_at self.now handle ≡ Some kind) }
+    {
+        match self.get(handle) {
+            Some(leaf) => leaf.kind() == kind,
+            None => false,
+        }
+    }
+
+    /// Gives a row a new value of the same type. A refused call changes nothing.
+    pub fn set(&mut self, handle: Handle, leaf: Leaf) -> Result<(), TreeFault>
+        requires { IsHandle self.old handle }
+        ensures accepted { IsOk result ↔ (kind_at self.old handle ≡ Some (kind_of leaf)) }
+        ensures ok { OnOk result (self.new ≡ with_leaf self.old handle leaf) }
+        ensures err { IfErr result (λ fault. (fault ≡ TreeFault.WrongType) × (self.new ≡ self.old)) }
+
+        // Handles stay good: each row keeps its place, its name and its value's type.
+        ensures handles { length self.new ≡ length self.old }
+        ensures names { names_of self.new ≡ names_of self.old }
+        ensures kinds { kinds_of self.new ≡ kinds_of self.old }
+    {
+        if !self.has_kind(handle, leaf.kind()) {
+            return Err(TreeFault::WrongType);
+        }
+        self.rows[handle.index].leaf = Some(leaf);
+        Ok(())
+    }
+}
