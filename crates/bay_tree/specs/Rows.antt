@@ -1,21 +1,13 @@
 -- The rows of a tree: named values in one list, each structure before what stands in it (IEC 61850-8-1, the
 -- mapping of names to MMS named variables, whose words are parted by `$`).
-use Rattle.std.specs.Prelude.{◌≡◌, ◌≢◌, ◌==◌, ℕ, ◌<◌, Option, Some, None, option_map, IfSome, List, [], ◌∷◌, length, map, slice_index_or, slice_set, if◌then◌else◌, position}
+use Rattle.std.specs.Prelude.{◌≡◌, ◌≢◌, ℕ, ◌+◌, ◌<◌, Option, Some, None, option_map, IfSome, List, [], length, map, filter, drop, slice_index_or, slice_set, position}
+use Rattle.std.specs.List.{position_from}
 use Rattle.std.specs.Str.{bytes_eq}
 use Rattle.bay_tree.specs.declared.row.Row.{Row}
 use Rattle.bay_tree.specs.declared.leaf.Leaf.{Leaf}
 use Rattle.bay_tree.specs.declared.leaf.Kind.{Kind}
 use Rattle.bay_tree.specs.Kinds.{kind_of}
-
--- what a first octet makes of the parent of what follows it; 36 is `$`
-abbrev pub parent_with : ℕ → Option (List ℕ) → Option (List ℕ)
-parent_with octet (Some parent) = Some (octet ∷ parent)
-parent_with octet None = if octet == 36 then Some [] else None
-
--- the name of the structure that a name stands in: what is before its last `$`. A name of one word has none
-abbrev pub parent_of : List ℕ → Option (List ℕ)
-parent_of [] = None
-parent_of (octet ∷ name) = parent_with octet (parent_of name)
+use Rattle.bay_tree.specs.Names.{parent_of, is_below}
 
 -- the row at a place; past the last place a structure without a name
 abbrev pub row_at : List Row → ℕ → Row
@@ -60,3 +52,24 @@ names_of rows = map (λ row. row.name) rows
 -- the kinds of their values, in order
 abbrev pub kinds_of : List Row → List (Option Kind)
 kinds_of rows = map (λ row. option_map kind_of row.leaf) rows
+
+-- the rows below a structure: those named by its name, `$` and one word, in order
+abbrev pub rows_below : List Row → List ℕ → List Row
+rows_below rows parent = filter (λ row. is_below parent row.name) rows
+
+-- the place of the first row below a structure, where the list begins at that place
+abbrev pub first_below_from : ℕ → List Row → List ℕ → Option ℕ
+first_below_from start rows parent = position_from (λ row. is_below parent row.name) start rows
+
+-- the first row below the row at a place
+abbrev pub first_below : List Row → ℕ → Option ℕ
+first_below rows place = first_below_from 0 rows (name_at rows place)
+
+-- the next row, after a place, below a parent
+abbrev pub next_below : List Row → ℕ → Option (List ℕ) → Option ℕ
+next_below rows place None = None
+next_below rows place (Some parent) = first_below_from (place + 1) (drop (place + 1) rows) parent
+
+-- the next row below the parent of the row at a place
+abbrev pub next_beside : List Row → ℕ → Option ℕ
+next_beside rows place = next_below rows place (parent_of (name_at rows place))

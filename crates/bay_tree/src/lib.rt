@@ -5,5 +5,6 @@
 pub mod fault;
 pub mod leaf;
 pub mod list;
+pub mod name;
 pub mod row;
 pub mod tree;

@@ -1,11 +1,13 @@
 // The tree as a list of rows.
-ghost use Rattle.std.specs.Prelude.{◌≡◌, ◌↔◌, length, map, Some, Ok, Err, IfOk, IsOk, OnOk, OnErr, IfErr, IsTrue};
+ghost use Rattle.std.specs.Prelude.{◌≡◌, ◌<◌, ◌≤◌, ◌↔◌, length, drop, map, Some, Ok, Err, IfOk, IsOk, OnOk, OnErr, IfErr, IfSome, IsTrue};
 ghost use Rattle.std.specs.Option.{ok_or, option_copied};
-ghost use Rattle.bay_tree.specs.Rows.{IsTree, IsHandle, place_of, name_at, leaf_at, kind_at, names_of, kinds_of, with_leaf};
+ghost use Rattle.bay_tree.specs.Names.{IsNamed, parent_of, word_of};
+ghost use Rattle.bay_tree.specs.Rows.{IsTree, IsHandle, place_of, name_at, leaf_at, kind_at, names_of, kinds_of, with_leaf, first_below_from, first_below, next_beside};
 ghost use Rattle.bay_tree.specs.Kinds.{kind_of};
 
 use crate::fault::TreeFault;
 use crate::leaf::{Kind, Leaf};
+use crate::name::{is_below, last_word, parent};
 use crate::row::Row;
 use std::alloc::{AllocError, Global};
 use std::marker::Model;
@@ -101,4 +103,56 @@ impl Tree {
         self.rows[handle.index].leaf = Some(leaf);
         Ok(())
     }
+
+    /// The first row below a structure; None for a leaf and for a structure without rows.
+    pub fn below(&self, handle: Handle) -> Option<Handle>
+        requires { IsHandle self.now handle }
+        ensures first { result ≡ first_below self.now handle }
+        ensures after { IfSome result (λ row. (handle < row) × IsHandle self.now row) }
+    {
+        let index = first_below_from(self.rows.as_slice(), handle.index + 1, self.name(handle))?;
+        Some(Handle { index })
+    }
+
+    /// The next row below the same parent; None for a row of one word, and after the parent's last row.
+    pub fn beside(&self, handle: Handle) -> Option<Handle>
+        requires { IsHandle self.now handle }
+        ensures next { result ≡ next_beside self.now handle }
+        ensures after { IfSome result (λ row. (handle < row) × IsHandle self.now row) }
+    {
+        let above = parent(self.name(handle))?;
+        let index = first_below_from(self.rows.as_slice(), handle.index + 1, above)?;
+        Some(Handle { index })
+    }
+
+    /// The last word of a row's name.
+    pub fn word(&self, handle: Handle) -> &str
+        requires { IsHandle self.now handle }
+        ensures word { result.now ≡ word_of (name_at self.now handle) }
+        ensures named { IsNamed (parent_of (name_at self.now handle)) result.now (name_at self.now handle) }
+    {
+        last_word(self.name(handle))
+    }
+
+    // The name of a row.
+    fn name(&self, handle: Handle) -> &str
+        requires { IsHandle self.now handle }
+        ensures { result.now ≡ name_at self.now handle }
+    {
+        self.rows[handle.index].name.as_str()
+    }
+}
+
+// The place of the first row, from a place on, that is below a structure.
+fn first_below_from(rows: &[Row], start: usize, above: &str) -> Option<usize>
+    requires { start ≤ length rows.now }
+    ensures first { result ≡ first_below_from start (drop start rows.now) above.now }
+    ensures after { IfSome result (λ index. (start ≤ index) × (index < length rows.now)) }
+{
+    for index in start..rows.len() {
+        if is_below(rows[index].name.as_str(), above) {
+            return Some(index);
+        }
+    }
+    None
 }
