@@ -1,15 +1,12 @@
 -- A new value at a place leaves every name, and so the tree, as it was.
-use Rattle.std.proofs.Common.{◌≡◌, ◌≢◌, ℕ, ◌<◌, Option, Some, None, option_map, IfSome, List, [], length, ap, ◌∙◌, ⊎_elim, arith}
+use Rattle.std.proofs.Common.{◌≡◌, ◌≢◌, ℕ, ◌<◌, Option, Some, None, option_map, IfSome, List, length, ap, ◌∙◌, ⊎_elim, arith}
 use Rattle.std.proofs.Math.ListN.{set, length-set}
 use Rattle.std.proofs.lemmas.List.{get_or-set_same, get_or-set_other}
 use Rattle.std.proofs.lemmas.Bool.{cases_eq}
-use Rattle.std.proofs.lemmas.List.Quantifiers.{position-Some}
-use Rattle.std.proofs.lemmas.Slice.Eq.{bytes_eq-Decides}
-use Rattle.std.specs.Str.{bytes_eq}
 use Rattle.bay_tree.specs.declared.row.Row.{Row}
 use Rattle.bay_tree.specs.declared.leaf.Kind.{Kind}
 use Rattle.bay_tree.specs.Kinds.{kind_of}
-use Rattle.bay_tree.specs.Rows.{row_at, name_at, leaf_at, kind_at, place_of, IsHandle, IsTree, IsStructureNamed}
+use Rattle.bay_tree.specs.Rows.{row_at, name_at, leaf_at, kind_at, IsTree, IsStructureNamed}
 
 pub name_at-set : (rows : List Row) (place : ℕ) (row : Row) (k : ℕ) → place < length rows → row.name ≡ name_at rows place → name_at (set rows place row) k ≡ name_at rows k
 name_at-set rows place row k within same =
@@ -37,9 +34,3 @@ IsTree-set rows place row within leaf same tree =
 
 pub leaf_from_kind : (rows : List Row) (place : ℕ) (kind : Kind) → kind_at rows place ≡ Some kind → leaf_at rows place ≢ None
 leaf_from_kind rows place kind h = λ none. let e : option_map kind_of None ≡ Some kind = rw none at h in cc
-
--- the place found is a row's, and that row has the name
-pub place_of-found : (rows : List Row) (name : List ℕ) (place : ℕ) → place_of rows name ≡ Some place → IsHandle rows place × (name_at rows place ≡ name)
-place_of-found rows name place h =
-    let found = position-Some (λ (row : Row). bytes_eq row.name name) rows place (record { name = []; leaf = None }) h in
-    (found.0, (bytes_eq-Decides (name_at rows place) name).0 found.1)

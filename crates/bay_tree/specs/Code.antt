@@ -2,7 +2,13 @@
 use Rattle.std.specs.Prelude.{ℕ}
 use Rattle.bay_tree.specs.declared.fault.TreeFault.{TreeFault}
 use Rattle.bay_tree.specs.declared.fault.TreeFault.TheVariants.{NoSuchName, WrongType}
+use Rattle.bay_tree.specs.declared.fault.NamesFault.{NamesFault}
+use Rattle.bay_tree.specs.declared.fault.NamesFault.TheVariants as names
 
 abbrev pub code_of : TreeFault → ℕ
 code_of NoSuchName = 40
 code_of WrongType = 41
+
+abbrev pub names_code_of : NamesFault → ℕ
+names_code_of names.NoSuchName = 40
+names_code_of names.OutOfMemory = 0

@@ -1,7 +1,9 @@
 // Why a call on the tree is refused.
 ghost use Rattle.std.specs.Prelude.{◌≡◌};
-ghost use Rattle.bay_tree.specs.Code.{code_of};
+ghost use Rattle.bay_tree.specs.declared.fault.NamesFault.TheVariants.{OutOfMemory};
+ghost use Rattle.bay_tree.specs.Code.{code_of, names_code_of};
 
+use std::alloc::AllocError;
 use thiserror::Error;
 
 /// Why a look-up or a write is refused. Neither takes memory, and nothing is changed.
@@ -24,5 +26,36 @@ impl TreeFault {
             TreeFault::NoSuchName => 40,
             TreeFault::WrongType => 41,
         }
+    }
+}
+
+/// Why a page of names is refused.
+#[derive(Clone, Copy, Debug, PartialEq, Eq, Error)]
+pub enum NamesFault {
+    /// No row has the name that the page is to follow.
+    #[error("no row has this name")]
+    NoSuchName,
+    /// There is no room for the copies of the names.
+    #[error("out of memory")]
+    OutOfMemory,
+}
+
+impl NamesFault {
+    /// The fault's number: 40 for an unknown name, 0 for want of memory.
+    pub fn code(self) -> u8
+        ensures { result ≡ names_code_of self }
+    {
+        match self {
+            NamesFault::NoSuchName => 40,
+            NamesFault::OutOfMemory => 0,
+        }
+    }
+}
+
+impl From<AllocError> for NamesFault {
+    ghost from_gives = { λ _ e. e ≡ OutOfMemory };
+
+    fn from(_error: AllocError) -> NamesFault {
+        NamesFault::OutOfMemory
     }
 }

@@ -6,5 +6,7 @@ pub mod fault;
 pub mod leaf;
 pub mod list;
 pub mod name;
+pub mod page;
 pub mod row;
+mod search;
 pub mod tree;

@@ -1,6 +1,7 @@
 // Texts, octets and lists that contracts see as lists.
-ghost use Rattle.std.specs.Prelude.{◌≡◌, string_bytes};
+ghost use Rattle.std.specs.Prelude.{◌≡◌, IfOk, string_bytes};
 
+use std::alloc::{AllocError, Global};
 use std::marker::Model;
 
 /// A text, which contracts see as the list of its octets in UTF-8.
@@ -23,6 +24,15 @@ impl Text {
         ensures { result ≡ string_bytes text }
     {
         Text { text }
+    }
+
+    /// A copy of a text.
+    pub fn from_str(alloc: Global, text: &str) -> Result<Self, AllocError>
+        ensures { IfOk result (λ copy. copy ≡ text.now) }
+    {
+        Ok(Text {
+            text: String::from_str(alloc, text)?,
+        })
     }
 
     /// The text as it stands.

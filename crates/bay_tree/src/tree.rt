@@ -1,14 +1,18 @@
 // The tree as a list of rows.
-ghost use Rattle.std.specs.Prelude.{◌≡◌, ◌<◌, ◌≤◌, ◌↔◌, length, drop, map, Some, Ok, Err, IfOk, IsOk, OnOk, OnErr, IfErr, IfSome, IsTrue};
+ghost use Rattle.std.specs.Prelude.{◌≡◌, ◌≢◌, ◌<◌, All, ◌≤◌, ◌↔◌, length, drop, map, Some, Ok, Err, IfOk, IsOk, OnOk, OnErr, IfErr, IfSome, IsTrue};
 ghost use Rattle.std.specs.Option.{ok_or, option_copied};
 ghost use Rattle.bay_tree.specs.Names.{IsNamed, parent_of, word_of};
 ghost use Rattle.bay_tree.specs.Rows.{IsTree, IsHandle, place_of, name_at, leaf_at, kind_at, names_of, kinds_of, with_leaf, first_below_from, first_below, next_beside};
 ghost use Rattle.bay_tree.specs.Kinds.{kind_of};
+ghost use Rattle.bay_tree.specs.Page.{page_after, start_after, IsUnknown};
 
-use crate::fault::TreeFault;
+use crate::fault::{NamesFault, TreeFault};
 use crate::leaf::{Kind, Leaf};
-use crate::name::{is_below, last_word, parent};
+use crate::list::Listing;
+use crate::name::{last_word, parent};
+use crate::page::{Names, first_names};
 use crate::row::Row;
+use crate::search::{first_below_from, place_of, start_after};
 use std::alloc::{AllocError, Global};
 use std::marker::Model;
 
@@ -59,8 +63,9 @@ impl Tree {
     pub fn find(&self, name: &str) -> Result<Handle, TreeFault>
         ensures place { result ≡ ok_or (place_of self.now name.now) TreeFault.NoSuchName }
         ensures found { IfOk result (λ handle. IsHandle self.now handle × (name_at self.now handle ≡ name.now)) }
+        ensures unknown { (result ≡ Err TreeFault.NoSuchName) ↔ All (λ row. row.name ≢ name.now) self.now }
     {
-        match self.rows.iter().position(|row| row.name.as_str() == name) {
+        match place_of(self.rows.as_slice(), name) {
             Some(index) => Ok(Handle { index }),
             None => Err(TreeFault::NoSuchName),
         }
@@ -134,6 +139,29 @@ impl Tree {
         last_word(self.name(handle))
     }
 
+    /// The first names that follow a row's, or the first of all where no name is given, and whether there are
+    /// more. Want of memory changes nothing.
+    pub fn names_after(
+        &self,
+        alloc: Global,
+        after: Option<&str>,
+        count: usize,
+    ) -> Result<Names, NamesFault>
+        ensures page { IfOk result (λ page. page ≡ page_after self.now (option_copied after.entry) count) }
+        ensures unknown { (result ≡ Err NamesFault.NoSuchName) ↔ IsUnknown self.now (option_copied after.entry) }
+    {
+        let start = match start_after(self.rows.as_slice(), after) {
+            Some(start) => start,
+            None => return Err(NamesFault::NoSuchName),
+        };
+        let rest = &self.rows.as_slice()[start..];
+        let names = first_names(alloc, rest, count)?;
+        Ok(Names {
+            names: Listing::new(names),
+            more: count < rest.len(),
+        })
+    }
+
     // The name of a row.
     fn name(&self, handle: Handle) -> &str
         requires { IsHandle self.now handle }
@@ -141,18 +169,4 @@ impl Tree {
     {
         self.rows[handle.index].name.as_str()
     }
-}
-
-// The place of the first row, from a place on, that is below a structure.
-fn first_below_from(rows: &[Row], start: usize, above: &str) -> Option<usize>
-    requires { start ≤ length rows.now }
-    ensures first { result ≡ first_below_from start (drop start rows.now) above.now }
-    ensures after { IfSome result (λ index. (start ≤ index) × (index < length rows.now)) }
-{
-    for index in start..rows.len() {
-        if is_below(rows[index].name.as_str(), above) {
-            return Some(index);
-        }
-    }
-    None
 }

@@ -1,20 +1,19 @@
-use Rattle.std.proofs.Common.{sym, ap, rules, tests, Some, None}
-use Rattle.std.proofs.lemmas.Iterator.{YieldsList-from_slice}
-use Rattle.std.proofs.lemmas.Iterator.Search.{position_from_yields_List}
-use Rattle.std.specs.Option.{ok_or}
-use Rattle.std.specs.Str.{bytes_eq}
-use Rattle.bay_tree.specs.declared.fault.TreeFault.TheVariants.{NoSuchName}
-use Rattle.bay_tree.proofs.RowLemmas.{place_of-found}
+use Rattle.std.proofs.Common.{◌≡◌, Some, None, sym, refl}
+use Rattle.bay_tree.specs.Rows.{place_of}
+use Rattle.bay_tree.proofs.SearchLemmas.{place_of-found, place_of-none, place_of-some}
 use Rattle.bay_tree.proofs.tree.Tree.find.Goals as goal
-
-pub returns-in-Some-clause-place : goal.returns-in-Some-clause-place
-returns-in-Some-clause-place c =
-    ap (λ p. ok_or p NoSuchName) (position_from_yields_List (λ row. bytes_eq row.name c.args.name.now) _ _ (Some c.in-Some.index) c.in-Some.ensures.ran (YieldsList-from_slice c.args.self.now cc) (λ x b q k. search (rules, tests)))
 
 pub returns-in-Some-clause-found : goal.returns-in-Some-clause-found
 returns-in-Some-clause-found c =
-    place_of-found c.args.self.now c.args.name.now c.in-Some.index (sym (position_from_yields_List (λ row. bytes_eq row.name c.args.name.now) _ _ (Some c.in-Some.index) c.in-Some.ensures.ran (YieldsList-from_slice c.args.self.now cc) (λ x b q k. search (rules, tests))))
+    let place : place_of c.args.self.now c.args.name.now ≡ Some c.in-Some.index = rw (← c.self.view_is, ← c.as_slice.ensures.value) (sym c.in-Some.ensures.place) in
+    place_of-found c.args.self.now c.args.name.now c.in-Some.index place
 
-pub returns-in-None-clause-place : goal.returns-in-None-clause-place
-returns-in-None-clause-place c =
-    ap (λ p. ok_or p NoSuchName) (position_from_yields_List (λ row. bytes_eq row.name c.args.name.now) _ _ None c.in-None.ensures.ran (YieldsList-from_slice c.args.self.now cc) (λ x b q k. search (rules, tests)))
+pub returns-in-Some-clause-unknown : goal.returns-in-Some-clause-unknown
+returns-in-Some-clause-unknown c =
+    let place : place_of c.args.self.now c.args.name.now ≡ Some c.in-Some.index = rw (← c.self.view_is, ← c.as_slice.ensures.value) (sym c.in-Some.ensures.place) in
+    (λ e. absurd cc, λ lacking. absurd (place_of-some c.args.self.now c.args.name.now c.in-Some.index place lacking))
+
+pub returns-in-None-clause-unknown : goal.returns-in-None-clause-unknown
+returns-in-None-clause-unknown c =
+    let place : place_of c.args.self.now c.args.name.now ≡ None = rw (← c.self.view_is, ← c.as_slice.ensures.value) (sym c.in-None.ensures.place) in
+    (λ _. place_of-none c.args.self.now c.args.name.now place, λ _. refl)

@@ -1,6 +1,6 @@
 use Rattle.std.proofs.Common.{◌≡◌, drop}
 use Rattle.bay_tree.specs.Rows.{first_below_from}
-use Rattle.bay_tree.proofs.tree.first_below_from.Given as goal
+use Rattle.bay_tree.proofs.search.first_below_from.Given as goal
 
 -- no row between the start and the index is below the structure
 abbrev pub invariant-loop-index : goal.invariant-loop-index

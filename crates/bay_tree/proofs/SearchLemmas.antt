@@ -1,0 +1,58 @@
+-- What a search by name finds, and that it misses no row.
+use Rattle.std.proofs.Common.{◌≡◌, ◌≢◌, ℕ, ◌+◌, ◌<◌, Bool, true, false, cond, Option, Some, None, option_map, List, [], ◌∷◌, length, All, get_or, refl, sym, ◌∙◌, arith, zero, suc}
+use Rattle.std.proofs.lemmas.Iterator.Adapters.{position_from-zero}
+use Rattle.std.proofs.lemmas.List.Quantifiers.{position-Some}
+use Rattle.std.proofs.lemmas.Slice.Eq.{bytes_eq-Decides}
+use Rattle.std.specs.List.{position_from}
+use Rattle.std.specs.Str.{bytes_eq}
+use Rattle.bay_tree.specs.declared.row.Row.{Row}
+use Rattle.bay_tree.specs.Page.{IsUnknown, start_after}
+use Rattle.bay_tree.specs.Rows.{name_at, place_of, IsHandle}
+
+-- the place found is a row's, and that row has the name
+pub place_of-found : (rows : List Row) (name : List ℕ) (place : ℕ) → place_of rows name ≡ Some place → IsHandle rows place × (name_at rows place ≡ name)
+place_of-found rows name place h =
+    let found = position-Some (λ (row : Row). bytes_eq row.name name) rows place (record { name = []; leaf = None }) h in
+    (found.0, (bytes_eq-Decides (name_at rows place) name).0 found.1)
+
+none_either : (test : Row → Bool) (row : Row) (rows : List Row) (start : ℕ) (here : Bool) → test row ≡ here → cond here (Some start) (position_from test (start + 1) rows) ≡ None → (position_from test (start + 1) rows ≡ None → (k : ℕ) (d : Row) → k < length rows → test (get_or rows k d) ≡ false) → (k : ℕ) (d : Row) → k < length (row ∷ rows) → test (get_or (row ∷ rows) k d) ≡ false
+none_either test row rows start true is none later k d lt = absurd cc
+none_either test row rows start false is none later zero d lt = is
+none_either test row rows start false is none later (suc k) d lt = later none k d (omega arith)
+
+-- a search that finds nothing has missed no row
+position_from-none : (test : Row → Bool) (rows : List Row) (start : ℕ) → position_from test start rows ≡ None → (k : ℕ) (d : Row) → k < length rows → test (get_or rows k d) ≡ false
+position_from-none test [] start none k d lt = absurd (omega arith)
+position_from-none test (row ∷ rows) start none k d lt =
+    none_either test row rows start (test row) refl none (position_from-none test rows (start + 1)) k d lt
+
+-- where no place is found, no row has the name
+pub place_of-none : (rows : List Row) (name : List ℕ) → place_of rows name ≡ None → All (λ (row : Row). row.name ≢ name) rows
+place_of-none rows name none = λ k d lt same.
+    let missed = position_from-none (λ (row : Row). bytes_eq row.name name) rows 0 (sym (position_from-zero (λ (row : Row). bytes_eq row.name name) rows) ∙ none) k d lt in
+    let passes = (bytes_eq-Decides (get_or rows k d).name name).1 same in
+    cc
+
+-- where a place is found, some row has the name
+pub place_of-some : (rows : List Row) (name : List ℕ) (place : ℕ) → place_of rows name ≡ Some place → All (λ (row : Row). row.name ≢ name) rows → ⊥
+place_of-some rows name place h lacking =
+    let found = place_of-found rows name place h in
+    lacking place (record { name = []; leaf = None }) found.0 found.1
+
+start_with : (place : Option ℕ) → option_map (λ p. p + 1) place ≡ None → place ≡ None
+start_with None h = refl
+start_with (Some p) h = absurd cc
+
+started_with : (place : Option ℕ) (start : ℕ) → option_map (λ p. p + 1) place ≡ Some start → (p : ℕ) × (place ≡ Some p)
+started_with None start h = absurd cc
+started_with (Some p) start h = (p, refl)
+
+pub start_after-none : (rows : List Row) (name : Option (List ℕ)) → start_after rows name ≡ None → IsUnknown rows name
+start_after-none rows None h = cc
+start_after-none rows (Some name) h = place_of-none rows name (start_with (place_of rows name) h)
+
+pub start_after-some : (rows : List Row) (name : Option (List ℕ)) (start : ℕ) → start_after rows name ≡ Some start → IsUnknown rows name → ⊥
+start_after-some rows None start h unknown = unknown
+start_after-some rows (Some name) start h unknown =
+    let found = started_with (place_of rows name) start h in
+    place_of-some rows name found.0 found.1 unknown

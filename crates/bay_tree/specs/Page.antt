@@ -1,0 +1,26 @@
+-- The names that follow a name, as a client reads them page by page (ISO 9506-1, GetNameList).
+use Rattle.std.specs.Prelude.{◌≢◌, ℕ, ◌+◌, Option, Some, None, option_map, List, length, take, nat_lt, All}
+use Rattle.std.specs.List.{after_first}
+use Rattle.std.specs.Str.{bytes_eq}
+use Rattle.bay_tree.specs.declared.row.Row.{Row}
+use Rattle.bay_tree.specs.declared.page.Names.{Names}
+use Rattle.bay_tree.specs.Rows.{names_of, place_of}
+
+-- the rows that follow the row of a name; without a name all rows
+abbrev pub rows_after : List Row → Option (List ℕ) → List Row
+rows_after rows None = rows
+rows_after rows (Some name) = after_first (λ row. bytes_eq row.name name) rows
+
+-- the first names that follow, and whether there are more
+abbrev pub page_after : List Row → Option (List ℕ) → ℕ → Names
+page_after rows name count = record { names = names_of (take count (rows_after rows name)); more = nat_lt count (length (rows_after rows name)) }
+
+-- a name is given, and no row has it
+abbrev pub IsUnknown : List Row → Option (List ℕ) → Type 0
+IsUnknown rows None = ⊥
+IsUnknown rows (Some name) = All (λ row. row.name ≢ name) rows
+
+-- where the rows after a name begin
+abbrev pub start_after : List Row → Option (List ℕ) → Option ℕ
+start_after rows None = Some 0
+start_after rows (Some name) = option_map (λ place. place + 1) (place_of rows name)

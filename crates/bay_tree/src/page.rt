@@ -1,0 +1,38 @@
+// Pages of names.
+ghost use Rattle.std.specs.Prelude.{◌≡◌, take, IfOk};
+ghost use Rattle.bay_tree.specs.Rows.{names_of};
+
+use crate::list::{Listing, Text};
+use crate::row::Row;
+use std::alloc::{AllocError, Global};
+
+/// The first names that follow a name, and whether there are more.
+#[derive(Debug, Drop)]
+pub struct Names {
+    /// Copies of the names, in order.
+    pub names: Listing<Text>,
+    pub more: bool,
+}
+
+// The first rows, as many as there are up to the count.
+fn first_rows(rows: &[Row], count: usize) -> &[Row]
+    ensures { result.now ≡ take count rows.now }
+{
+    if count < rows.len() {
+        &rows[..count]
+    } else {
+        rows
+    }
+}
+
+/// Copies of the names of the first rows, as many as there are up to the count.
+pub fn first_names(alloc: Global, rows: &[Row], count: usize) -> Result<Vec<Text>, AllocError>
+    ensures { IfOk result (λ names. names.items ≡ names_of (take count rows.now)) }
+{
+    let first = first_rows(rows, count);
+    let mut names = Vec::with_capacity(alloc, first.len())?;
+    for row in first {
+        names.push(Text::from_str(alloc, row.name.as_str())?)?;
+    }
+    Ok(names)
+}
