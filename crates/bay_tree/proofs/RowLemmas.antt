@@ -13,7 +13,7 @@ name_at-set rows place row k within same =
     ⊎_elim (λ (here : k ≡ place). rw here (ap (λ (r : Row). r.name) (get_or-set_same rows place row _ within) ∙ same))
     (λ (other : k ≢ place). ap (λ (r : Row). r.name) (get_or-set_other rows place k row _ other)) (cases_eq k place)
 
-IfSome-weaken : (o : Option (List ℕ)) (P Q : List ℕ → Type 0) → ((x : List ℕ) → P x → Q x) → IfSome o P → IfSome o Q
+pub IfSome-weaken : (o : Option (List ℕ)) (P Q : List ℕ → Type 0) → ((x : List ℕ) → P x → Q x) → IfSome o P → IfSome o Q
 IfSome-weaken None P Q f h = tt
 IfSome-weaken (Some x) P Q f h = f x h
 

@@ -1,5 +1,5 @@
 -- What a search by name finds, and that it misses no row.
-use Rattle.std.proofs.Common.{◌≡◌, ◌≢◌, ℕ, ◌+◌, ◌<◌, Bool, true, false, cond, Option, Some, None, option_map, List, [], ◌∷◌, length, All, get_or, refl, sym, ◌∙◌, arith, zero, suc}
+use Rattle.std.proofs.Common.{◌≡◌, ◌≢◌, ℕ, ◌+◌, ◌<◌, Bool, true, false, cond, Option, Some, None, option_map, List, [], ◌∷◌, length, All, is_some, get_or, refl, sym, ◌∙◌, arith, zero, suc}
 use Rattle.std.proofs.lemmas.Iterator.Adapters.{position_from-zero}
 use Rattle.std.proofs.lemmas.List.Quantifiers.{position-Some}
 use Rattle.std.proofs.lemmas.Slice.Eq.{bytes_eq-Decides}
@@ -56,3 +56,19 @@ start_after-some rows None start h unknown = unknown
 start_after-some rows (Some name) start h unknown =
     let found = started_with (place_of rows name) start h in
     place_of-some rows name found.0 found.1 unknown
+
+none_from : (o : Option ℕ) → is_some o ≡ false → o ≡ None
+none_from None h = refl
+none_from (Some p) h = absurd cc
+
+some_from : (o : Option ℕ) → is_some o ≡ true → (p : ℕ) × (o ≡ Some p)
+some_from None h = absurd cc
+some_from (Some p) h = (p, refl)
+
+pub place_of-is_none : (rows : List Row) (name : List ℕ) → is_some (place_of rows name) ≡ false → All (λ (row : Row). row.name ≢ name) rows
+place_of-is_none rows name h = place_of-none rows name (none_from (place_of rows name) h)
+
+pub place_of-is_some : (rows : List Row) (name : List ℕ) → is_some (place_of rows name) ≡ true → All (λ (row : Row). row.name ≢ name) rows → ⊥
+place_of-is_some rows name h =
+    let found = some_from (place_of rows name) h in
+    place_of-some rows name found.0 found.1

@@ -1,6 +1,6 @@
 -- The rows of a tree: named values in one list, each structure before what stands in it (IEC 61850-8-1, the
 -- mapping of names to MMS named variables, whose words are parted by `$`).
-use Rattle.std.specs.Prelude.{◌≡◌, ◌≢◌, ℕ, ◌+◌, ◌<◌, Option, Some, None, option_map, IfSome, List, [], length, map, filter, drop, slice_index_or, slice_set, position}
+use Rattle.std.specs.Prelude.{◌≡◌, ◌≢◌, ℕ, ◌+◌, ◌<◌, Option, Some, None, option_map, IfSome, List, [], length, map, filter, drop, slice_index_or, slice_set, position, All, Any}
 use Rattle.std.specs.List.{position_from}
 use Rattle.std.specs.Str.{bytes_eq}
 use Rattle.bay_tree.specs.declared.row.Row.{Row}
@@ -28,6 +28,11 @@ pub record IsStructureNamed (name : List ℕ) (row : Row) : Type 0 where
 pub record IsTree (rows : List Row) : Type 0 where
   pub distinct : (i j : ℕ) → i < j → j < length rows → name_at rows i ≢ name_at rows j
   pub parents : (k : ℕ) → k < length rows → IfSome (parent_of (name_at rows k)) (λ parent. (j : ℕ) × (j < k) × IsStructureNamed parent (row_at rows j))
+
+-- a row can stand behind others: none has its name, and its parent is a structure among them
+pub record CanFollow (earlier : List Row) (row : Row) : Type 0 where
+  pub distinct : All (λ other. other.name ≢ row.name) earlier
+  pub parent : IfSome (parent_of row.name) (λ parent. Any (IsStructureNamed parent) earlier)
 
 -- a handle is a row's place
 abbrev pub IsHandle : List Row → ℕ → Type 0

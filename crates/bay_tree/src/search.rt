@@ -1,10 +1,10 @@
 // Searches over the rows, from the first on.
-ghost use Rattle.std.specs.Prelude.{◌≡◌, ◌<◌, ◌≤◌, length, drop, IfSome};
+ghost use Rattle.std.specs.Prelude.{◌≡◌, ◌<◌, ◌≤◌, ◌↔◌, length, drop, IfSome, IsTrue, Any, All, ◌≢◌};
 ghost use Rattle.std.specs.Option.{option_copied};
 ghost use Rattle.bay_tree.specs.Page.{start_after};
-ghost use Rattle.bay_tree.specs.Rows.{place_of, first_below_from};
+ghost use Rattle.bay_tree.specs.Rows.{IsTree, CanFollow, IsStructureNamed, place_of, first_below_from};
 
-use crate::name::is_below;
+use crate::name::{is_below, parent};
 use crate::row::Row;
 
 /// The place of the row with this name.
@@ -41,4 +41,37 @@ pub fn start_after(rows: &[Row], after: Option<&str>) -> Option<usize>
             None => None,
         },
     }
+}
+
+/// Whether some row is a structure with this name.
+fn has_structure(rows: &[Row], name: &str) -> bool
+    ensures { IsTrue result ↔ Any (IsStructureNamed name.now) rows.now }
+{
+    rows.iter()
+        .any(|row| row.leaf.is_none() && row.name.as_str() == name)
+}
+
+/// Whether a row can stand behind others.
+fn can_follow(earlier: &[Row], row: &Row) -> bool
+    ensures { IsTrue result ↔ CanFollow earlier.now row.now }
+{
+    if place_of(earlier, row.name.as_str()).is_some() {
+        return false;
+    }
+    match parent(row.name.as_str()) {
+        Some(above) => has_structure(earlier, above),
+        None => true,
+    }
+}
+
+/// Whether rows make a tree: their names are distinct, and each name's parent is a structure before it.
+pub fn is_tree(rows: &[Row]) -> bool
+    ensures { IsTrue result ↔ IsTree rows.now }
+{
+    for index in 0..rows.len() {
+        if !can_follow(&rows[..index], &rows[index]) {
+            return false;
+        }
+    }
+    true
 }
