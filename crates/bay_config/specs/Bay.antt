@@ -1,0 +1,85 @@
+-- The bay of a table: the sections of a bay file, its first refusal, and what it describes.
+use Rattle.std.specs.Prelude.{ℕ, List, [], ◌∷◌, ◌++◌, map, codes, Option, None, Some, option_and_then, unwrap_or, Result, Err}
+use Rattle.toml.specs.Data.{Members, no_members, no_items, get_member, as_table, as_array}
+use Rattle.toml.specs.Parse.{parse_document}
+use Rattle.bay_config.specs.declared.bay.Bay.{Bay}
+use Rattle.bay_config.specs.declared.bay.Switch.{Switch}
+use Rattle.bay_config.specs.declared.section.Nameplate.{Nameplate}
+use Rattle.bay_config.specs.declared.fault.BayFault.{BayFault}
+use Rattle.bay_config.specs.declared.fault.BayFault.TheVariants.{BadToml}
+use Rattle.bay_config.specs.Gives.{judged}
+use Rattle.bay_config.specs.Key.{Key, identifier, description, number, first_of, unknown_refusal, text_in, number_in}
+use Rattle.bay_config.specs.Node.{rows_of_all}
+use Rattle.bay_config.specs.Point.{points_of_all, names_refusal}
+use Rattle.bay_config.specs.Section.{Section, one, some, tables_of, section_refusal}
+use Rattle.bay_config.specs.Switch.{switch_keys, switch_in}
+
+abbrev pub bay_keys : List Key
+bay_keys =
+    record { name = codes "domain"; form = identifier 32 }
+    ∷ record { name = codes "vendor"; form = description }
+    ∷ record { name = codes "model"; form = description }
+    ∷ record { name = codes "revision"; form = description }
+    ∷ record { name = codes "scan_max_age_ms"; form = number 0 600000 }
+    ∷ []
+
+abbrev pub bay_section : Section
+bay_section = record { name = codes "bay"; shape = one; keys = λ _. bay_keys }
+
+abbrev pub switch_section : Section
+switch_section = record { name = codes "switch"; shape = some 32; keys = switch_keys }
+
+-- the sections of a bay file, in their order
+abbrev pub sections : List Section
+sections = bay_section ∷ switch_section ∷ []
+
+-- the one table of the section `bay`, and the tables of the section `switch`
+abbrev pub bay_table : Members → Members
+bay_table file = unwrap_or (option_and_then as_table (get_member (codes "bay") file)) no_members
+
+abbrev pub switch_tables : Members → List Members
+switch_tables file = tables_of (unwrap_or (option_and_then as_array (get_member (codes "switch") file)) no_items)
+
+-- what a file that is not refused describes
+abbrev pub nameplate_in : Members → Nameplate
+nameplate_in table = record {
+  domain = text_in table (codes "domain");
+  vendor = text_in table (codes "vendor");
+  model = text_in table (codes "model");
+  revision = text_in table (codes "revision");
+  scan_max_age_ms = number_in table (codes "scan_max_age_ms");
+}
+
+abbrev pub bay_with : Nameplate → List Switch → Bay
+bay_with nameplate switches = record {
+  domain = nameplate.domain;
+  vendor = nameplate.vendor;
+  model = nameplate.model;
+  revision = nameplate.revision;
+  scan_max_age_ms = nameplate.scan_max_age_ms;
+  rows = rows_of_all switches;
+  points = points_of_all switches;
+  switches = switches;
+}
+
+abbrev pub switches_in : Members → List Switch
+switches_in file = map switch_in (switch_tables file)
+
+abbrev pub bay_in : Members → Bay
+bay_in file = bay_with (nameplate_in (bay_table file)) (switches_in file)
+
+-- the first refusal of a file: a key that is no section, then section by section, then the names of the points
+abbrev pub file_refusal : Members → Option BayFault
+file_refusal file =
+    first_of (unknown_refusal (map (λ section. section.name) sections) file ∷ map (section_refusal file) sections ++ names_refusal (points_of_all (switches_in file)) ∷ [])
+
+abbrev pub bay_of_table : Members → Result Bay BayFault
+bay_of_table file = judged (file_refusal file) (bay_in file)
+
+abbrev pub bay_of_document : Option Members → Result Bay BayFault
+bay_of_document None = Err BadToml
+bay_of_document (Some file) = bay_of_table file
+
+-- the bay of a text, or its first refusal
+abbrev pub bay_of : List ℕ → Result Bay BayFault
+bay_of text = bay_of_document (parse_document text)

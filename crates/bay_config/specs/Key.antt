@@ -1,0 +1,101 @@
+-- The keys of a section of a bay file: what each may hold, and the first refusal of a table with such keys.
+use Rattle.std.specs.Prelude.{ℕ, ℤ, pos, negsuc, Bool, false, not, ◌&&◌, ◌||◌, nat_le, cond, List, [], ◌∷◌, length, map, Option, None, Some, option_map, option_and_then, unwrap_or}
+use Rattle.std.specs.Char.{is_ascii_alphabetic, is_ascii_alphanumeric}
+use Rattle.std.specs.Int.{is_in_range}
+use Rattle.std.specs.List.{list_all, list_any}
+use Rattle.std.specs.Str.{bytes_eq}
+use Rattle.toml.specs.Data.{Data, Members, no_members, member, get_member, as_str, as_integer}
+use Rattle.bay_config.specs.declared.fault.BayFault.{BayFault}
+use Rattle.bay_config.specs.declared.fault.BayFault.TheVariants.{MissingKey, UnknownKey, BadValue}
+
+-- what a key may hold
+pub data Form : Type 0 where
+  -- a letter, then letters, digits and `_`, of at most so many characters
+  identifier : ℕ → Form
+  -- 1 to 64 characters from space to `~`
+  description : Form
+  -- a whole number from the first to the second
+  number : ℕ → ℕ → Form
+  -- one of these words
+  word : List (List ℕ) → Form
+
+pub record Key : Type 0 where
+  pub name : List ℕ
+  pub form : Form
+
+-- the text is one of these
+abbrev pub is_among : List (List ℕ) → List ℕ → Bool
+is_among texts s = list_any (λ t. bytes_eq s t) texts
+
+abbrev pub begins_with_letter : List ℕ → Bool
+begins_with_letter [] = false
+begins_with_letter (c ∷ cs) = is_ascii_alphabetic c
+
+-- a letter, a digit or `_`
+abbrev pub is_name_character : ℕ → Bool
+is_name_character c = is_ascii_alphanumeric c || is_in_range 95 95 c
+
+abbrev pub is_identifier : ℕ → List ℕ → Bool
+is_identifier most s = (begins_with_letter s && list_all is_name_character s) && nat_le (length s) most
+
+abbrev pub is_description : List ℕ → Bool
+is_description s = (nat_le 1 (length s) && nat_le (length s) 64) && list_all (is_in_range 32 126) s
+
+abbrev pub is_within : ℕ → ℕ → ℤ → Bool
+is_within least most (pos n) = nat_le least n && nat_le n most
+is_within least most (negsuc n) = false
+
+-- there is a value, and it passes the test
+abbrev pub passes : {T : Type 0} → (T → Bool) → Option T → Bool
+passes test None = false
+passes test (Some x) = test x
+
+abbrev pub accepts : Form → Data → Bool
+accepts (identifier most) d = passes (is_identifier most) (as_str d)
+accepts description d = passes is_description (as_str d)
+accepts (number least most) d = passes (is_within least most) (as_integer d)
+accepts (word words) d = passes (is_among words) (as_str d)
+
+abbrev pub held_refusal : Form → Option Data → Option BayFault
+held_refusal form None = Some MissingKey
+held_refusal form (Some d) = cond (accepts form d) None (Some BadValue)
+
+-- the refusal of what a table holds at a key
+abbrev pub key_refusal : Members → Key → Option BayFault
+key_refusal table key = held_refusal key.form (get_member key.name table)
+
+-- the first refusal of a list of checks
+abbrev pub first_of : List (Option BayFault) → Option BayFault
+first_of [] = None
+first_of (None ∷ checks) = first_of checks
+first_of (Some fault ∷ checks) = Some fault
+
+-- some key of the table is not among the known ones
+abbrev pub has_unknown : List (List ℕ) → Members → Bool
+has_unknown known no_members = false
+has_unknown known (member key d rest) = not (is_among known key) || has_unknown known rest
+
+abbrev pub unknown_refusal : List (List ℕ) → Members → Option BayFault
+unknown_refusal known table = cond (has_unknown known table) (Some UnknownKey) None
+
+-- the first refusal of a table with these keys: one that is unknown, then key by key
+abbrev pub entry_refusal : List Key → Members → Option BayFault
+entry_refusal keys table =
+    first_of (unknown_refusal (map (λ key. key.name) keys) table ∷ map (key_refusal table) keys)
+
+-- the text at a key, empty where there is none
+abbrev pub text_in : Members → List ℕ → List ℕ
+text_in table name = unwrap_or (option_and_then as_str (get_member name table)) []
+
+abbrev pub natural : ℤ → ℕ
+natural (pos n) = n
+natural (negsuc n) = 0
+
+-- the number at a key, 0 where there is none
+abbrev pub number_in : Members → List ℕ → ℕ
+number_in table name = unwrap_or (option_map natural (option_and_then as_integer (get_member name table))) 0
+
+-- the value that a list gives to a word
+abbrev pub named : {T : Type 0} → List (List ℕ × T) → List ℕ → Option T
+named [] s = None
+named (e ∷ es) s = cond (bytes_eq s e.0) (Some e.1) (named es s)

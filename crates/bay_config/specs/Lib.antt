@@ -1,0 +1,9 @@
+pub mod Bay
+pub mod Code
+pub mod Gives
+pub mod Key
+pub mod Node
+pub mod Point
+pub mod Reserved
+pub mod Section
+pub mod Switch

@@ -1,0 +1,58 @@
+-- The switch that a table of the section `switch` describes.
+use Rattle.std.specs.Prelude.{ℕ, List, [], ◌∷◌, ◌++◌, map, codes, Option, None, Some, option_and_then, unwrap_or}
+use Rattle.toml.specs.Data.{Members, get_member, as_str}
+use Rattle.bay_config.specs.declared.bay.Switch.{Switch}
+use Rattle.bay_config.specs.declared.bay.SwitchKind.{SwitchKind}
+use Rattle.bay_config.specs.declared.bay.SwitchKind.TheVariants.{Breaker, Disconnector, Earthing}
+use Rattle.bay_config.specs.declared.bay.Control.{Control}
+use Rattle.bay_config.specs.declared.bay.Control.TheVariants.{Status, Direct, Sbo}
+use Rattle.bay_config.specs.Key.{Key, identifier, number, word, named, text_in, number_in}
+
+abbrev pub kinds : List (List ℕ × SwitchKind)
+kinds = (codes "breaker", Breaker) ∷ (codes "disconnector", Disconnector) ∷ (codes "earthing", Earthing) ∷ []
+
+abbrev pub controls : List (List ℕ × Control)
+controls = (codes "status", Status) ∷ (codes "direct", Direct) ∷ (codes "sbo", Sbo) ∷ []
+
+-- the kind and the control of a table, where they can be read
+abbrev pub kind_of : Members → Option SwitchKind
+kind_of table = option_and_then (named kinds) (option_and_then as_str (get_member (codes "kind") table))
+
+abbrev pub control_of : Members → Option Control
+control_of table = option_and_then (named controls) (option_and_then as_str (get_member (codes "control") table))
+
+abbrev pub id_key : Key
+id_key = record { name = codes "id"; form = identifier 16 }
+
+abbrev pub kind_key : Key
+kind_key = record { name = codes "kind"; form = word (map (λ e. e.0) kinds) }
+
+abbrev pub control_key : Key
+control_key = record { name = codes "control"; form = word (map (λ e. e.0) controls) }
+
+abbrev pub sbo_timeout_key : Key
+sbo_timeout_key = record { name = codes "sbo_timeout_ms"; form = number 1 600000 }
+
+abbrev pub travel_key : Key
+travel_key = record { name = codes "travel_ms"; form = number 1 600000 }
+
+-- the times that go with a kind of control; both where the control can't be read
+abbrev pub time_keys : Option Control → List Key
+time_keys None = sbo_timeout_key ∷ travel_key ∷ []
+time_keys (Some Status) = []
+time_keys (Some Direct) = travel_key ∷ []
+time_keys (Some Sbo) = sbo_timeout_key ∷ travel_key ∷ []
+
+-- the keys of a switch, in their order
+abbrev pub switch_keys : Members → List Key
+switch_keys table = id_key ∷ kind_key ∷ control_key ∷ [] ++ time_keys (control_of table)
+
+-- the switch of a table that is not refused
+abbrev pub switch_in : Members → Switch
+switch_in table = record {
+  id = text_in table (codes "id");
+  kind = unwrap_or (kind_of table) Breaker;
+  control = unwrap_or (control_of table) Status;
+  sbo_timeout_ms = number_in table (codes "sbo_timeout_ms");
+  travel_ms = number_in table (codes "travel_ms");
+}

@@ -1,0 +1,76 @@
+// What a bay is.
+use bay_tree::list::{Listing, Text};
+use bay_tree::row::Row;
+
+/// A bay: one logical device with its switches.
+#[derive(Debug, Drop)]
+pub struct Bay {
+    /// The name of the logical device: a letter, then letters, digits and `_`, at most 32 characters.
+    pub domain: Text,
+    /// The maker, 1 to 64 characters from space to `~`.
+    pub vendor: Text,
+    /// The model, 1 to 64 characters from space to `~`.
+    pub model: Text,
+    /// The software's revision, 1 to 64 characters from space to `~`.
+    pub revision: Text,
+    /// How old a scan may be when a switch is operated, in milliseconds, 0 to 600,000.
+    pub scan_max_age_ms: u32,
+    /// The rows of the tree in the order of its table, with the values of the start.
+    pub rows: Listing<Row>,
+    /// The points of the program, switch by switch.
+    pub points: Listing<Point>,
+    /// The switches, 1 to 32, in the order of the file.
+    pub switches: Listing<Switch>,
+}
+
+/// A switching device (IEC 61850-7-4, XCBR and XSWI) and the way it is controlled.
+#[derive(Debug, Drop)]
+pub struct Switch {
+    /// The name as the file spells it: a letter, then letters, digits and `_`, at most 16 characters.
+    pub id: Text,
+    pub kind: SwitchKind,
+    pub control: Control,
+    /// How long a selection lasts, in milliseconds, 1 to 600,000; 0 where `control` has no selection.
+    pub sbo_timeout_ms: u32,
+    /// How long the switch may travel, in milliseconds, 1 to 600,000; 0 where it is not controlled.
+    pub travel_ms: u32,
+}
+
+/// What a switch is for.
+#[derive(Clone, Copy, Debug, PartialEq, Eq)]
+pub enum SwitchKind {
+    /// A circuit breaker.
+    Breaker,
+    /// A disconnector.
+    Disconnector,
+    /// An earthing switch.
+    Earthing,
+}
+
+/// How a switch is controlled (IEC 61850-7-2, control model).
+#[derive(Clone, Copy, Debug, PartialEq, Eq)]
+pub enum Control {
+    /// Its status alone is shown.
+    Status,
+    /// Direct control with normal security.
+    Direct,
+    /// Select before operate with normal security.
+    Sbo,
+}
+
+/// A variable by which the program reads or writes the bay.
+#[derive(Debug, Drop)]
+pub struct Point {
+    /// The name in upper case.
+    pub name: Text,
+    pub kind: PointKind,
+    /// Whether the program may write it.
+    pub writable: bool,
+}
+
+/// The type of a point (IEC 61131-3:2003, table 10).
+#[derive(Clone, Copy, Debug, PartialEq, Eq)]
+pub enum PointKind {
+    Bool,
+    Int,
+}

@@ -1,0 +1,66 @@
+// Why a text is no bay.
+ghost use Rattle.std.specs.Prelude.{◌≡◌};
+ghost use Rattle.bay_config.specs.declared.fault.BayFault.TheVariants.{OutOfMemory};
+ghost use Rattle.bay_config.specs.Code.{code_of};
+
+use std::alloc::{AllocError, AllocFailed};
+use thiserror::Error;
+
+/// The first fault of a bay file. Nothing is left of a refused file.
+#[derive(Clone, Copy, Debug, PartialEq, Eq, Error)]
+pub enum BayFault {
+    /// The text is no TOML document.
+    #[error("the text is not a TOML document")]
+    BadToml,
+    /// A section or a key that has to be there is missing.
+    #[error("a section or a key is missing")]
+    MissingKey,
+    /// A key is not one of its section, or the kind of control excludes it.
+    #[error("a key is unknown, or the kind of control excludes it")]
+    UnknownKey,
+    /// A value is of a wrong kind or out of its range, or a point has the name of a reserved word.
+    #[error("a value is of a wrong kind or out of its range")]
+    BadValue,
+    /// Two points have one name.
+    #[error("two points have one name")]
+    DuplicateName,
+    /// A section has too many entries.
+    #[error("a section has too many entries")]
+    TooMany,
+    /// There is no memory left.
+    #[error("out of memory")]
+    OutOfMemory,
+}
+
+impl BayFault {
+    /// The number of the fault: 50 to 55, and 0 for want of memory.
+    pub fn code(self) -> u8
+        ensures { result ≡ code_of self }
+    {
+        match self {
+            BayFault::BadToml => 50,
+            BayFault::MissingKey => 51,
+            BayFault::UnknownKey => 52,
+            BayFault::BadValue => 53,
+            BayFault::DuplicateName => 54,
+            BayFault::TooMany => 55,
+            BayFault::OutOfMemory => 0,
+        }
+    }
+}
+
+impl From<AllocError> for BayFault {
+    ghost from_gives = { λ _ e. e ≡ OutOfMemory };
+
+    fn from(_e: AllocError) -> BayFault {
+        BayFault::OutOfMemory
+    }
+}
+
+impl<T: Drop> From<AllocFailed<T>> for BayFault {
+    ghost from_gives = { λ _ e. e ≡ OutOfMemory };
+
+    fn from(_e: AllocFailed<T>) -> BayFault {
+        BayFault::OutOfMemory
+    }
+}

@@ -1,0 +1,149 @@
+// What a table holds at a key, and which keys it has.
+ghost use Rattle.std.specs.Prelude.{◌≡◌, not, map, option_map, string_bytes, IfOk, IfErr};
+ghost use Rattle.std.specs.BTreeMap.{keys};
+ghost use Rattle.std.specs.Int.{is_in_range};
+ghost use Rattle.std.specs.List.{list_all, list_any};
+ghost use Rattle.std.specs.Str.{bytes_eq};
+ghost use Rattle.toml.specs.Data.{get_member};
+ghost use Rattle.toml.specs.View.{view, table_view};
+ghost use Rattle.bay_config.specs.declared.fault.BayFault.TheVariants.{OutOfMemory};
+ghost use Rattle.bay_config.specs.Gives.{Gives, judged};
+ghost use Rattle.bay_config.specs.Key.{identifier, description, number, begins_with_letter, is_name_character, is_identifier, is_description, unknown_refusal, key_refusal, text_in, number_in};
+
+use crate::fault::BayFault;
+use bay_tree::list::Text;
+use std::alloc::Global;
+use toml::{Table, Value};
+
+/// The value at a key.
+pub fn find<'a>(table: &'a Table, key: &str) -> Option<&'a Value>
+    ensures { option_map (λ v. view v.now) result ≡ get_member key.now (table_view table.now) }
+{
+    table.get(key)
+}
+
+/// Whether the key is one of those that are known.
+pub fn is_known(known: &[&str], key: &str) -> bool
+    ensures { result ≡ list_any (λ k. bytes_eq key.now k.now) known.now }
+{
+    known.iter().any(|one| key == *one)
+}
+
+/// Whether some key of the table is not known.
+fn has_unknown_key(table: &Table, known: &[&str]) -> bool
+    ensures { result ≡ list_any (λ key. not (list_any (λ k. bytes_eq (string_bytes key) k.now) known.now)) (keys table.now) }
+{
+    table.keys().any(|key| !is_known(known, key.as_str()))
+}
+
+/// Refuses a table with a key that is not known.
+pub fn check_keys(table: &Table, known: &[&str]) -> Result<(), BayFault>
+    ensures { result ≡ judged (unknown_refusal (map (λ k. k.now) known.now) (table_view table.now)) tt }
+{
+    if has_unknown_key(table, known) {
+        return Err(BayFault::UnknownKey);
+    }
+    Ok(())
+}
+
+fn begins_with_letter(text: &[u8]) -> bool
+    ensures { result ≡ begins_with_letter text.now }
+{
+    match text {
+        [first, ..] => first.is_ascii_alphabetic(),
+        [] => false,
+    }
+}
+
+fn is_name_character(byte: u8) -> bool
+    ensures { result ≡ is_name_character byte }
+{
+    byte.is_ascii_alphanumeric() || byte == b'_'
+}
+
+fn has_name_characters(text: &[u8]) -> bool
+    ensures { result ≡ list_all is_name_character text.now }
+{
+    text.iter().all(|byte| is_name_character(*byte))
+}
+
+fn is_identifier(text: &str, most: usize) -> bool
+    ensures { result ≡ is_identifier most text.now }
+{
+    let bytes = text.as_bytes();
+    begins_with_letter(bytes) && has_name_characters(bytes) && bytes.len() <= most
+}
+
+fn has_printable_characters(text: &[u8]) -> bool
+    ensures { result ≡ list_all (is_in_range 32 126) text.now }
+{
+    text.iter().all(|byte| b' ' <= *byte && *byte <= b'~')
+}
+
+fn is_description(text: &str) -> bool
+    ensures { result ≡ is_description text.now }
+{
+    let bytes = text.as_bytes();
+    1 <= bytes.len() && bytes.len() <= 64 && has_printable_characters(bytes)
+}
+
+/// A copy of the text.
+fn own(alloc: Global, text: &str) -> Result<Text, BayFault>
+    ensures ok { IfOk result (λ t. t ≡ text.now) }
+    ensures err { IfErr result (λ e. e ≡ OutOfMemory) }
+{
+    Ok(Text::new(String::from_str(alloc, text)?))
+}
+
+/// The identifier at a key, of at most so many characters.
+pub fn identifier_at(alloc: Global, table: &Table, key: &str, most: usize) -> Result<Text, BayFault>
+    ensures { let file = table_view table.now in
+        Gives result (judged (key_refusal file (record { name = key.now; form = identifier most })) (text_in file key.now)) }
+{
+    match find(table, key) {
+        Some(value) => match value.as_str() {
+            Some(text) if is_identifier(text, most) => own(alloc, text),
+            _ => Err(BayFault::BadValue),
+        },
+        None => Err(BayFault::MissingKey),
+    }
+}
+
+/// The description at a key.
+pub fn description_at(alloc: Global, table: &Table, key: &str) -> Result<Text, BayFault>
+    ensures { let file = table_view table.now in
+        Gives result (judged (key_refusal file (record { name = key.now; form = description })) (text_in file key.now)) }
+{
+    match find(table, key) {
+        Some(value) => match value.as_str() {
+            Some(text) => {
+                if !is_description(text) {
+                    return Err(BayFault::BadValue);
+                }
+                own(alloc, text)
+            }
+            None => Err(BayFault::BadValue),
+        },
+        None => Err(BayFault::MissingKey),
+    }
+}
+
+/// The number at a key, within the two bounds.
+pub fn number_at(table: &Table, key: &str, least: u32, most: u32) -> Result<u32, BayFault>
+    ensures { let file = table_view table.now in
+        result ≡ judged (key_refusal file (record { name = key.now; form = number least most })) (number_in file key.now) }
+{
+    match find(table, key) {
+        Some(value) => match value.as_integer() {
+            Some(number) => {
+                if i64::from(least) <= number && number <= i64::from(most) {
+                    Ok(number as u32)
+                } else {
+                    Err(BayFault::BadValue)
+                }
+            }
+            None => Err(BayFault::BadValue),
+        },
+        None => Err(BayFault::MissingKey),
+    }
+}

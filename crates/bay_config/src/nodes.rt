@@ -1,0 +1,234 @@
+// The logical nodes of the switches, as rows of the tree.
+ghost use Rattle.std.specs.Prelude.{◌≡◌, ◌+◌, ◌^◌, ◌<◌, ◌≤◌, ◌++◌, ◌∷◌, [], Option, None, pos, codes, filter, length, not, IfOk};
+ghost use Rattle.std.specs.Fmt.{decimal};
+ghost use Rattle.std.specs.List.{enumerate_from};
+ghost use Rattle.bay_config.specs.Node.{row, status_rows, type_rows, node_rows, position_parts, interlocking_parts, is_breaker, class_of, node_name, position_rows, interlocking_rows, rows_of_all};
+
+use crate::bay::{Bay, Switch, SwitchKind};
+use bay_tree::leaf::{Dbpos, Leaf, Quality};
+use bay_tree::list::{Listing, Text};
+use bay_tree::row::Row;
+use std::alloc::{AllocError, Global};
+
+/// A row of a node: the node's name, and then the path of the row within the node.
+fn push_row(
+    alloc: Global,
+    rows: &mut Vec<Row>,
+    node: &str,
+    path: &str,
+    leaf: Option<Leaf>,
+) -> Result<(), AllocError>
+    ensures { IfOk result (λ _. rows.new.items ≡ rows.old.items ++ row (node.now ++ path.now) leaf ∷ []) }
+{
+    let name = format!(in alloc; "{node}{path}")?;
+    rows.push(Row {
+        name: Text::new(name),
+        leaf,
+    })?;
+    Ok(())
+}
+
+/// A value with its quality and its moment, 0.
+fn push_status(
+    alloc: Global,
+    rows: &mut Vec<Row>,
+    node: &str,
+    object: &str,
+    value: Leaf,
+    quality: Quality,
+) -> Result<(), AllocError>
+    ensures { IfOk result (λ _. rows.new.items ≡ rows.old.items ++ status_rows node.now object.now value quality) }
+{
+    push_row(alloc, rows, node, object, None)?;
+    let path = format!(in alloc; "{object}$stVal")?;
+    push_row(alloc, rows, node, path.as_str(), Some(value))?;
+    let path = format!(in alloc; "{object}$q")?;
+    push_row(
+        alloc,
+        rows,
+        node,
+        path.as_str(),
+        Some(Leaf::Quality(quality)),
+    )?;
+    let path = format!(in alloc; "{object}$t")?;
+    push_row(alloc, rows, node, path.as_str(), Some(Leaf::Utc(0)))?;
+    Ok(())
+}
+
+/// The type of a switch that is no breaker.
+fn push_type(
+    alloc: Global,
+    rows: &mut Vec<Row>,
+    node: &str,
+    kind: SwitchKind,
+) -> Result<(), AllocError>
+    ensures { IfOk result (λ _. rows.new.items ≡ rows.old.items ++ type_rows node.now kind) }
+{
+    match kind {
+        SwitchKind::Breaker => Ok(()),
+        SwitchKind::Disconnector => push_status(
+            alloc,
+            rows,
+            node,
+            "$ST$SwTyp",
+            Leaf::Int8(2),
+            Quality::Good,
+        ),
+        SwitchKind::Earthing => push_status(
+            alloc,
+            rows,
+            node,
+            "$ST$SwTyp",
+            Leaf::Int8(3),
+            Quality::Good,
+        ),
+    }
+}
+
+/// The node of a breaker or another switch (IEC 61850-7-4, XCBR and XSWI).
+fn push_position_node(
+    alloc: Global,
+    rows: &mut Vec<Row>,
+    node: &str,
+    kind: SwitchKind,
+) -> Result<(), AllocError> {
+    push_row(alloc, rows, node, "", None)?;
+    push_row(alloc, rows, node, "$ST", None)?;
+    push_status(
+        alloc,
+        rows,
+        node,
+        "$ST$Pos",
+        Leaf::Dbpos(Dbpos::Intermediate),
+        Quality::Invalid,
+    )?;
+    push_status(
+        alloc,
+        rows,
+        node,
+        "$ST$BlkOpn",
+        Leaf::Truth(false),
+        Quality::Good,
+    )?;
+    push_status(
+        alloc,
+        rows,
+        node,
+        "$ST$BlkCls",
+        Leaf::Truth(false),
+        Quality::Good,
+    )?;
+    push_status(
+        alloc,
+        rows,
+        node,
+        "$ST$OpCnt",
+        Leaf::Int32(0),
+        Quality::Good,
+    )?;
+    push_type(alloc, rows, node, kind)?;
+    push_row(alloc, rows, node, "$CF", None)?;
+    push_row(alloc, rows, node, "$CF$Pos", None)?;
+    push_row(alloc, rows, node, "$CF$Pos$ctlModel", Some(Leaf::Int8(0)))?;
+    Ok(())
+}
+
+/// The node of a switch's interlocking (IEC 61850-7-4, CILO).
+fn push_interlocking_node(alloc: Global, rows: &mut Vec<Row>, node: &str) -> Result<(), AllocError>
+    ensures { IfOk result (λ _. rows.new.items ≡ rows.old.items ++ node_rows node.now interlocking_parts) }
+{
+    push_row(alloc, rows, node, "", None)?;
+    push_row(alloc, rows, node, "$ST", None)?;
+    push_status(
+        alloc,
+        rows,
+        node,
+        "$ST$EnaOpn",
+        Leaf::Truth(false),
+        Quality::Invalid,
+    )?;
+    push_status(
+        alloc,
+        rows,
+        node,
+        "$ST$EnaCls",
+        Leaf::Truth(false),
+        Quality::Invalid,
+    )?;
+    Ok(())
+}
+
+fn is_breaker(kind: SwitchKind) -> bool
+    ensures { result ≡ is_breaker kind }
+{
+    kind == SwitchKind::Breaker
+}
+
+/// The class of a switch's node.
+fn class_of(kind: SwitchKind) -> &'static str
+    ensures { result.now ≡ class_of kind }
+{
+    match kind {
+        SwitchKind::Breaker => "XCBR",
+        SwitchKind::Disconnector | SwitchKind::Earthing => "XSWI",
+    }
+}
+
+/// The nodes of the breakers, or of the other switches, numbered from 1.
+fn push_position_nodes(
+    alloc: Global,
+    rows: &mut Vec<Row>,
+    switches: &[Switch],
+    breakers: bool,
+) -> Result<(), AllocError> {
+    let mut number = 1usize;
+    for switch in switches {
+        if is_breaker(switch.kind) == breakers {
+            let class = class_of(switch.kind);
+            let node = format!(in alloc; "{class}{number}")?;
+            push_position_node(alloc, rows, node.as_str(), switch.kind)?;
+            number += 1;
+        }
+    }
+    Ok(())
+}
+
+/// The nodes of the switches' interlocking, numbered from 1.
+fn push_interlocking_nodes(
+    alloc: Global,
+    rows: &mut Vec<Row>,
+    switches: &[Switch],
+) -> Result<(), AllocError> {
+    for i in 0..switches.len() {
+        let number = i + 1;
+        let node = format!(in alloc; "CILO{number}")?;
+        push_interlocking_node(alloc, rows, node.as_str())?;
+    }
+    Ok(())
+}
+
+/// The rows of the switches' nodes with the values of the start: the breakers, the
+/// other switches, and the interlocking of each.
+pub fn rows_of(alloc: Global, switches: &[Switch]) -> Result<Listing<Row>, AllocError> {
+    let mut rows = Vec::new(alloc);
+    push_position_nodes(alloc, &mut rows, switches, true)?;
+    push_position_nodes(alloc, &mut rows, switches, false)?;
+    push_interlocking_nodes(alloc, &mut rows, switches)?;
+    Ok(Listing::new(rows))
+}
+
+/// The name of the node of the k-th switch, from 0: its class and its number, as `XCBR1` or `XSWI2`.
+pub fn node_name(alloc: Global, bay: &Bay, k: usize) -> Result<Text, AllocError>
+    requires exists { k < length bay.now.switches }
+{
+    let switches = bay.switches.as_slice();
+    let kind = switches[k].kind;
+    let mut number = 0usize;
+    for switch in &switches[..k + 1] {
+        if is_breaker(switch.kind) == is_breaker(kind) {
+            number += 1;
+        }
+    }
+    let class = class_of(kind);
+    Ok(Text::new(format!(in alloc; "{class}{number}")?))
+}

@@ -1,0 +1,46 @@
+// Reads a bay.
+use crate::bay::Bay;
+use crate::fault::BayFault;
+use crate::keys::check_keys;
+use crate::nodes::rows_of;
+use crate::points::{check_names, points_of};
+use crate::section::{nameplate_at, switches_at};
+use std::alloc::Global;
+use toml::Table;
+
+/// The bay of a file's table.
+fn bay_from(alloc: Global, file: &Table) -> Result<Bay, BayFault> {
+    check_keys(file, &["bay", "switch"])?;
+    let nameplate = nameplate_at(alloc, file)?;
+    let switches = switches_at(alloc, file)?;
+    let points = points_of(alloc, switches.as_slice())?;
+    check_names(points.as_slice())?;
+    let rows = rows_of(alloc, switches.as_slice())?;
+    Ok(Bay {
+        domain: nameplate.domain,
+        vendor: nameplate.vendor,
+        model: nameplate.model,
+        revision: nameplate.revision,
+        scan_max_age_ms: nameplate.scan_max_age_ms,
+        rows,
+        points,
+        switches,
+    })
+}
+
+/// Reads a bay from the text of its file, or says why the text is none.
+pub fn read_bay(alloc: Global, text: &str) -> Result<Bay, BayFault> {
+    match toml::table_from_str(alloc, text) {
+        Ok(file) => match bay_from(alloc, &file) {
+            Ok(bay) => Ok(bay),
+            Err(fault) => Err(fault),
+        },
+        Err(error) => {
+            if error.is_memory() {
+                Err(BayFault::OutOfMemory)
+            } else {
+                Err(BayFault::BadToml)
+            }
+        }
+    }
+}
