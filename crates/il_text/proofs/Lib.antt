@@ -1,0 +1,5 @@
+pub mod Lists
+pub mod LiteralLemmas
+pub mod NameLemmas
+pub mod PieceLemmas
+pub mod PlaceLemmas

@@ -1,0 +1,119 @@
+-- Numbers, digit by digit.
+use Rattle.std.proofs.Common.{◌≡◌, ◌≢◌, ℕ, ◌+◌, ◌*◌, ◌^◌, ◌<◌, ◌≤◌, ◌&&◌, ◌||◌, not, Bool, true, false, cond, List, [], ◌∷◌, Option, Some, None, length, drop, slice_index, filter, min, eqb, ltb, leb, MatchOption, option_map, Bor, lit<, refl, sym, arith, ap, ◌∙◌, ⊎_elim}
+use Rattle.std.specs.Char.{digit_value, is_digit}
+use Rattle.std.specs.Str.Parse.{digits_value, digits_value_after}
+use Rattle.std.proofs.lemmas.Grind.{common_steps}
+use Rattle.std.proofs.lemmas.Bool.{lt-ltb, le-ltb, ne_eqb, cases_lt}
+use Rattle.std.proofs.lemmas.Bool.Decides.{nat_tests}
+use Rattle.std.specs.List.{position_or_len, before_first, after_first}
+use Rattle.std.proofs.Math.Bool.{and-false}
+use Rattle.std.proofs.Math.Nat.{mul-le-mul_left, mul-le-mul_right}
+use Rattle.il_text.specs.Literals.{is_underscore, is_hash, is_integer, number, halves, decimal, based, integer, judged, untyped, Signed}
+use Rattle.il_text.specs.Runs.{capped, capped_signed}
+use Rattle.il_text.proofs.Lists.{front_of, none_left}
+
+abbrev pub kept : List ℕ → List ℕ
+kept = filter (λ x. not (is_underscore x))
+
+abbrev pub value_if : Bool → ℕ → Option ℕ
+value_if b n = cond b (Some (min n (2 ^ 32))) None
+
+-- the number of what is left, where `value` was written before it
+unfoldable pub number_from : ℕ → Bool → ℕ → List ℕ → Option ℕ
+number_from radix wanted value ds = value_if (is_integer radix wanted ds) (digits_value_after radix value (kept ds))
+
+pub from_start : (radix : ℕ) (ds : List ℕ) → capped (number radix ds) ≡ number_from radix true 0 (drop 0 ds)
+unfolding number number_from
+from_start radix ds = elim (is_integer radix true ds) as (λ b. capped (cond b (Some (digits_value radix (kept ds))) None) ≡ value_if b (digits_value_after radix 0 (kept ds))) [ true ↦ refl | false ↦ refl ]
+
+at_underscore : (radix value x : ℕ) (xs : List ℕ) → x ≡ 95 → number_from radix false value (x ∷ xs) ≡ number_from radix true value xs
+unfolding number_from is_integer
+at_underscore radix value x xs e = rw e refl
+
+pub from_underscore : (radix value : ℕ) (ds : List ℕ) (i : ℕ) → i < length ds → slice_index ds i ≡ 95 → number_from radix false value (drop i ds) ≡ number_from radix true value (drop (i + 1) ds)
+from_underscore radix value ds i h e = rw (front_of ds i h) (at_underscore radix value _ _ e)
+
+pub from_end : (radix value : ℕ) (ds : List ℕ) (i : ℕ) → length ds ≤ i → value ≤ 2 ^ 32 → number_from radix false value (drop i ds) ≡ Some value
+unfolding number_from is_integer
+from_end radix value ds i h v = let m : min value (2 ^ 32) ≡ value = omega arith in rw (none_left ds i h) (ap Some m)
+
+pub from_end_wanted : (radix value : ℕ) (ds : List ℕ) (i : ℕ) → length ds ≤ i → number_from radix true value (drop i ds) ≡ None
+unfolding number_from is_integer
+from_end_wanted radix value ds i h = rw (none_left ds i h) refl
+
+-- a cap at one digit leaves the capped number as it is
+min_step : (radix a d : ℕ) → 0 < radix → min (a * radix + d) (2 ^ 32) ≡ min ((min a (2 ^ 32)) * radix + d) (2 ^ 32)
+min_step radix a d h = ⊎_elim
+    (λ (k : 2 ^ 32 < a).
+    let e : min a (2 ^ 32) ≡ 2 ^ 32 = omega arith in
+    let some : 1 ≤ radix = omega arith in
+    let past : 2 ^ 32 ≤ a = omega arith in
+    let p : (2 ^ 32) * 1 ≤ (2 ^ 32) * radix = mul-le-mul_left (2 ^ 32) some in
+    let q : (2 ^ 32) * radix ≤ a * radix = mul-le-mul_right radix past in
+    rw e (omega arith))
+    (λ (k : a ≤ 2 ^ 32). let e : min a (2 ^ 32) ≡ a = omega arith in rw e refl)
+    (cases_lt (2 ^ 32) a)
+
+capped_after : (radix a : ℕ) (ds : List ℕ) → 0 < radix → min (digits_value_after radix a ds) (2 ^ 32) ≡ min (digits_value_after radix (min a (2 ^ 32)) ds) (2 ^ 32)
+capped_after radix a [] h = omega arith
+capped_after radix a (x ∷ xs) h =
+    capped_after radix (a * radix + digit_value x) xs h
+    ∙ ap (λ n. min (digits_value_after radix n xs) (2 ^ 32)) (min_step radix a (digit_value x) h)
+    ∙ sym (capped_after radix ((min a (2 ^ 32)) * radix + digit_value x) xs h)
+
+at_digit : (radix value x : ℕ) (wanted : Bool) (xs : List ℕ) → 2 ≤ radix → radix ≤ 16 → digit_value x < radix
+    → number_from radix wanted value (x ∷ xs) ≡ number_from radix false (min (value * radix + digit_value x) (2 ^ 32)) xs
+unfolding number_from is_integer
+at_digit radix value x wanted xs low high d =
+    let plain : x ≢ 95 = λ e. absurd (let z : digit_value 95 < radix = rw e at d in omega (arith, z)) in
+    let u : eqb x 95 ≡ false = ne_eqb x 95 plain in
+    let t : ltb (digit_value x) radix ≡ true = lt-ltb _ _ d in
+    rw (u, and-false (not wanted), t) (ap (λ (n : ℕ). cond (is_integer radix false xs) (Some n) None) (capped_after radix (value * radix + digit_value x) (kept xs) (omega arith)))
+
+pub from_digit : (radix value : ℕ) (wanted : Bool) (ds : List ℕ) (i : ℕ) → 2 ≤ radix → radix ≤ 16 → i < length ds → digit_value (slice_index ds i) < radix
+    → number_from radix wanted value (drop i ds) ≡ number_from radix false (min (value * radix + digit_value (slice_index ds i)) (2 ^ 32)) (drop (i + 1) ds)
+from_digit radix value wanted ds i low high h d = rw (front_of ds i h) (at_digit radix value _ wanted _ low high d)
+
+at_other : (radix value x : ℕ) (wanted : Bool) (xs : List ℕ) → (digit_value x < radix → ⊥) → (wanted ≡ false → x ≢ 95)
+    → number_from radix wanted value (x ∷ xs) ≡ None
+unfolding number_from is_integer
+at_other radix value x true xs d u =
+    let t : ltb (digit_value x) radix ≡ false = le-ltb _ _ (omega (arith, d)) in rw t refl
+at_other radix value x false xs d u =
+    let t : ltb (digit_value x) radix ≡ false = le-ltb _ _ (omega (arith, d)) in
+    rw (ne_eqb x 95 (u refl), t) refl
+
+pub from_other : (radix value : ℕ) (wanted : Bool) (ds : List ℕ) (i : ℕ) → i < length ds → (digit_value (slice_index ds i) < radix → ⊥) → (wanted ≡ false → slice_index ds i ≢ 95)
+    → number_from radix wanted value (drop i ds) ≡ None
+from_other radix value wanted ds i h d u = rw (front_of ds i h) (at_other radix value _ wanted _ d u)
+
+pub ruleset number_rules = (from_start, from_underscore, from_end, from_end_wanted, from_digit, from_other)
+
+-- the cap is past every bound
+leb_capped : (m b : ℕ) → b < 2 ^ 32 → leb (min m (2 ^ 32)) b ≡ leb m b
+leb_capped m b h = grind (arith, nat_tests)
+
+pub judged_capped : (below above : ℕ) (z : Option Signed) → below < 2 ^ 32 → above < 2 ^ 32 → judged below above (capped_signed z) ≡ judged below above z
+judged_capped below above None h k = refl
+judged_capped below above (Some (true, m)) h k = rw (leb_capped m below h) refl
+judged_capped below above (Some (false, m)) h k = rw (leb_capped m above k) refl
+
+pub untyped_capped : (z : Option Signed) → untyped (capped_signed z) ≡ untyped z
+unfolding untyped
+untyped_capped z = judged_capped 2147483648 2147483647 z (lit< tt) (lit< tt)
+
+-- `split_once` at `#`
+pub halves_of : (bs : List ℕ) (r : Option (Bor (List ℕ) × Bor (List ℕ)))
+    → MatchOption r (position_or_len is_hash bs ≡ length bs) (λ x. (position_or_len is_hash bs < length bs) × (x.0.now ≡ before_first is_hash bs) × (x.1.now ≡ after_first is_hash bs))
+    → option_map (λ h. (h.0.now, h.1.now)) r ≡ halves bs
+unfolding halves
+halves_of bs None h = rw (le-ltb (position_or_len is_hash bs) (length bs) (omega (arith, h))) refl
+halves_of bs (Some x) h = rw (lt-ltb (position_or_len is_hash bs) (length bs) h.0, h.1, h.2) refl
+
+pub integer_some : (w : List ℕ) (h : List ℕ × List ℕ) → halves w ≡ Some h → integer w ≡ based h.0 h.1
+unfolding integer
+integer_some w h e = rw e refl
+
+pub integer_none : (w : List ℕ) → halves w ≡ None → integer w ≡ decimal w
+unfolding integer
+integer_none w e = rw e refl

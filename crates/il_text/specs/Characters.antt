@@ -1,0 +1,32 @@
+-- The characters of tokens (IEC 61131-3:2003, annex B.1.2 and B.1.3).
+use Rattle.std.specs.Prelude.{ℕ, Bool, ◌&&◌, ◌||◌, ◌==◌}
+use Rattle.std.specs.Char.{is_ascii_digit, is_ascii_alphabetic, is_ascii_alphanumeric}
+use Rattle.std.specs.Str.{byte}
+
+-- space and tab
+abbrev pub is_blank : ℕ → Bool
+is_blank x = x == byte " " || x == 9
+
+abbrev pub is_sign : ℕ → Bool
+is_sign x = x == byte "+" || x == byte "-"
+
+-- a letter, a digit, `_` or `#`
+abbrev pub is_word : ℕ → Bool
+is_word x = is_ascii_alphanumeric x || (x == byte "_" || x == byte "#")
+
+-- with which words begin, and signed numbers
+abbrev pub begins_word : ℕ → Bool
+begins_word x = is_word x || is_sign x
+
+-- a letter or `_`, with which names begin
+abbrev pub begins_name : ℕ → Bool
+begins_name x = is_ascii_alphabetic x || x == byte "_"
+
+-- Whether x and y, which directly follow one another, belong to one token: within a word, at the sign
+-- of a number, within `:=`, and within a line end.
+unfoldable pub linked : ℕ → ℕ → Bool
+linked x y =
+    ((is_word y || (is_sign y && x == byte "#")) && is_word x)
+    || (is_ascii_digit y && is_sign x)
+    || (y == byte "=" && x == byte ":")
+    || (y == 10 && x == 13)

@@ -1,0 +1,12 @@
+pub mod Characters
+pub mod Code
+pub mod Names
+pub mod Pieces
+pub mod Places
+pub mod Runs
+pub mod Words
+pub mod Listing
+pub mod Literals
+pub mod Meaning
+pub mod Symbols
+pub mod Views

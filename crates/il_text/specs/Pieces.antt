@@ -1,0 +1,54 @@
+-- A text is cut into pieces: tokens, blanks and line ends (IEC 61131-3:2003, 2.1 and annex B.2.1).
+use Rattle.std.specs.Prelude.{ℕ, Bool, true, false, ◌&&◌, ◌||◌, ◌==◌, if◌then◌else◌, List, [], ◌∷◌, slice_index, codes}
+use Rattle.std.specs.Str.{byte}
+use Rattle.il_text.specs.Characters.{linked}
+use Rattle.il_text.specs.Names.{same_name}
+
+-- the text begins with `(*`
+abbrev pub opens : List ℕ → Bool
+opens xs = slice_index xs 0 == byte "(" && slice_index xs 1 == byte "*"
+
+-- the text begins with `*)`
+abbrev pub ends : List ℕ → Bool
+ends xs = slice_index xs 0 == byte "*" && slice_index xs 1 == byte ")"
+
+-- a `*)` stands in the text
+unfoldable pub closes : List ℕ → Bool
+closes [] = false
+closes (x ∷ xs) = ends (x ∷ xs) || closes xs
+
+-- what stands in the place of the opening of a comment that is not closed: it is no character
+abbrev pub unclosed : ℕ
+unclosed = 256
+
+-- a character within a comment
+abbrev pub blank_of : ℕ → ℕ
+blank_of x = if x == 10 then 10 else byte " "
+
+-- The text with a space for each character of a comment but its line ends (2.1.5). `inside` says that
+-- the text begins within a comment. A comment ends at the first `*)` after its `(*`.
+unfoldable pub blanked : Bool → List ℕ → List ℕ
+blanked inside [] = []
+blanked inside (x ∷ []) = (if inside then blank_of x else x) ∷ []
+blanked inside (x ∷ y ∷ xs) =
+    if inside then
+    (if ends (x ∷ y ∷ xs) then byte " " ∷ byte " " ∷ blanked false xs
+    else blank_of x ∷ blanked true (y ∷ xs))
+    else
+    (if opens (x ∷ y ∷ xs) then (if closes xs then byte " " else unclosed) ∷ byte " " ∷ blanked true xs
+    else x ∷ blanked false (y ∷ xs))
+
+-- Whether the character and the piece that directly follows it are one piece. A `&` takes the word `N`
+-- to itself, where it stands alone.
+unfoldable pub joins : ℕ → List ℕ → Bool
+joins x p = linked x (slice_index p 0) || (x == byte "&" && same_name p (codes "N"))
+
+abbrev pub join : ℕ → List (List ℕ) → List (List ℕ)
+join x [] = (x ∷ []) ∷ []
+join x (p ∷ ps) = if joins x p then (x ∷ p) ∷ ps else (x ∷ []) ∷ p ∷ ps
+
+-- The pieces of a text without comments: the longest runs of characters that belong together. They are
+-- joined from the right, so each piece is whole before the character in front of it is looked at.
+unfoldable pub pieces : List ℕ → List (List ℕ)
+pieces [] = []
+pieces (x ∷ xs) = join x (pieces xs)

@@ -1,0 +1,7 @@
+-- The number of a text's last line.
+use Rattle.std.specs.Prelude.{ℕ, ◌+◌, ◌&&◌, ◌==◌, nat_lt, if◌then◌else◌, List, [], ◌∷◌, length}
+
+-- Each line end that something follows begins another line.
+unfoldable pub last_line : List ℕ → ℕ
+last_line [] = 1
+last_line (x ∷ xs) = if x == 10 && nat_lt 0 (length xs) then last_line xs + 1 else last_line xs

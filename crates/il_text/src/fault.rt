@@ -1,0 +1,72 @@
+// Why a text is no program.
+ghost use Rattle.std.specs.Prelude.{◌≡◌};
+ghost use Rattle.il_text.specs.Code.{code_of, line_of};
+ghost use Rattle.il_text.specs.declared.fault.TextFault.TheVariants.{OutOfMemory};
+
+use std::alloc::{AllocError, AllocFailed};
+use thiserror::Error;
+
+/// Why a text is no program, with the line of the fault, counted from 1.
+#[derive(Clone, Copy, Debug, PartialEq, Eq, Error)]
+pub enum TextFault {
+    /// A character that no token begins with, a malformed literal, a name of over 64 characters, or
+    /// a comment that is not closed.
+    #[error("a token cannot be read")]
+    BadToken { line: usize },
+    /// The tokens form no line that may stand here, or the text ends early.
+    #[error("a line cannot be read")]
+    BadLine { line: usize },
+    /// A literal that is well formed but outside the range of its type.
+    #[error("a literal is out of range")]
+    BadLiteral { line: usize },
+    /// More than 4,000 lines hold an instruction.
+    #[error("the program is too long")]
+    TooLong { line: usize },
+    /// There is not enough memory for the program.
+    #[error("out of memory")]
+    OutOfMemory,
+}
+
+impl TextFault {
+    /// The fault's number, 60 to 64, or 0 for want of memory.
+    pub fn code(self) -> u8
+        ensures { result ≡ code_of self }
+    {
+        match self {
+            TextFault::BadToken { .. } => 60,
+            TextFault::BadLine { .. } => 61,
+            TextFault::BadLiteral { .. } => 63,
+            TextFault::TooLong { .. } => 64,
+            TextFault::OutOfMemory => 0,
+        }
+    }
+
+    /// The line of the fault, counted from 1, or 0 for want of memory.
+    pub fn line(self) -> usize
+        ensures { result ≡ line_of self }
+    {
+        match self {
+            TextFault::BadToken { line }
+            | TextFault::BadLine { line }
+            | TextFault::BadLiteral { line }
+            | TextFault::TooLong { line } => line,
+            TextFault::OutOfMemory => 0,
+        }
+    }
+}
+
+impl From<AllocError> for TextFault {
+    ghost from_gives = { λ _ e. e ≡ OutOfMemory };
+
+    fn from(_error: AllocError) -> TextFault {
+        TextFault::OutOfMemory
+    }
+}
+
+impl<T: Drop> From<AllocFailed<T>> for TextFault {
+    ghost from_gives = { λ _ e. e ≡ OutOfMemory };
+
+    fn from(_error: AllocFailed<T>) -> TextFault {
+        TextFault::OutOfMemory
+    }
+}

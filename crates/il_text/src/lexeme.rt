@@ -1,0 +1,98 @@
+// What a piece of a text is: a blank, a line end, a token, or none.
+ghost use Rattle.std.specs.Prelude.{◌≡◌, ◌<◌, ◌≤◌, ◌-◌, length, slice_index, slice_range, option_map};
+ghost use Rattle.il_text.specs.Symbols as spec;
+
+use crate::character::{begins_name, begins_word, byte_at, is_blank};
+use crate::literal::{Judged, decimal, halves, prefixed, untyped};
+use crate::name::same_name;
+use crate::reserved::reserved_word;
+use crate::token::{Mark, Token};
+
+/// A piece of a text.
+#[derive(Clone, Copy)]
+pub(crate) enum Lexeme<'a> {
+    Blank,
+    LineEnd,
+    Token(Token<'a>),
+    BadToken,
+    BadLiteral,
+}
+
+/// The longest name, in characters.
+const MAX_NAME: usize = 64;
+
+fn judged<'a>(judged: Judged) -> Lexeme<'a> {
+    match judged {
+        Judged::Fine => Lexeme::Token(Token::Literal),
+        Judged::Malformed => Lexeme::BadToken,
+        Judged::OutOfRange => Lexeme::BadLiteral,
+    }
+}
+
+/// A word that begins with a letter or `_` and has no `#`.
+fn plain_word(word: &str) -> Lexeme<'_> {
+    if same_name(word, "TRUE") {
+        return Lexeme::Token(Token::Truth(true));
+    }
+    if same_name(word, "FALSE") {
+        return Lexeme::Token(Token::Truth(false));
+    }
+    if let Some(found) = reserved_word(word) {
+        return Lexeme::Token(Token::Reserved(found));
+    }
+    if word.len() <= MAX_NAME {
+        Lexeme::Token(Token::Name(word))
+    } else {
+        Lexeme::BadToken
+    }
+}
+
+/// A name, a reserved word or a literal.
+fn word_lexeme(word: &str) -> Lexeme<'_> {
+    if let Some((before, after)) = halves(word) {
+        return judged(prefixed(before, after));
+    }
+    if begins_name(byte_at(word.as_bytes(), 0)) {
+        plain_word(word)
+    } else {
+        judged(untyped(decimal(word.as_bytes())))
+    }
+}
+
+fn mark_of(piece: &[u8]) -> Option<Mark> {
+    match piece {
+        b":" => Some(Mark::Colon),
+        b":=" => Some(Mark::Assign),
+        b"," => Some(Mark::Comma),
+        b";" => Some(Mark::Semicolon),
+        b"." => Some(Mark::Dot),
+        b"(" => Some(Mark::Open),
+        b")" => Some(Mark::Close),
+        [b'&', ..] => Some(Mark::Ampersand),
+        _ => None,
+    }
+}
+
+/// The piece of the text from start to end.
+pub(crate) fn lexeme_at(text: &str, start: usize, end: usize) -> Lexeme<'_>
+    requires after { start < end }
+    requires within { end ≤ length text.now }
+    requires ascii { slice_index text.now start < 128 → slice_index text.now (end - 1) < 128 }
+{
+    let bytes = text.as_bytes();
+    let first = bytes[start];
+    if is_blank(first) {
+        return Lexeme::Blank;
+    }
+    let piece = &bytes[start..end];
+    if piece == b"\n".as_slice() || piece == b"\r\n".as_slice() {
+        return Lexeme::LineEnd;
+    }
+    if begins_word(first) {
+        return word_lexeme(&text[start..end]);
+    }
+    match mark_of(piece) {
+        Some(mark) => Lexeme::Token(Token::Mark(mark)),
+        None => Lexeme::BadToken,
+    }
+}

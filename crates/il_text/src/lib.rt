@@ -1,0 +1,18 @@
+// Reads a text in Instruction List (IEC 61131-3:2003, 3.2) into a program: its declarations and its
+// items, whose names are slices of the text. The text is cut into tokens, each line of tokens is
+// judged as a whole, and the first faulty line is the refusal. The read forms are the frame of a
+// program, BOOL variables, and LD, LDN, ST, AND and OR.
+#![tactic(auto)]
+
+mod character;
+pub mod fault;
+mod form;
+mod lexeme;
+mod listing;
+mod literal;
+pub mod name;
+mod piece;
+pub mod program;
+pub mod read;
+mod reserved;
+mod token;

@@ -1,0 +1,256 @@
+// Numeric, truth and duration literals.
+ghost use Rattle.std.specs.Prelude.{◌≡◌, ◌≤◌, ◌<◌, ◌^◌, length, option_map, IfSome};
+ghost use Rattle.std.specs.Char.{is_ascii_alphabetic};
+ghost use Rattle.std.specs.List.{prefix_len};
+ghost use Rattle.il_text.specs.Literals as spec;
+ghost use Rattle.il_text.specs.Runs.{capped, capped_signed};
+
+use crate::character::byte_at;
+use crate::name::{same_letters, same_name};
+
+/// What is known of a word that is to be a literal.
+#[derive(Clone, Copy, Debug, PartialEq, Eq)]
+pub(crate) enum Judged {
+    Fine,
+    Malformed,
+    OutOfRange,
+}
+
+/// Greater magnitudes count as this one, which no type holds.
+const CAP: u64 = 0x1_0000_0000;
+
+/// The number that digits write, with single underscores between them.
+#[tactic(auto, using(crate::proofs::LiteralLemmas::number_rules))]
+fn number(digits: &[u8], radix: u32) -> Option<u64>
+    requires low { 2 ≤ radix }
+    requires high { radix ≤ 16 }
+    ensures { result ≡ capped (spec.number radix digits.now) }
+{
+    let mut value = 0u64;
+    let mut wanted = true;
+    for byte in digits {
+        if !wanted && *byte == b'_' {
+            wanted = true;
+        } else {
+            let digit = char::from(*byte).to_digit(radix)?;
+            value = (value * u64::from(radix) + u64::from(digit)).min(CAP);
+            wanted = false;
+        }
+    }
+    if wanted { None } else { Some(value) }
+}
+
+/// The base that is written before `#`.
+#[tactic(auto, unfolding(crate::specs::Literals::base_of))]
+fn base_of(word: &str) -> Option<u32>
+    ensures value { result ≡ spec.base_of word.now }
+    ensures low { IfSome result (λ base. 2 ≤ base) }
+    ensures high { IfSome result (λ base. base ≤ 16) }
+{
+    if same_name(word, "2") {
+        return Some(2);
+    }
+    if same_name(word, "8") {
+        return Some(8);
+    }
+    if same_name(word, "16") {
+        return Some(16);
+    }
+    None
+}
+
+/// A number with an optional sign: whether it is negative, and its magnitude.
+#[tactic(auto, unfolding(crate::specs::Literals::decimal))]
+pub(crate) fn decimal(word: &[u8]) -> Option<(bool, u64)>
+    ensures { result ≡ capped_signed (spec.decimal word.now) }
+{
+    match word {
+        [b'-', digits @ ..] => Some((true, number(digits, 10)?)),
+        [b'+', digits @ ..] => Some((false, number(digits, 10)?)),
+        _ => Some((false, number(word, 10)?)),
+    }
+}
+
+/// A number after its base, which has no sign.
+#[tactic(auto, unfolding(crate::specs::Literals::based))]
+fn based(base: &str, digits: &str) -> Option<(bool, u64)>
+    ensures { result ≡ capped_signed (spec.based base.now digits.now) }
+{
+    let radix = base_of(base)?;
+    Some((false, number(digits.as_bytes(), radix)?))
+}
+
+/// The parts before and after the first `#`.
+pub(crate) fn halves(word: &str) -> Option<(&str, &str)>
+    ensures { option_map (λ h. (h.0.now, h.1.now)) result ≡ spec.halves word.now }
+{
+    word.split_once('#')
+}
+
+#[tactic(auto, using(crate::proofs::LiteralLemmas::integer_some, crate::proofs::LiteralLemmas::integer_none))]
+fn integer(word: &str) -> Option<(bool, u64)>
+    ensures { result ≡ capped_signed (spec.integer word.now) }
+{
+    match halves(word) {
+        Some((base, digits)) => based(base, digits),
+        None => decimal(word.as_bytes()),
+    }
+}
+
+fn judge(number: Option<(bool, u64)>, below: u64, above: u64) -> Judged
+    ensures { result ≡ spec.judged below above number }
+{
+    match number {
+        None => Judged::Malformed,
+        Some((negative, magnitude)) => {
+            if magnitude <= (if negative { below } else { above }) {
+                Judged::Fine
+            } else {
+                Judged::OutOfRange
+            }
+        }
+    }
+}
+
+#[tactic(auto, unfolding(crate::specs::Literals::untyped))]
+/// Judges a literal without a type, whose largest range is that of DINT.
+pub(crate) fn untyped(number: Option<(bool, u64)>) -> Judged
+    ensures { result ≡ spec.untyped number }
+{
+    judge(number, 2_147_483_648, 2_147_483_647)
+}
+
+fn is_truth(word: &str) -> bool
+    ensures { result ≡ spec.is_truth word.now }
+{
+    same_name(word, "TRUE") || same_name(word, "FALSE")
+}
+
+#[tactic(auto, using(crate::proofs::LiteralLemmas::judged_capped), unfolding(crate::specs::Literals::typed_bool))]
+fn typed_bool(word: &str) -> Judged
+    ensures { result ≡ spec.typed_bool word.now }
+{
+    if is_truth(word) {
+        return Judged::Fine;
+    }
+    judge(integer(word), 0, 1)
+}
+
+#[tactic(auto, using(crate::proofs::LiteralLemmas::judged_capped), unfolding(crate::specs::Literals::typed_int))]
+fn typed_int(word: &str) -> Judged
+    ensures { result ≡ spec.typed_int word.now }
+{
+    if is_truth(word) {
+        return Judged::OutOfRange;
+    }
+    judge(integer(word), 32_768, 32_767)
+}
+
+#[tactic(auto, using(crate::proofs::LiteralLemmas::judged_capped), unfolding(crate::specs::Literals::typed_dint))]
+fn typed_dint(word: &str) -> Judged
+    ensures { result ≡ spec.typed_dint word.now }
+{
+    if is_truth(word) {
+        return Judged::OutOfRange;
+    }
+    judge(integer(word), 2_147_483_648, 2_147_483_647)
+}
+
+/// Judges a literal with something before its first `#`.
+pub(crate) fn prefixed(before: &str, word: &str) -> Judged {
+    if same_name(before, "BOOL") {
+        return typed_bool(word);
+    }
+    if same_name(before, "INT") {
+        return typed_int(word);
+    }
+    if same_name(before, "DINT") {
+        return typed_dint(word);
+    }
+    if same_name(before, "T") || same_name(before, "TIME") {
+        return typed_time(word.as_bytes());
+    }
+    untyped(based(before, word))
+}
+
+/// What is left of a duration, its milliseconds so far, and whether a part was there.
+#[derive(Clone, Copy)]
+struct Duration<'a> {
+    rest: &'a [u8],
+    total: u64,
+    begun: bool,
+}
+
+/// How many characters of a number stand at the front.
+fn number_len(word: &[u8]) -> usize
+    ensures len { result ≡ spec.number_len word.now }
+    ensures within { result ≤ length word.now }
+{
+    word.iter()
+        .take_while(|x| x.is_ascii_digit() || **x == b'_')
+        .count()
+}
+
+/// How many letters stand at the front.
+fn letter_len(word: &[u8]) -> usize
+    ensures len { result ≡ prefix_len is_ascii_alphabetic word.now }
+    ensures within { result ≤ length word.now }
+{
+    word.iter().take_while(|x| x.is_ascii_alphabetic()).count()
+}
+
+/// The number at the front of a part.
+fn part_number(digits: &[u8], begun: bool) -> Option<u64> {
+    match digits {
+        [b'_', rest @ ..] if begun => number(rest, 10),
+        _ => number(digits, 10),
+    }
+}
+
+/// Takes the part in this unit, if one stands first.
+fn part<'a>(duration: Duration<'a>, unit: &[u8], factor: u64) -> Option<Duration<'a>>
+    requires { factor < 2 ^ 31 }
+{
+    let (digits, tail) = duration.rest.split_at(number_len(duration.rest));
+    let (letters, rest) = tail.split_at(letter_len(tail));
+    if !same_letters(letters, unit) {
+        return Some(duration);
+    }
+    let number = part_number(digits, duration.begun)?;
+    Some(Duration {
+        rest,
+        total: (duration.total.min(CAP) + number.min(CAP) * factor).min(CAP),
+        begun: true,
+    })
+}
+
+fn milliseconds(word: &[u8]) -> Option<u64> {
+    let duration = Duration {
+        rest: word,
+        total: 0,
+        begun: false,
+    };
+    let duration = part(duration, b"d", 86_400_000)?;
+    let duration = part(duration, b"h", 3_600_000)?;
+    let duration = part(duration, b"m", 60_000)?;
+    let duration = part(duration, b"s", 1_000)?;
+    let duration = part(duration, b"ms", 1)?;
+    if duration.begun && duration.rest.is_empty() {
+        Some(duration.total)
+    } else {
+        None
+    }
+}
+
+fn typed_time(word: &[u8]) -> Judged {
+    match milliseconds(word) {
+        None => Judged::Malformed,
+        Some(total) => {
+            if total <= 2_147_483_647 {
+                Judged::Fine
+            } else {
+                Judged::OutOfRange
+            }
+        }
+    }
+}

@@ -1,0 +1,75 @@
+// Where the pieces of a text and its comments end.
+ghost use Rattle.std.specs.Prelude.{◌≡◌, ◌+◌, ◌-◌, ◌<◌, ◌≤◌, ◌∷◌, true, false, length, drop, slice_index, slice_range};
+ghost use Rattle.il_text.specs.Pieces as spec;
+ghost use Rattle.il_text.specs.Runs.{IsRun};
+
+use crate::character::{byte_at, is_linked};
+
+/// Whether a comment begins here.
+pub(crate) fn opens(bytes: &[u8], at: usize) -> bool
+    requires { at < length bytes.now }
+    ensures { result ≡ spec.opens (drop at bytes.now) }
+{
+    bytes[at] == b'(' && byte_at(bytes, at + 1) == b'*'
+}
+
+/// Whether the end of a comment stands here.
+pub(crate) fn ends(bytes: &[u8], at: usize) -> bool
+    requires { at < length bytes.now }
+    ensures { result ≡ spec.ends (drop at bytes.now) }
+{
+    bytes[at] == b'*' && byte_at(bytes, at + 1) == b')'
+}
+
+#[tactic(auto, using(crate::proofs::PieceLemmas::closes_rules))]
+/// Whether the end of a comment stands here or later.
+pub(crate) fn closes(bytes: &[u8], at: usize) -> bool
+    ensures { result ≡ spec.closes (drop at bytes.now) }
+{
+    for i in at..bytes.len() {
+        if ends(bytes, i) {
+            return true;
+        }
+    }
+    false
+}
+
+#[tactic(auto, using(crate::proofs::PieceLemmas::run_rules))]
+/// The end of the longest run of characters of which each belongs to the one before it.
+fn run_end(bytes: &[u8], start: usize) -> usize
+    requires { start < length bytes.now }
+    ensures { IsRun bytes.now start result }
+{
+    for end in start + 1..bytes.len() {
+        if !is_linked(bytes[end - 1], bytes[end]) {
+            return end;
+        }
+    }
+    bytes.len()
+}
+
+/// Whether `&N` stands here, where no letter, digit, `_` or `#` follows.
+fn is_negated_and(bytes: &[u8], at: usize) -> bool
+    requires { at < length bytes.now }
+    ensures room { result ≡ true → at + 2 ≤ length bytes.now }
+    ensures negated { result ≡ true → slice_index bytes.now (at + 1) < 128 }
+{
+    if bytes[at] != b'&' || bytes.len() - at < 2 || bytes[at + 1].to_ascii_uppercase() != b'N' {
+        return false;
+    }
+    !is_linked(bytes[at + 1], byte_at(bytes, at + 2))
+}
+
+#[tactic(auto, using(crate::proofs::PieceLemmas::run_ascii))]
+/// The end of the piece that begins here.
+pub(crate) fn piece_end(bytes: &[u8], start: usize) -> usize
+    requires { start < length bytes.now }
+    ensures after { start < result }
+    ensures within { result ≤ length bytes.now }
+    ensures ascii { slice_index bytes.now start < 128 → slice_index bytes.now (result - 1) < 128 }
+{
+    if is_negated_and(bytes, start) {
+        return start + 2;
+    }
+    run_end(bytes, start)
+}

@@ -1,0 +1,173 @@
+// Reads a program from a text.
+ghost use Rattle.std.specs.Prelude.{◌≡◌, ◌<◌, ◌≤◌, ◌+◌, length, OnOk};
+ghost use Rattle.il_text.specs.Places.{last_line};
+
+use crate::fault::TextFault;
+use crate::form::Place;
+use crate::lexeme::{Lexeme, lexeme_at};
+use crate::listing::{Listing, Position};
+use crate::piece::{closes, ends, opens, piece_end};
+use crate::program::Program;
+use crate::token::Token;
+use std::alloc::Global;
+
+/// A text, how far it is read, and what was read.
+#[derive(Drop)]
+struct Reader<'a> {
+    text: &'a str,
+    at: usize,
+    line: usize,
+    last: usize,
+    in_comment: bool,
+    /// The tokens of the line so far.
+    tokens: Vec<Token<'a>>,
+    listing: Listing<'a>,
+    ghost within: { at ≤ length text.now },
+    ghost line_within: { line ≤ at + 1 },
+}
+
+/// Reads a program in Instruction List (IEC 61131-3:2003, 3.2 and annex B.2.1). The first faulty line
+/// is the refusal; within a line a bad token or literal comes before a bad line, and the leftmost of
+/// those before the others. A text that ends early is a bad line at its last line.
+pub fn read_program<'a>(alloc: Global, text: &'a str) -> Result<Program<'a>, TextFault> {
+    let mut reader = Reader {
+        text,
+        at: 0,
+        line: 1,
+        last: last_line_of(text),
+        in_comment: false,
+        tokens: Vec::new(alloc),
+        listing: Listing::new(alloc),
+    };
+    while reader.at < text.len() {
+        reader.step()?;
+    }
+    reader.finish()?;
+    let Reader {
+        text: _,
+        at: _,
+        line: _,
+        last: _,
+        in_comment: _,
+        tokens: _,
+        listing,
+    } = reader;
+    let Listing {
+        place: _,
+        instructions: _,
+        name,
+        declarations,
+        items,
+    } = listing;
+    Ok(Program {
+        name,
+        declarations,
+        items,
+    })
+}
+
+/// The number of the last line; what follows the last line end is a line only if it is not empty.
+#[tactic(auto, using(crate::proofs::PlaceLemmas::line_rules))]
+fn last_line_of(text: &str) -> usize
+    ensures { result ≡ last_line text.now }
+{
+    let bytes = text.as_bytes();
+    let mut line = 1;
+    for i in 0..bytes.len() {
+        if bytes[i] == b'\n' && i < bytes.len() - 1 {
+            line += 1;
+        }
+    }
+    line
+}
+
+impl<'a> Reader<'a> {
+    /// Reads one piece, or one character of a comment.
+    fn step(&mut self) -> Result<(), TextFault>
+        requires { self.old.at < length self.old.text.now }
+        ensures text { OnOk result (self.new.text.now ≡ self.old.text.now) }
+        ensures progress { OnOk result (self.old.at < self.new.at) }
+    {
+        let bytes = self.text.as_bytes();
+        if self.in_comment {
+            return self.comment_step();
+        }
+        if opens(bytes, self.at) {
+            return self.open_comment();
+        }
+        let end = piece_end(bytes, self.at);
+        let lexeme = lexeme_at(self.text, self.at, end);
+        self.at = end;
+        match lexeme {
+            Lexeme::Blank => Ok(()),
+            Lexeme::LineEnd => self.end_line(),
+            Lexeme::Token(token) => {
+                self.tokens.push(token)?;
+                Ok(())
+            }
+            Lexeme::BadToken => Err(TextFault::BadToken { line: self.line }),
+            Lexeme::BadLiteral => Err(TextFault::BadLiteral { line: self.line }),
+        }
+    }
+
+    fn open_comment(&mut self) -> Result<(), TextFault>
+        requires { self.old.at + 1 < length self.old.text.now }
+        ensures text { OnOk result (self.new.text.now ≡ self.old.text.now) }
+        ensures progress { OnOk result (self.old.at < self.new.at) }
+    {
+        if !closes(self.text.as_bytes(), self.at + 2) {
+            return Err(TextFault::BadToken { line: self.line });
+        }
+        self.at += 2;
+        self.in_comment = true;
+        Ok(())
+    }
+
+    fn comment_step(&mut self) -> Result<(), TextFault>
+        requires { self.old.at < length self.old.text.now }
+        ensures text { OnOk result (self.new.text.now ≡ self.old.text.now) }
+        ensures progress { OnOk result (self.old.at < self.new.at) }
+    {
+        let bytes = self.text.as_bytes();
+        if ends(bytes, self.at) {
+            self.at += 2;
+            self.in_comment = false;
+            return Ok(());
+        }
+        let byte = bytes[self.at];
+        self.at += 1;
+        if byte == b'\n' {
+            return self.end_line();
+        }
+        Ok(())
+    }
+
+    fn end_line(&mut self) -> Result<(), TextFault>
+        requires { self.old.line ≤ self.old.at }
+        ensures text { OnOk result (self.new.text.now ≡ self.old.text.now) }
+        ensures place { OnOk result (self.new.at ≡ self.old.at) }
+    {
+        let position = Position {
+            line: self.line,
+            last: self.last,
+        };
+        self.listing.take_line(self.tokens.as_slice(), position)?;
+        self.tokens.clear();
+        self.line += 1;
+        Ok(())
+    }
+
+    /// Takes the last line, after which the program has to be whole.
+    fn finish(&mut self) -> Result<(), TextFault> {
+        let position = Position {
+            line: self.line,
+            last: self.last,
+        };
+        self.listing.take_line(self.tokens.as_slice(), position)?;
+        if self.listing.place == Place::Finished {
+            Ok(())
+        } else {
+            Err(TextFault::BadLine { line: self.last })
+        }
+    }
+}
