@@ -1,3 +1,5 @@
+pub mod BayLemmas
 pub mod KeyLemmas
+pub mod NodeLemmas
 pub mod PointLemmas
 pub mod SwitchLemmas

@@ -1,6 +1,5 @@
 -- The names of points, one after another.
-use Rattle.std.proofs.Common.{◌≡◌, ℕ, ◌+◌, ◌<◌, ◌||◌, List, [], ◌∷◌, length, map, get_or, drop, refl, sym, ap, ◌∙◌}
-use Rattle.std.proofs.lemmas.List.{drop_more}
+use Rattle.std.proofs.Common.{◌≡◌, ℕ, Bool, ◌||◌, List, [], ◌∷◌, map, refl, ap, ◌∙◌}
 use Rattle.std.specs.List.{list_any}
 use Rattle.std.specs.Str.{bytes_eq}
 use Rattle.bay_config.specs.declared.bay.Point.{Point}
@@ -11,10 +10,12 @@ among-names : (s : List ℕ) (ps : List Point) → is_among (map (λ p. p.name) 
 among-names s [] = refl
 among-names s (p ∷ ps) = ap (λ b. bytes_eq s p.name || b) (among-names s ps)
 
--- a twin from a place on is a twin of the point there, or one after it
-pub has_twin-drop : (ps : List Point) (i : ℕ) (x : Point) → i < length ps → x ≡ get_or ps i x → has_twin (map (λ p. p.name) (drop i ps)) ≡ (list_any (λ p. bytes_eq x.name p.name) (drop (i + 1) ps) || has_twin (map (λ p. p.name) (drop (i + 1) ps)))
-has_twin-drop ps i x h at =
-    let rest = drop (i + 1) ps in
-    ap (λ qs. has_twin (map (λ p. p.name) qs)) (drop_more ps i x h)
-    ∙ ap (λ y. has_twin (map (λ p. p.name) (y ∷ rest))) (sym at)
-    ∙ ap (λ b. b || has_twin (map (λ p. p.name) rest)) (among-names x.name rest)
+-- a twin of the first point, or one among those after it
+pub has_twin-cons : (ps : List Point) (p : Point) (later : List Point) (b : Bool) → ps ≡ p ∷ later → list_any (λ q. bytes_eq p.name q.name) later ≡ b → has_twin (map (λ q. q.name) ps) ≡ (b || has_twin (map (λ q. q.name) later))
+has_twin-cons ps p later b e h =
+    ap (λ qs. has_twin (map (λ q. q.name) qs)) e
+    ∙ ap (λ b. b || has_twin (map (λ q. q.name) later)) (among-names p.name later ∙ h)
+
+pub any-names : (test : List ℕ → Bool) (ps : List Point) → list_any test (map (λ p. p.name) ps) ≡ list_any (λ p. test p.name) ps
+any-names test [] = refl
+any-names test (p ∷ ps) = ap (λ b. test p.name || b) (any-names test ps)

@@ -3,6 +3,7 @@ pub mod Code
 pub mod Gives
 pub mod Key
 pub mod Node
+pub mod NodeRows
 pub mod Point
 pub mod Reserved
 pub mod Section

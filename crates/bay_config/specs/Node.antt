@@ -1,5 +1,5 @@
 -- The logical nodes of switches (IEC 61850-7-4), as rows of the tree (IEC 61850-8-1, names of named variables).
-use Rattle.std.specs.Prelude.{ℕ, pos, Bool, true, false, not, List, [], ◌∷◌, ◌++◌, map, filter, codes, Option, None, Some}
+use Rattle.std.specs.Prelude.{ℕ, ◌+◌, pos, Bool, true, false, not, List, [], ◌∷◌, ◌++◌, map, filter, take, count_by, codes, Option, None, Some}
 use Rattle.std.specs.List.{flat_map, enumerate_from}
 use Rattle.std.specs.Fmt.{decimal}
 use Rattle.bay_tree.specs.declared.row.Row.{Row}
@@ -25,7 +25,7 @@ mutual
 abbrev pub row : List ℕ → Option Leaf → Row
 row name leaf = record { name = name; leaf = leaf }
 
--- the rows of parts, depth first, with the name that leads to them in front
+-- the rows of a part and of parts, depth first, with the name that leads to them in front
 abbrev mutual
   pub rows_of : List ℕ → Part → List Row
   rows_of path (value name leaf) = row (path ++ codes "$" ++ name) (Some leaf) ∷ []
@@ -35,29 +35,18 @@ abbrev mutual
   rows_below path end = []
   rows_below path (part p ps) = rows_of path p ++ rows_below path ps
 
+pub record Node : Type 0 where
+  pub name : List ℕ
+  pub parts : Parts
+
 -- the rows of a logical node: its own, and those of its parts, which its name leads to
-abbrev pub node_rows : List ℕ → Parts → List Row
-node_rows node parts = row node None ∷ map (λ r. row (node ++ r.name) r.leaf) (rows_below [] parts)
+abbrev pub node_rows : Node → List Row
+node_rows node = row node.name None ∷ map (λ r. row (node.name ++ r.name) r.leaf) (rows_below [] node.parts)
 
 -- a value with its quality and its moment (IEC 61850-7-3, common data classes of status)
 abbrev pub status : List ℕ → Leaf → Validity → Part
 status name v q =
     structure name (part (value (codes "stVal") v) (part (value (codes "q") (Quality q)) (part (value (codes "t") (Utc 0)) end)))
-
--- the rows of such a value within a node, where a path leads to it
-abbrev pub status_rows : List ℕ → List ℕ → Leaf → Validity → List Row
-status_rows node path v q =
-    row (node ++ path) None
-    ∷ row (node ++ (path ++ codes "$stVal")) (Some v)
-    ∷ row (node ++ (path ++ codes "$q")) (Some (Quality q))
-    ∷ row (node ++ (path ++ codes "$t")) (Some (Utc 0))
-    ∷ []
-
--- the rows of a switch's type
-abbrev pub type_rows : List ℕ → SwitchKind → List Row
-type_rows node Breaker = []
-type_rows node Disconnector = status_rows node (codes "$ST$SwTyp") (Int8 (pos 2)) Good
-type_rows node Earthing = status_rows node (codes "$ST$SwTyp") (Int8 (pos 3)) Good
 
 -- a breaker has no type; a disconnector's is 2, an earthing switch's 3 (IEC 61850-7-4, SwTyp)
 abbrev pub switch_type : SwitchKind → Parts
@@ -92,16 +81,34 @@ class_of Earthing = codes "XSWI"
 abbrev pub node_name : List ℕ → ℕ → List ℕ
 node_name class number = class ++ decimal number
 
--- the rows of switches that are numbered so
-abbrev pub position_rows : List (ℕ × Switch) → List Row
-position_rows numbered = flat_map (λ s. node_rows (node_name (class_of s.1.kind) s.0) (position_parts s.1.kind)) numbered
+-- the nodes of a switch with its number
+abbrev pub position_node : ℕ × Switch → Node
+position_node s = record { name = node_name (class_of s.1.kind) s.0; parts = position_parts s.1.kind }
 
-abbrev pub interlocking_rows : List (ℕ × Switch) → List Row
-interlocking_rows numbered = flat_map (λ s. node_rows (node_name (codes "CILO") s.0) interlocking_parts) numbered
+abbrev pub interlocking_node : ℕ × Switch → Node
+interlocking_node s = record { name = node_name (codes "CILO") s.0; parts = interlocking_parts }
 
--- the rows of a bay: its breakers and its other switches, each numbered by kind, then each switch's interlocking by its place
+-- the breakers, or the other switches
+abbrev pub is_of : Bool → Switch → Bool
+is_of true s = is_breaker s.kind
+is_of false s = not (is_breaker s.kind)
+
+-- the nodes of the breakers or of the other switches, numbered from 1 among themselves
+abbrev pub position_nodes : Bool → List Switch → List Node
+position_nodes breakers switches = map position_node (enumerate_from 1 (filter (is_of breakers) switches))
+
+-- the nodes of the interlocking, numbered by the switches' places from 1
+abbrev pub interlocking_nodes : List Switch → List Node
+interlocking_nodes switches = map interlocking_node (enumerate_from 1 switches)
+
+-- the nodes of a bay, in the order of the tree
+abbrev pub nodes_of : List Switch → List Node
+nodes_of switches = position_nodes true switches ++ position_nodes false switches ++ interlocking_nodes switches
+
+-- the rows of a bay
 abbrev pub rows_of_all : List Switch → List Row
-rows_of_all switches =
-    position_rows (enumerate_from 1 (filter (λ s. is_breaker s.kind) switches))
-    ++ position_rows (enumerate_from 1 (filter (λ s. not (is_breaker s.kind)) switches))
-    ++ interlocking_rows (enumerate_from 1 switches)
+rows_of_all switches = flat_map node_rows (nodes_of switches)
+
+-- the place of a switch among the breakers or the other switches, from 1
+abbrev pub number_of : List Switch → Switch → ℕ → ℕ
+number_of switches s k = count_by (is_of (is_breaker s.kind)) (take (k + 1) switches)

@@ -1,8 +1,8 @@
 // The logical nodes of the switches, as rows of the tree.
-ghost use Rattle.std.specs.Prelude.{◌≡◌, ◌+◌, ◌^◌, ◌<◌, ◌≤◌, ◌++◌, ◌∷◌, [], Option, None, pos, codes, filter, length, not, IfOk};
-ghost use Rattle.std.specs.Fmt.{decimal};
-ghost use Rattle.std.specs.List.{enumerate_from};
-ghost use Rattle.bay_config.specs.Node.{row, status_rows, type_rows, node_rows, position_parts, interlocking_parts, is_breaker, class_of, node_name, position_rows, interlocking_rows, rows_of_all};
+ghost use Rattle.std.specs.Prelude.{◌≡◌, ◌<◌, ◌++◌, ◌∷◌, [], length, codes, IfOk};
+ghost use Rattle.std.specs.List.{flat_map};
+ghost use Rattle.bay_config.specs.Node.{row, node_rows, position_parts, interlocking_parts, is_breaker, is_of, class_of, node_name, position_node, position_nodes, interlocking_nodes, rows_of_all};
+ghost use Rattle.bay_config.specs.NodeRows.{status_rows, type_rows};
 
 use crate::bay::{Bay, Switch, SwitchKind};
 use bay_tree::leaf::{Dbpos, Leaf, Quality};
@@ -91,7 +91,9 @@ fn push_position_node(
     rows: &mut Vec<Row>,
     node: &str,
     kind: SwitchKind,
-) -> Result<(), AllocError> {
+) -> Result<(), AllocError>
+    ensures { IfOk result (λ _. rows.new.items ≡ rows.old.items ++ node_rows (record { name = node.now; parts = position_parts kind })) }
+{
     push_row(alloc, rows, node, "", None)?;
     push_row(alloc, rows, node, "$ST", None)?;
     push_status(
@@ -135,7 +137,7 @@ fn push_position_node(
 
 /// The node of a switch's interlocking (IEC 61850-7-4, CILO).
 fn push_interlocking_node(alloc: Global, rows: &mut Vec<Row>, node: &str) -> Result<(), AllocError>
-    ensures { IfOk result (λ _. rows.new.items ≡ rows.old.items ++ node_rows node.now interlocking_parts) }
+    ensures { IfOk result (λ _. rows.new.items ≡ rows.old.items ++ node_rows (record { name = node.now; parts = interlocking_parts })) }
 {
     push_row(alloc, rows, node, "", None)?;
     push_row(alloc, rows, node, "$ST", None)?;
@@ -164,6 +166,17 @@ fn is_breaker(kind: SwitchKind) -> bool
     kind == SwitchKind::Breaker
 }
 
+/// Whether the switch is one of the breakers, or one of the others.
+fn is_of(breakers: bool, switch: &Switch) -> bool
+    ensures { result ≡ is_of breakers switch.now }
+{
+    if breakers {
+        is_breaker(switch.kind)
+    } else {
+        !is_breaker(switch.kind)
+    }
+}
+
 /// The class of a switch's node.
 fn class_of(kind: SwitchKind) -> &'static str
     ensures { result.now ≡ class_of kind }
@@ -174,46 +187,71 @@ fn class_of(kind: SwitchKind) -> &'static str
     }
 }
 
+/// The node of a switch with this number.
+fn push_switch(
+    alloc: Global,
+    rows: &mut Vec<Row>,
+    number: usize,
+    switch: &Switch,
+) -> Result<(), AllocError>
+    ensures { IfOk result (λ _. rows.new.items ≡ rows.old.items ++ node_rows (position_node (number, switch.now))) }
+{
+    let class = class_of(switch.kind);
+    let node = format!(in alloc; "{class}{number}")?;
+    push_position_node(alloc, rows, node.as_str(), switch.kind)
+}
+
 /// The nodes of the breakers, or of the other switches, numbered from 1.
-fn push_position_nodes(
+fn push_switches(
     alloc: Global,
     rows: &mut Vec<Row>,
     switches: &[Switch],
     breakers: bool,
-) -> Result<(), AllocError> {
+) -> Result<(), AllocError>
+    ensures { IfOk result (λ _. rows.new.items ≡ rows.old.items ++ flat_map node_rows (position_nodes breakers switches.now)) }
+{
     let mut number = 1usize;
     for switch in switches {
-        if is_breaker(switch.kind) == breakers {
-            let class = class_of(switch.kind);
-            let node = format!(in alloc; "{class}{number}")?;
-            push_position_node(alloc, rows, node.as_str(), switch.kind)?;
+        if is_of(breakers, switch) {
+            push_switch(alloc, rows, number, switch)?;
             number += 1;
         }
     }
     Ok(())
 }
 
+/// The node of the interlocking with this number.
+fn push_interlocking(alloc: Global, rows: &mut Vec<Row>, number: usize) -> Result<(), AllocError>
+    ensures { IfOk result (λ _. rows.new.items ≡ rows.old.items ++ node_rows (record { name = node_name (codes "CILO") number; parts = interlocking_parts })) }
+{
+    let node = format!(in alloc; "CILO{number}")?;
+    push_interlocking_node(alloc, rows, node.as_str())?;
+    Ok(())
+}
+
 /// The nodes of the switches' interlocking, numbered from 1.
-fn push_interlocking_nodes(
+fn push_interlockings(
     alloc: Global,
     rows: &mut Vec<Row>,
     switches: &[Switch],
-) -> Result<(), AllocError> {
+) -> Result<(), AllocError>
+    ensures { IfOk result (λ _. rows.new.items ≡ rows.old.items ++ flat_map node_rows (interlocking_nodes switches.now)) }
+{
     for i in 0..switches.len() {
-        let number = i + 1;
-        let node = format!(in alloc; "CILO{number}")?;
-        push_interlocking_node(alloc, rows, node.as_str())?;
+        push_interlocking(alloc, rows, i + 1)?;
     }
     Ok(())
 }
 
 /// The rows of the switches' nodes with the values of the start: the breakers, the
 /// other switches, and the interlocking of each.
-pub fn rows_of(alloc: Global, switches: &[Switch]) -> Result<Listing<Row>, AllocError> {
+pub fn rows_of(alloc: Global, switches: &[Switch]) -> Result<Listing<Row>, AllocError>
+    ensures { IfOk result (λ rows. rows ≡ rows_of_all switches.now) }
+{
     let mut rows = Vec::new(alloc);
-    push_position_nodes(alloc, &mut rows, switches, true)?;
-    push_position_nodes(alloc, &mut rows, switches, false)?;
-    push_interlocking_nodes(alloc, &mut rows, switches)?;
+    push_switches(alloc, &mut rows, switches, true)?;
+    push_switches(alloc, &mut rows, switches, false)?;
+    push_interlockings(alloc, &mut rows, switches)?;
     Ok(Listing::new(rows))
 }
 

@@ -1,5 +1,5 @@
 // The points of the switches, and their names.
-ghost use Rattle.std.specs.Prelude.{◌≡◌, ◌≤◌, length, drop, ◌∷◌, [], ◌++◌, map, IfOk};
+ghost use Rattle.std.specs.Prelude.{◌≡◌, ◌∷◌, [], ◌++◌, map, IfOk};
 ghost use Rattle.std.specs.List.{list_any};
 ghost use Rattle.std.specs.Str.{bytes_eq, str_to_ascii_uppercase};
 ghost use Rattle.bay_config.specs.Gives.{judged};
@@ -108,36 +108,50 @@ pub fn points_of(alloc: Global, switches: &[Switch]) -> Result<Listing<Point>, A
     Ok(Listing::new(points))
 }
 
-/// Whether a point from a place on has this name.
-fn has_name_from(points: &[Point], from: usize, name: &str) -> bool
-    requires { from ≤ length points.now }
+/// Whether a point has this name.
+fn has_name(points: &[Point], name: &str) -> bool
+    ensures { result ≡ list_any (λ p. bytes_eq name.now p.name) points.now }
 {
-    points[from..]
-        .iter()
-        .any(|point| name == point.name.as_str())
+    points.iter().any(|point| name == point.name.as_str())
 }
 
 /// Whether two points have one name.
-fn has_twin(points: &[Point]) -> bool {
-    for i in 0..points.len() {
-        if has_name_from(points, i + 1, points[i].name.as_str()) {
+fn has_twin(points: &[Point]) -> bool
+    ensures { result ≡ has_twin (map (λ p. p.name) points.now) }
+{
+    let mut rest = points;
+    while let Some((point, later)) = rest.split_first() {
+        if has_name(later, point.name.as_str()) {
             return true;
         }
+        rest = later;
     }
     false
 }
 
-fn is_reserved(name: &str) -> bool {
-    is_known(&RESERVED_WORDS, name)
+fn reserved_words() -> &'static [&'static str]
+    ensures { map (λ word. word.now) result.now ≡ reserved_words }
+{
+    &RESERVED_WORDS
+}
+
+fn is_reserved(name: &str) -> bool
+    ensures { result ≡ is_among reserved_words name.now }
+{
+    is_known(reserved_words(), name)
 }
 
 /// Whether a point is named as a reserved word.
-fn has_reserved_name(points: &[Point]) -> bool {
+fn has_reserved_name(points: &[Point]) -> bool
+    ensures { result ≡ list_any (λ p. is_among reserved_words p.name) points.now }
+{
     points.iter().any(|point| is_reserved(point.name.as_str()))
 }
 
 /// Refuses two points of one name, and then a point that is named as a reserved word.
-pub fn check_names(points: &[Point]) -> Result<(), BayFault> {
+pub fn check_names(points: &[Point]) -> Result<(), BayFault>
+    ensures { result ≡ judged (names_refusal points.now) tt }
+{
     if has_twin(points) {
         return Err(BayFault::DuplicateName);
     }

@@ -1,4 +1,9 @@
 // Reads a bay.
+ghost use Rattle.std.specs.Prelude.{map};
+ghost use Rattle.toml.specs.View.{table_view};
+ghost use Rattle.bay_config.specs.Bay.{sections, bay_of_table, bay_of};
+ghost use Rattle.bay_config.specs.Gives.{Gives};
+
 use crate::bay::Bay;
 use crate::fault::BayFault;
 use crate::keys::check_keys;
@@ -9,7 +14,9 @@ use std::alloc::Global;
 use toml::Table;
 
 /// The bay of a file's table.
-fn bay_from(alloc: Global, file: &Table) -> Result<Bay, BayFault> {
+fn bay_from(alloc: Global, file: &Table) -> Result<Bay, BayFault>
+    ensures { Gives result (bay_of_table (table_view file.now)) }
+{
     check_keys(file, &["bay", "switch"])?;
     let nameplate = nameplate_at(alloc, file)?;
     let switches = switches_at(alloc, file)?;
@@ -29,7 +36,9 @@ fn bay_from(alloc: Global, file: &Table) -> Result<Bay, BayFault> {
 }
 
 /// Reads a bay from the text of its file, or says why the text is none.
-pub fn read_bay(alloc: Global, text: &str) -> Result<Bay, BayFault> {
+pub fn read_bay(alloc: Global, text: &str) -> Result<Bay, BayFault>
+    ensures { Gives result (bay_of text.now) }
+{
     match toml::table_from_str(alloc, text) {
         Ok(file) => match bay_from(alloc, &file) {
             Ok(bay) => Ok(bay),
