@@ -1,6 +1,6 @@
 -- The rows of a tree: named values in one list, each structure before what stands in it (IEC 61850-8-1, the
 -- mapping of names to MMS named variables, whose words are parted by `$`).
-use Rattle.std.specs.Prelude.{◌≡◌, ◌≢◌, ℕ, ◌+◌, ◌<◌, Option, Some, None, option_map, IfSome, List, [], length, map, filter, drop, slice_index_or, slice_set, position, All, Any}
+use Rattle.std.specs.Prelude.{◌≡◌, ◌≢◌, ℕ, ◌+◌, ◌<◌, Option, Some, None, option_map, IfSome, List, [], ◌∷◌, length, map, filter, drop, slice_index_or, slice_set, position, All, Any, if◌then◌else◌}
 use Rattle.std.specs.List.{position_from}
 use Rattle.std.specs.Str.{bytes_eq}
 use Rattle.bay_tree.specs.declared.row.Row.{Row}
@@ -78,3 +78,21 @@ next_below rows place (Some parent) = first_below_from (place + 1) (drop (place 
 -- the next row below the parent of the row at a place
 abbrev pub next_beside : List Row → ℕ → Option ℕ
 next_beside rows place = next_below rows place (parent_of (name_at rows place))
+
+-- the places of the rows below a structure, where the list begins at that place
+abbrev pub places_below_from : ℕ → List Row → List ℕ → List ℕ
+places_below_from start [] parent = []
+places_below_from start (row ∷ rows) parent = if is_below parent row.name then start ∷ places_below_from (start + 1) rows parent else places_below_from (start + 1) rows parent
+
+-- the places of the rows below a structure, in order
+abbrev pub places_below : List Row → List ℕ → List ℕ
+places_below rows parent = places_below_from 0 rows parent
+
+-- those behind a place
+abbrev pub places_behind : List Row → List ℕ → ℕ → List ℕ
+places_behind rows parent place = places_below_from (place + 1) (drop (place + 1) rows) parent
+
+-- a place and those behind it
+abbrev pub places_since : List Row → List ℕ → Option ℕ → List ℕ
+places_since rows parent None = []
+places_since rows parent (Some place) = place ∷ places_behind rows parent place

@@ -2,7 +2,7 @@
 ghost use Rattle.std.specs.Prelude.{◌≡◌, ◌≢◌, ◌<◌, All, ◌≤◌, ◌↔◌, length, drop, map, Some, Ok, Err, IfOk, IsOk, OnOk, OnErr, IfErr, IfSome, IsTrue};
 ghost use Rattle.std.specs.Option.{ok_or, option_copied};
 ghost use Rattle.bay_tree.specs.Names.{IsNamed, parent_of, word_of};
-ghost use Rattle.bay_tree.specs.Rows.{IsTree, IsHandle, place_of, name_at, leaf_at, kind_at, names_of, kinds_of, with_leaf, first_below_from, first_below, next_beside};
+ghost use Rattle.bay_tree.specs.Rows.{IsTree, IsHandle, place_of, name_at, leaf_at, kind_at, names_of, kinds_of, with_leaf, first_below_from, first_below, next_beside, places_below, places_behind, places_since};
 ghost use Rattle.bay_tree.specs.Kinds.{kind_of};
 ghost use Rattle.bay_tree.specs.Page.{page_after, start_after, IsUnknown};
 
@@ -113,6 +113,7 @@ impl Tree {
     pub fn below(&self, handle: Handle) -> Option<Handle>
         requires { IsHandle self.now handle }
         ensures first { result ≡ first_below self.now handle }
+        ensures rows { places_below self.now (name_at self.now handle) ≡ places_since self.now (name_at self.now handle) result }
         ensures after { IfSome result (λ row. (handle < row) × IsHandle self.now row) }
     {
         let index = first_below_from(self.rows.as_slice(), handle.index + 1, self.name(handle))?;
@@ -123,6 +124,7 @@ impl Tree {
     pub fn beside(&self, handle: Handle) -> Option<Handle>
         requires { IsHandle self.now handle }
         ensures next { result ≡ next_beside self.now handle }
+        ensures rows { IfSome (parent_of (name_at self.now handle)) (λ parent. places_behind self.now parent handle ≡ places_since self.now parent result) }
         ensures after { IfSome result (λ row. (handle < row) × IsHandle self.now row) }
     {
         let above = parent(self.name(handle))?;
