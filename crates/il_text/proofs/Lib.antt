@@ -1,4 +1,5 @@
 pub mod Lists
+pub mod ListingLemmas
 pub mod LiteralLemmas
 pub mod NameLemmas
 pub mod PieceLemmas

@@ -1,5 +1,5 @@
 -- The reserved words: operators, types and the words of a program's frame (IEC 61131-3:2003, annex C).
-use Rattle.std.specs.Prelude.{ℕ, Bool, ◌||◌, if◌then◌else◌, List, Option, Some, None, codes}
+use Rattle.std.specs.Prelude.{ℕ, Bool, ◌||◌, ◌==◌, if◌then◌else◌, List, Option, Some, None, codes}
 use Rattle.il_text.specs.declared.reserved.Reserved.{Reserved}
 use Rattle.il_text.specs.declared.reserved.Reserved.TheVariants as word
 use Rattle.il_text.specs.Names.{same_name}
@@ -57,3 +57,20 @@ reserved_of w =
     first_of (operator w) (first_of (frame_word w)
     (if is_type w || is_modified_operator w || is_logic w || is_arithmetic w || is_comparison w || is_jump w
     then Some word.Other else None))
+
+abbrev pub word_number : Reserved → ℕ
+word_number word.Program = 0
+word_number word.EndProgram = 1
+word_number word.Var = 2
+word_number word.VarExternal = 3
+word_number word.EndVar = 4
+word_number word.Bool = 5
+word_number word.Load = 6
+word_number word.LoadNot = 7
+word_number word.Store = 8
+word_number word.And = 9
+word_number word.Or = 10
+word_number word.Other = 11
+
+abbrev pub same_word : Reserved → Reserved → Bool
+same_word a b = word_number a == word_number b

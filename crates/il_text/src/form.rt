@@ -1,4 +1,11 @@
 // The forms of lines, and what stands before a line.
+ghost use Rattle.std.specs.Prelude.{◌≡◌, ◌≤◌, length, option_map};
+ghost use Rattle.std.specs.Option.{option_copied};
+ghost use Rattle.std.specs.List.{position_or_len};
+ghost use Rattle.il_text.specs.Forms as spec;
+ghost use Rattle.il_text.specs.TokenViews.{symbol_of, symbols_of};
+ghost use Rattle.il_text.specs.Views.{source_of, action_of};
+
 use crate::program::{ElementaryType, Instruction, Operand, Operator, Scope};
 use crate::reserved::Reserved;
 use crate::token::{Mark, Token};
@@ -18,52 +25,69 @@ pub(crate) enum Place {
     Finished,
 }
 
-fn is_reserved(token: Token<'_>, word: Reserved) -> bool {
+fn is_reserved(token: Token<'_>, word: Reserved) -> bool
+    ensures { result ≡ spec.is_reserved word (symbol_of token.entry) }
+{
     match token {
-        Token::Reserved(found) => found == word,
+        Token::Reserved(found) => found.is(word),
         _ => false,
     }
 }
 
-pub(crate) fn is_mark(token: Token<'_>, mark: Mark) -> bool {
+pub(crate) fn is_mark(token: Token<'_>, mark: Mark) -> bool
+    ensures { result ≡ spec.is_mark mark (symbol_of token.entry) }
+{
     match token {
-        Token::Mark(found) => found == mark,
+        Token::Mark(found) => found.is(mark),
         _ => false,
     }
 }
 
-pub(crate) fn name_of(token: Token<'_>) -> Option<&str> {
+pub(crate) fn name_of(token: Token<'_>) -> Option<&str>
+    ensures { option_map (λ n. n.now) result ≡ spec.name_of (symbol_of token.entry) }
+{
     match token {
         Token::Name(name) => Some(name),
         _ => None,
     }
 }
 
-fn truth_of(token: Token<'_>) -> Option<bool> {
+fn truth_of(token: Token<'_>) -> Option<bool>
+    ensures { result ≡ spec.truth_of (symbol_of token.entry) }
+{
     match token {
         Token::Truth(value) => Some(value),
         _ => None,
     }
 }
 
+#[tactic(auto, unfolding(crate::specs::Forms::header))]
 /// `PROGRAM name`
-pub(crate) fn header<'a>(tokens: &[Token<'a>]) -> Option<&'a str> {
+pub(crate) fn header<'a>(tokens: &[Token<'a>]) -> Option<&'a str>
+    ensures { option_map (λ n. n.now) result ≡ spec.header (symbols_of tokens.now) }
+{
     match tokens {
         [first, second] if is_reserved(*first, Reserved::Program) => name_of(*second),
         _ => None,
     }
 }
 
+#[tactic(auto, unfolding(crate::specs::Forms::is_alone))]
 /// Whether the line is this reserved word alone.
-pub(crate) fn is_alone(tokens: &[Token<'_>], word: Reserved) -> bool {
+pub(crate) fn is_alone(tokens: &[Token<'_>], word: Reserved) -> bool
+    ensures { result ≡ spec.is_alone word (symbols_of tokens.now) }
+{
     match tokens {
         [only] => is_reserved(*only, word),
         _ => false,
     }
 }
 
+#[tactic(auto, unfolding(crate::specs::Forms::opened))]
 /// `VAR` or `VAR_EXTERNAL`
-pub(crate) fn opened_block(tokens: &[Token<'_>]) -> Option<Scope> {
+pub(crate) fn opened_block(tokens: &[Token<'_>]) -> Option<Scope>
+    ensures { result ≡ spec.opened (symbols_of tokens.now) }
+{
     if is_alone(tokens, Reserved::Var) {
         return Some(Scope::Local);
     }
@@ -73,7 +97,9 @@ pub(crate) fn opened_block(tokens: &[Token<'_>]) -> Option<Scope> {
     None
 }
 
-fn operand(token: Token<'_>) -> Option<Operand<'_>> {
+fn operand(token: Token<'_>) -> Option<Operand<'_>>
+    ensures { option_map source_of result ≡ spec.operand (symbol_of token.entry) }
+{
     match token {
         Token::Name(name) => Some(Operand::Name(name)),
         Token::Truth(value) => Some(Operand::Literal(value)),
@@ -81,8 +107,11 @@ fn operand(token: Token<'_>) -> Option<Operand<'_>> {
     }
 }
 
+#[tactic(auto, unfolding(crate::specs::Forms::instruction))]
 /// An operator with its operand.
-pub(crate) fn instruction<'a>(tokens: &[Token<'a>]) -> Option<Instruction<'a>> {
+pub(crate) fn instruction<'a>(tokens: &[Token<'a>]) -> Option<Instruction<'a>>
+    ensures { option_map action_of result ≡ spec.instruction (symbols_of tokens.now) }
+{
     let [first, second] = tokens else {
         return None;
     };
@@ -92,7 +121,9 @@ pub(crate) fn instruction<'a>(tokens: &[Token<'a>]) -> Option<Instruction<'a>> {
     }
 }
 
-fn operation(word: Reserved, token: Token<'_>) -> Option<Instruction<'_>> {
+fn operation(word: Reserved, token: Token<'_>) -> Option<Instruction<'_>>
+    ensures { option_map action_of result ≡ spec.operation word (symbol_of token.entry) }
+{
     match word {
         Reserved::Load => Some(Instruction::Load {
             negated: false,
@@ -124,8 +155,11 @@ pub(crate) struct Tail {
     pub(crate) initial: Option<bool>,
 }
 
+#[tactic(auto, unfolding(crate::specs::Forms::tail))]
 /// `BOOL ;` or `BOOL := literal ;`, where an external has no literal.
-pub(crate) fn declared_tail(tokens: &[Token<'_>], scope: Scope) -> Option<Tail> {
+pub(crate) fn declared_tail(tokens: &[Token<'_>], scope: Scope) -> Option<Tail>
+    ensures { result ≡ spec.tail scope (symbols_of tokens.now) }
+{
     match tokens {
         [kind, end] if is_reserved(*kind, Reserved::Bool) && is_mark(*end, Mark::Semicolon) => {
             Some(Tail {
@@ -145,4 +179,15 @@ pub(crate) fn declared_tail(tokens: &[Token<'_>], scope: Scope) -> Option<Tail> 
         }
         _ => None,
     }
+}
+
+/// The place of the first colon, or the number of tokens where there is none.
+pub(crate) fn colon_at(tokens: &[Token<'_>]) -> usize
+    ensures place { result ≡ position_or_len (λ t. spec.is_colon (symbol_of t)) tokens.now }
+    ensures within { result ≤ length tokens.now }
+{
+    tokens
+        .iter()
+        .take_while(|token| !is_mark(**token, Mark::Colon))
+        .count()
 }

@@ -1,9 +1,19 @@
 // What has been read of a program, line by line.
-ghost use Rattle.std.specs.Prelude.{◌≡◌, ◌<◌, ◌≤◌, ◌+◌, length, OnOk};
+ghost use Rattle.std.specs.Prelude.{◌≡◌, ◌≢◌, List, ◌∷◌, map, option_map, false, Some, None, Ok, Err, OnOk, IfOk, IfErr};
+ghost use Rattle.std.specs.Option.{ok_or};
+ghost use Rattle.il_text.specs.Declaring.{declared_from};
+ghost use Rattle.il_text.specs.Forms as forms;
+ghost use Rattle.il_text.specs.ListingViews.{reached_of};
+ghost use Rattle.il_text.specs.Reading as spec;
+ghost use Rattle.il_text.specs.TokenViews.{symbol_of, symbols_of};
+ghost use Rattle.il_text.specs.Symbols.{Symbol};
+ghost use Rattle.il_text.specs.Views.{declared_of};
+ghost use Rattle.il_text.specs.declared.fault.TextFault.TheVariants.{BadLine, OutOfMemory};
 
 use crate::fault::TextFault;
 use crate::form::{
-    Place, Tail, declared_tail, header, instruction, is_alone, is_mark, name_of, opened_block,
+    Place, Tail, colon_at, declared_tail, header, instruction, is_alone, is_mark, name_of,
+    opened_block,
 };
 use crate::program::{Declaration, Item, Scope};
 use crate::reserved::Reserved;
@@ -32,7 +42,9 @@ pub(crate) struct Position {
 }
 
 impl<'a> Listing<'a> {
-    pub(crate) fn new(alloc: Global) -> Self {
+    pub(crate) fn new(alloc: Global) -> Self
+        ensures { reached_of result ≡ spec.nothing_read }
+    {
         Listing {
             place: Place::Start,
             instructions: 0,
@@ -42,12 +54,16 @@ impl<'a> Listing<'a> {
         }
     }
 
+    #[tactic(auto, unfolding(crate::specs::Reading::after_line))]
     /// Takes one line.
     pub(crate) fn take_line(
         &mut self,
         tokens: &[Token<'a>],
         position: Position,
-    ) -> Result<(), TextFault> {
+    ) -> Result<(), TextFault>
+        ensures ok { OnOk result (spec.after_line position.line position.last (reached_of self.old) (symbols_of tokens.now) ≡ Ok (reached_of self.new)) }
+        ensures refused { IfErr result (λ e. e ≢ OutOfMemory → spec.after_line position.line position.last (reached_of self.old) (symbols_of tokens.now) ≡ Err e) }
+    {
         let line = position.line;
         if tokens.is_empty() {
             return Ok(());
@@ -67,7 +83,10 @@ impl<'a> Listing<'a> {
         }
     }
 
-    fn take_header(&mut self, tokens: &[Token<'a>], line: usize) -> Result<(), TextFault> {
+    fn take_header(&mut self, tokens: &[Token<'a>], line: usize) -> Result<(), TextFault>
+        ensures ok { OnOk result (ok_or (option_map (spec.with_name (reached_of self.old)) (forms.header (symbols_of tokens.now))) (BadLine line) ≡ Ok (reached_of self.new)) }
+        ensures refused { IfErr result (λ e. e ≢ OutOfMemory → ok_or (option_map (spec.with_name (reached_of self.old)) (forms.header (symbols_of tokens.now))) (BadLine line) ≡ Err e) }
+    {
         let Some(name) = header(tokens) else {
             return Err(TextFault::BadLine { line });
         };
@@ -76,30 +95,43 @@ impl<'a> Listing<'a> {
         Ok(())
     }
 
+    #[tactic(auto, using(crate::proofs::ListingLemmas::block_rules))]
     fn take_block_line(
         &mut self,
         tokens: &[Token<'a>],
         scope: Scope,
         line: usize,
-    ) -> Result<(), TextFault> {
+    ) -> Result<(), TextFault>
+        ensures ok { OnOk result (spec.block_line line scope (reached_of self.old) (symbols_of tokens.now) ≡ Ok (reached_of self.new)) }
+        ensures refused { IfErr result (λ e. e ≢ OutOfMemory → spec.block_line line scope (reached_of self.old) (symbols_of tokens.now) ≡ Err e) }
+    {
         if is_alone(tokens, Reserved::EndVar) {
             self.place = Place::Declarations;
             return Ok(());
         }
-        let Some(colon) = tokens.iter().position(|t| is_mark(*t, Mark::Colon)) else {
+        let colon = colon_at(tokens);
+        if colon >= tokens.len() {
             return Err(TextFault::BadLine { line });
-        };
+        }
         let Some(tail) = declared_tail(&tokens[colon + 1..], scope) else {
             return Err(TextFault::BadLine { line });
         };
-        declare(&mut self.declarations, &tokens[..colon], scope, tail, line)
+        let declaring = Declaring { line, scope, tail };
+        match declare(&mut self.declarations, &tokens[..colon], declaring) {
+            Ok(()) => Ok(()),
+            Err(fault) => Err(fault),
+        }
     }
 
+    #[tactic(auto, using(crate::proofs::ListingLemmas::body_rules), unfolding(crate::specs::Reading::body_line))]
     fn take_body_line(
         &mut self,
         tokens: &[Token<'a>],
         position: Position,
-    ) -> Result<(), TextFault> {
+    ) -> Result<(), TextFault>
+        ensures ok { OnOk result (spec.body_line position.line position.last (reached_of self.old) (symbols_of tokens.now) ≡ Ok (reached_of self.new)) }
+        ensures refused { IfErr result (λ e. e ≢ OutOfMemory → spec.body_line position.line position.last (reached_of self.old) (symbols_of tokens.now) ≡ Err e) }
+    {
         let line = position.line;
         if is_alone(tokens, Reserved::EndProgram) {
             self.place = Place::Finished;
@@ -119,7 +151,9 @@ impl<'a> Listing<'a> {
 }
 
 /// A line too much; where it is the last one, the text ends early there too, and that comes first.
-fn too_long(position: Position) -> TextFault {
+fn too_long(position: Position) -> TextFault
+    ensures { result ≡ spec.too_long position.line position.last }
+{
     let line = position.line;
     if line == position.last {
         TextFault::BadLine { line }
@@ -128,38 +162,76 @@ fn too_long(position: Position) -> TextFault {
     }
 }
 
+/// What a line of declarations gives to each of its names.
+#[derive(Clone, Copy)]
+struct Declaring {
+    line: usize,
+    scope: Scope,
+    tail: Tail,
+}
+
+#[tactic(auto, using(crate::proofs::ListingLemmas::end_rules))]
 /// Declares the names of a list, `name {"," name}`.
 fn declare<'a>(
     declarations: &mut Vec<Declaration<'a>>,
     names: &[Token<'a>],
-    scope: Scope,
-    tail: Tail,
-    line: usize,
-) -> Result<(), TextFault> {
+    declaring: Declaring,
+) -> Result<(), TextFault>
+    ensures ok { OnOk result (declared_from declaring.line declaring.scope declaring.tail
+        (map declared_of declarations.old.items) false (symbols_of names.now)
+        ≡ Some (map declared_of declarations.new.items)) }
+    ensures bad { IfErr result (λ e. e ≢ OutOfMemory → e ≡ BadLine declaring.line) }
+    ensures none { IfErr result (λ e. e ≢ OutOfMemory
+        → declared_from declaring.line declaring.scope declaring.tail
+        (map declared_of declarations.old.items) false (symbols_of names.now) ≡ None) }
+{
     let mut after_name = false;
     for token in names {
-        if after_name {
-            if !is_mark(*token, Mark::Comma) {
-                return Err(TextFault::BadLine { line });
-            }
-            after_name = false;
-        } else {
-            let Some(name) = name_of(*token) else {
-                return Err(TextFault::BadLine { line });
-            };
-            declarations.push(Declaration {
-                line,
-                scope,
-                name,
-                kind: tail.kind,
-                initial: tail.initial,
-            })?;
-            after_name = true;
-        }
+        after_name = declare_token(declarations, *token, after_name, declaring)?;
     }
     if after_name {
         Ok(())
     } else {
-        Err(TextFault::BadLine { line })
+        Err(TextFault::BadLine {
+            line: declaring.line,
+        })
     }
+}
+
+/// Takes one token of a list of names, and says whether it was a name.
+#[tactic(auto, using(crate::proofs::ListingLemmas::declare_rules))]
+fn declare_token<'a>(
+    declarations: &mut Vec<Declaration<'a>>,
+    token: Token<'a>,
+    after_name: bool,
+    declaring: Declaring,
+) -> Result<bool, TextFault>
+    ensures ok { IfOk result (λ after. (ss : List Symbol)
+        → declared_from declaring.line declaring.scope declaring.tail
+        (map declared_of declarations.old.items) after_name (symbol_of token.entry ∷ ss)
+        ≡ declared_from declaring.line declaring.scope declaring.tail
+        (map declared_of declarations.new.items) after ss) }
+    ensures bad { IfErr result (λ e. e ≢ OutOfMemory → e ≡ BadLine declaring.line) }
+    ensures none { IfErr result (λ e. e ≢ OutOfMemory → (ss : List Symbol)
+        → declared_from declaring.line declaring.scope declaring.tail
+        (map declared_of declarations.old.items) after_name (symbol_of token.entry ∷ ss) ≡ None) }
+{
+    let line = declaring.line;
+    if after_name {
+        if is_mark(token, Mark::Comma) {
+            return Ok(false);
+        }
+        return Err(TextFault::BadLine { line });
+    }
+    let Some(name) = name_of(token) else {
+        return Err(TextFault::BadLine { line });
+    };
+    declarations.push(Declaration {
+        line,
+        scope: declaring.scope,
+        name,
+        kind: declaring.tail.kind,
+        initial: declaring.tail.initial,
+    })?;
+    Ok(true)
 }

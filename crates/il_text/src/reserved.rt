@@ -21,6 +21,15 @@ pub(crate) enum Reserved {
     Other,
 }
 
+impl Reserved {
+    /// Whether two reserved words are the same.
+    pub(crate) fn is(self, other: Reserved) -> bool
+        ensures { result ≡ spec.same_word self other }
+    {
+        self as u8 == other as u8
+    }
+}
+
 #[tactic(auto, unfolding(crate::specs::Words::reserved_of))]
 /// The reserved word that a word is, if it is one.
 pub(crate) fn reserved_word(word: &str) -> Option<Reserved>

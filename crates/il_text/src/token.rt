@@ -1,5 +1,6 @@
 // The tokens of a text.
-ghost use Rattle.std.specs.Prelude.{◌≡◌};
+ghost use Rattle.std.specs.Prelude.{◌≡◌, ◌==◌};
+ghost use Rattle.il_text.specs.Forms.{mark_number};
 
 use crate::reserved::Reserved;
 
@@ -14,6 +15,15 @@ pub(crate) enum Mark {
     Open,
     Close,
     Ampersand,
+}
+
+impl Mark {
+    /// Whether two marks are the same.
+    pub(crate) fn is(self, other: Mark) -> bool
+        ensures { result ≡ (mark_number self == mark_number other) }
+    {
+        self as u8 == other as u8
+    }
 }
 
 /// A token; a name is a slice of the text.

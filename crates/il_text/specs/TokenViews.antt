@@ -1,0 +1,24 @@
+-- The plain data that tokens and pieces of the code stand for.
+use Rattle.std.specs.Prelude.{List, map}
+use Rattle.il_text.specs.Symbols.{Symbol, name, reserved_word, truth, other_literal, mark_symbol, Piece, blank, line_end, token, bad_token, bad_literal}
+use Rattle.il_text.specs.declared.token.Token.{Token}
+use Rattle.il_text.specs.declared.token.Token.TheVariants as t
+use Rattle.il_text.specs.declared.lexeme.Lexeme.{Lexeme}
+use Rattle.il_text.specs.declared.lexeme.Lexeme.TheVariants as x
+
+abbrev pub symbol_of : Token → Symbol
+symbol_of (t.Name n) = name n.now
+symbol_of (t.Reserved r) = reserved_word r
+symbol_of (t.Truth b) = truth b
+symbol_of t.Literal = other_literal
+symbol_of (t.Mark m) = mark_symbol m
+
+abbrev pub symbols_of : List Token → List Symbol
+symbols_of = map symbol_of
+
+abbrev pub piece_of : Lexeme → Piece
+piece_of x.Blank = blank
+piece_of x.LineEnd = line_end
+piece_of (x.Token k) = token (symbol_of k)
+piece_of x.BadToken = bad_token
+piece_of x.BadLiteral = bad_literal
