@@ -1,3 +1,4 @@
+pub mod CutLemmas
 pub mod Lists
 pub mod ListingLemmas
 pub mod LiteralLemmas

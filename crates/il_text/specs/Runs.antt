@@ -1,5 +1,8 @@
 -- What the private functions find.
-use Rattle.std.specs.Prelude.{◌≡◌, ◌<◌, ◌≤◌, ◌-◌, ◌^◌, ℕ, true, false, List, length, slice_index, Option, option_map, min}
+use Rattle.std.specs.Prelude.{◌≡◌, ◌<◌, ◌≤◌, ◌+◌, ◌-◌, ◌^◌, ◌==◌, ◌&&◌, not, Bool, ℕ, true, false, List, ◌∷◌, length, drop, slice_index, slice_range, Option, option_map, min}
+use Rattle.std.specs.Char.{to_ascii_uppercase}
+use Rattle.std.specs.Str.{byte}
+use Rattle.il_text.specs.Pieces.{pieces, blanked}
 use Rattle.il_text.specs.Characters.{linked}
 use Rattle.il_text.specs.Literals.{Signed}
 
@@ -16,3 +19,14 @@ capped = option_map (λ n. min n (2 ^ 32))
 
 abbrev pub capped_signed : Option Signed → Option Signed
 capped_signed = option_map (λ z. (z.0, min z.1 (2 ^ 32)))
+
+-- `&N` stands here, with nothing that would make a longer word of the `N`
+unfoldable pub is_negated_and : List ℕ → ℕ → Bool
+is_negated_and bytes at =
+    slice_index bytes at == byte "&" && to_ascii_uppercase (slice_index bytes (at + 1)) == byte "N"
+    && not (linked (slice_index bytes (at + 1)) (slice_index bytes (at + 2)))
+
+-- the first piece from start on ends at end
+abbrev pub IsPiece : List ℕ → ℕ → ℕ → Type 0
+IsPiece bytes start end =
+    pieces (blanked false (drop start bytes)) ≡ slice_range bytes start end ∷ pieces (blanked false (drop end bytes))

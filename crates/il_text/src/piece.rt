@@ -1,7 +1,7 @@
 // Where the pieces of a text and its comments end.
 ghost use Rattle.std.specs.Prelude.{◌≡◌, ◌+◌, ◌-◌, ◌<◌, ◌≤◌, ◌∷◌, true, false, length, drop, slice_index, slice_range};
 ghost use Rattle.il_text.specs.Pieces as spec;
-ghost use Rattle.il_text.specs.Runs.{IsRun};
+ghost use Rattle.il_text.specs.Runs.{IsRun, IsPiece, is_negated_and};
 
 use crate::character::{byte_at, is_linked};
 
@@ -49,24 +49,25 @@ fn run_end(bytes: &[u8], start: usize) -> usize
 }
 
 /// Whether `&N` stands here, where no letter, digit, `_` or `#` follows.
+#[tactic(auto, unfolding(crate::specs::Runs::is_negated_and))]
 fn is_negated_and(bytes: &[u8], at: usize) -> bool
     requires { at < length bytes.now }
-    ensures room { result ≡ true → at + 2 ≤ length bytes.now }
-    ensures negated { result ≡ true → slice_index bytes.now (at + 1) < 128 }
+    ensures { result ≡ is_negated_and bytes.now at }
 {
-    if bytes[at] != b'&' || bytes.len() - at < 2 || bytes[at + 1].to_ascii_uppercase() != b'N' {
-        return false;
-    }
-    !is_linked(bytes[at + 1], byte_at(bytes, at + 2))
+    bytes[at] == b'&'
+        && byte_at(bytes, at + 1).to_ascii_uppercase() == b'N'
+        && !is_linked(byte_at(bytes, at + 1), byte_at(bytes, at + 2))
 }
 
-#[tactic(auto, using(crate::proofs::PieceLemmas::run_ascii))]
-/// The end of the piece that begins here.
+/// The end of the piece that begins here, where no comment does.
+#[tactic(auto, using(crate::proofs::CutLemmas::piece_rules))]
 pub(crate) fn piece_end(bytes: &[u8], start: usize) -> usize
-    requires { start < length bytes.now }
+    requires within { start < length bytes.now }
+    requires plain { spec.opens (drop start bytes.now) ≡ false }
     ensures after { start < result }
     ensures within { result ≤ length bytes.now }
     ensures ascii { slice_index bytes.now start < 128 → slice_index bytes.now (result - 1) < 128 }
+    ensures piece { IsPiece bytes.now start result }
 {
     if is_negated_and(bytes, start) {
         return start + 2;
