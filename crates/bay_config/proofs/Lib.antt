@@ -1,5 +1,9 @@
 pub mod BayLemmas
 pub mod KeyLemmas
+pub mod LawLemmas
 pub mod NodeLemmas
+pub mod NumberLemmas
+pub mod PathLemmas
 pub mod PointLemmas
 pub mod SwitchLemmas
+pub mod TreeLemmas

@@ -2,6 +2,7 @@ pub mod Bay
 pub mod Code
 pub mod Gives
 pub mod Key
+pub mod Laws
 pub mod Node
 pub mod NodeRows
 pub mod Point

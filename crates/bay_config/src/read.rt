@@ -1,8 +1,9 @@
 // Reads a bay.
-ghost use Rattle.std.specs.Prelude.{map};
+ghost use Rattle.std.specs.Prelude.{IfOk};
 ghost use Rattle.toml.specs.View.{table_view};
-ghost use Rattle.bay_config.specs.Bay.{sections, bay_of_table, bay_of};
+ghost use Rattle.bay_config.specs.Bay.{bay_of_table, bay_of};
 ghost use Rattle.bay_config.specs.Gives.{Gives};
+ghost use Rattle.bay_config.specs.Laws.{IsBay};
 
 use crate::bay::Bay;
 use crate::fault::BayFault;
@@ -15,7 +16,8 @@ use toml::Table;
 
 /// The bay of a file's table.
 fn bay_from(alloc: Global, file: &Table) -> Result<Bay, BayFault>
-    ensures { Gives result (bay_of_table (table_view file.now)) }
+    ensures read { Gives result (bay_of_table (table_view file.now)) }
+    ensures sound { IfOk result IsBay }
 {
     check_keys(file, &["bay", "switch"])?;
     let nameplate = nameplate_at(alloc, file)?;
@@ -37,7 +39,9 @@ fn bay_from(alloc: Global, file: &Table) -> Result<Bay, BayFault>
 
 /// Reads a bay from the text of its file, or says why the text is none.
 pub fn read_bay(alloc: Global, text: &str) -> Result<Bay, BayFault>
-    ensures { Gives result (bay_of text.now) }
+    // The bay that the text describes, or its first refusal, unless memory ran out.
+    ensures read { Gives result (bay_of text.now) }
+    ensures sound { IfOk result IsBay }
 {
     match toml::table_from_str(alloc, text) {
         Ok(file) => match bay_from(alloc, &file) {
