@@ -1,0 +1,5 @@
+pub mod KindLemmas
+pub mod PieceLemmas
+pub mod ReadLemmas
+pub mod SentLemmas
+pub mod WordLemmas

@@ -1,0 +1,117 @@
+-- Lemmas on the lines of a text and its parts.
+use Rattle.std.proofs.Common.{◌≡◌, ℕ, zero, suc, ◌+◌, ◌-◌, ◌<◌, ◌≤◌, Bool, true, false, cond, List, [], ◌∷◌, ◌++◌, length, take, drop, get_or, map, refl, ap, sym, ◌∙◌, arith, append_assoc, append-nil, length-append, Option, None, Some, option_map, take-append-drop}
+use Rattle.std.proofs.Math.Seq.{take-append_seam}
+use Rattle.std.specs.List.{onto_first, concat}
+use Rattle.bay_main.specs.Scenario.{is_line_feed, pieces, content, CutsLine, is_separator, part_of, lines_of}
+
+feed_first : (b : ℕ) (bs : List ℕ) → is_line_feed b ≡ true → pieces (b ∷ bs) ≡ (b ∷ []) ∷ pieces bs
+feed_first b bs e = ap (λ v. cond v ((b ∷ []) ∷ pieces bs) (onto_first b (pieces bs))) e
+
+other_first : (b : ℕ) (bs : List ℕ) → is_line_feed b ≡ false → pieces (b ∷ bs) ≡ onto_first b (pieces bs)
+other_first b bs e = ap (λ v. cond v ((b ∷ []) ∷ pieces bs) (onto_first b (pieces bs))) e
+
+last_alone : (b : ℕ) (v : Bool) → cond v ((b ∷ []) ∷ []) (onto_first b []) ≡ (b ∷ []) ∷ []
+last_alone b true = refl
+last_alone b false = refl
+
+-- the first line feed, or the end, closes the first line
+pub pieces_at : (xs : List ℕ) (n : ℕ) → suc n ≤ length xs
+    → ((k : ℕ) → k < n → is_line_feed (get_or xs k 0) ≡ false)
+    → (suc n < length xs → is_line_feed (get_or xs n 0) ≡ true)
+    → pieces xs ≡ take (suc n) xs ∷ pieces (drop (suc n) xs)
+pieces_at [] n w f t = absurd (omega arith)
+pieces_at (b ∷ []) zero w f t = last_alone b (is_line_feed b)
+pieces_at (b ∷ c ∷ cs) zero w f t = feed_first b (c ∷ cs) (t (omega arith))
+pieces_at (b ∷ []) (suc n) w f t = absurd (omega arith)
+pieces_at (b ∷ c ∷ cs) (suc n) w f t =
+    other_first b (c ∷ cs) (f 0 (omega arith))
+    ∙ ap (onto_first b) (pieces_at (c ∷ cs) n (omega arith) (λ k h. f (suc k) (omega arith)) (λ h. t (omega arith)))
+
+pub cuts_line : (xs line : List ℕ) (n : ℕ) → 0 < n → n ≤ length xs
+    → ((k : ℕ) → k + 1 < n → is_line_feed (get_or xs k 0) ≡ false)
+    → (n < length xs → is_line_feed (get_or xs (n - 1) 0) ≡ true)
+    → line ≡ content (take n xs) → CutsLine xs line (drop n xs)
+cuts_line xs line zero some w f t e = absurd (omega arith)
+cuts_line xs line (suc n) some w f t e =
+    record {
+      piece = take (suc n) xs;
+      whole = sym (take-append-drop (suc n) xs);
+      first = pieces_at xs n w (λ k h. f k (omega arith)) (λ h. let same : suc n - 1 ≡ n = omega arith in ap (λ m. is_line_feed (get_or xs m 0)) (sym same) ∙ t h);
+      line_is = e;
+    }
+
+concat-onto_first : (b : ℕ) (ps : List (List ℕ)) → concat (onto_first b ps) ≡ b ∷ concat ps
+concat-onto_first b [] = refl
+concat-onto_first b (p ∷ ps) = refl
+
+concat_step : (b : ℕ) (bs : List ℕ) (v : Bool) → concat (pieces bs) ≡ bs → concat (cond v ((b ∷ []) ∷ pieces bs) (onto_first b (pieces bs))) ≡ b ∷ bs
+concat_step b bs true h = ap (λ l. b ∷ l) h
+concat_step b bs false h = concat-onto_first b (pieces bs) ∙ ap (λ l. b ∷ l) h
+
+-- the lines with their ends are the text
+pub concat-pieces : (bs : List ℕ) → concat (pieces bs) ≡ bs
+concat-pieces [] = refl
+concat-pieces (b ∷ bs) = concat_step b bs (is_line_feed b) (concat-pieces bs)
+
+pub lines_of-cut : (xs line rest : List ℕ) → CutsLine xs line rest → lines_of xs ≡ line ∷ lines_of rest
+lines_of-cut xs line rest c = ap (map content) c.first ∙ ap (λ l. l ∷ lines_of rest) (sym c.line_is)
+
+-- a part goes on with what was taken before it
+abbrev pub after : List ℕ → Option (List ℕ × List ℕ) → Option (List ℕ × List ℕ)
+after before parts = option_map (λ p. (before ++ p.0, p.1)) parts
+
+pub after-nil : (parts : Option (List ℕ × List ℕ)) → parts ≡ after [] parts
+after-nil None = refl
+after-nil (Some p) = refl
+
+after-after : (xs ys : List ℕ) (parts : Option (List ℕ × List ℕ)) → after xs (after ys parts) ≡ after (xs ++ ys) parts
+after-after xs ys None = refl
+after-after xs ys (Some p) = ap (λ l. Some (l, p.1)) (sym (append_assoc xs ys p.0))
+
+separator_first : (before piece rest : List ℕ) → is_separator (content piece) ≡ true → after before (part_of (piece ∷ pieces rest)) ≡ Some (before, rest)
+separator_first before piece rest e =
+    ap (λ w. after before (cond w (Some ([], concat (pieces rest))) (after piece (part_of (pieces rest))))) e
+    ∙ ap (λ l. Some (before ++ [], l)) (concat-pieces rest) ∙ ap (λ l. Some (l, rest)) (append-nil before)
+
+other_line_first : (before piece rest : List ℕ) → is_separator (content piece) ≡ false
+    → after before (part_of (piece ∷ pieces rest)) ≡ after (before ++ piece) (part_of (pieces rest))
+other_line_first before piece rest e =
+    ap (λ w. after before (cond w (Some ([], concat (pieces rest))) (after piece (part_of (pieces rest))))) e
+    ∙ after-after before piece (part_of (pieces rest))
+
+-- the lines before the rest are no separators
+pub record PartSoFar (text rest : List ℕ) (taken : ℕ) : Type 0 where
+  pub before : List ℕ
+  pub whole : text ≡ before ++ rest
+  pub counted : length before ≡ taken
+  pub parts : part_of (pieces text) ≡ after before (part_of (pieces rest))
+
+pub PartSoFar-start : (text : List ℕ) → PartSoFar text text 0
+PartSoFar-start text = record { before = []; whole = refl; counted = refl; parts = after-nil (part_of (pieces text)) }
+
+pub PartSoFar-step : (text rest line next : List ℕ) (taken : ℕ) → PartSoFar text rest taken → CutsLine rest line next → is_separator line ≡ false
+    → PartSoFar text next (taken + (length rest - length next))
+PartSoFar-step text rest line next taken p c e =
+    record {
+      before = p.before ++ c.piece;
+      whole = p.whole ∙ ap (λ l. p.before ++ l) c.whole ∙ sym (append_assoc p.before c.piece next);
+      counted = omega (arith, p.counted, length-append p.before c.piece, ap length c.whole, length-append c.piece next);
+      parts = p.parts ∙ ap (λ ps. after p.before (part_of ps)) c.first ∙ other_line_first p.before c.piece next (ap is_separator (sym c.line_is) ∙ e);
+    }
+
+pub PartSoFar-end : (text rest line next : List ℕ) (taken : ℕ) → PartSoFar text rest taken → CutsLine rest line next → is_separator line ≡ true
+    → part_of (pieces text) ≡ Some (take taken text, next)
+PartSoFar-end text rest line next taken p c e =
+    let front : take taken text ≡ p.before = ap (λ n. take n text) (sym p.counted) ∙ ap (take (length p.before)) p.whole ∙ take-append_seam p.before rest in
+    p.parts ∙ ap (λ ps. after p.before (part_of ps)) c.first ∙ separator_first p.before c.piece next (ap is_separator (sym c.line_is) ∙ e)
+    ∙ ap (λ l. Some (l, next)) (sym front)
+
+pub PartSoFar-none : (text rest : List ℕ) (taken : ℕ) → PartSoFar text rest taken → length rest ≡ 0 → part_of (pieces text) ≡ None
+PartSoFar-none text [] taken p e = p.parts
+PartSoFar-none text (b ∷ rest) taken p e = absurd (omega arith)
+
+pub PartSoFar-length : (text rest : List ℕ) (taken : ℕ) → PartSoFar text rest taken → taken + length rest ≡ length text
+PartSoFar-length text rest taken p = omega (arith, p.counted, ap length p.whole, length-append p.before rest)
+
+pub CutsLine-length : (text line rest : List ℕ) → CutsLine text line rest → length rest ≤ length text
+CutsLine-length text line rest c = omega (arith, ap length c.whole, length-append c.piece rest)

@@ -1,0 +1,82 @@
+-- Lemmas on the words and numbers of a line.
+use Rattle.std.proofs.Common.{◌≡◌, ◌≢◌, ℕ, suc, ◌+◌, ◌<◌, ◌^◌, ◌&&◌, Bool, true, false, cond, eqb, nat_lt, List, [], ◌∷◌, length, get_or, Option, None, Some, Result, Ok, Err, MatchOption, Bor, refl, ap, sym, ◌∙◌, arith}
+use Rattle.std.proofs.lemmas.Bool.Decides.{nat_tests}
+use Rattle.std.proofs.lemmas.List.Splits.{slice_split-cons_no, slice_split_first}
+use Rattle.std.proofs.lemmas.Str.Pattern.{IsSplitOnceResult, split_parts, split_once_first}
+use Rattle.std.proofs.lemmas.Str.Parse.{IsNumeralModel, numerals_by_value, tells_all_ascii_digits}
+use Rattle.std.specs.List.{slice_split, list_all, before_first, after_first, onto_first}
+use Rattle.std.specs.Char.{is_ascii_digit}
+use Rattle.std.specs.Str.{all_ascii_digits}
+use Rattle.std.specs.Str.Parse.{digits_value}
+use Rattle.std.specs.Str.{bytes_eq, is_utf8, IsUtf8}
+use Rattle.std.proofs.lemmas.Str.{IsUtf8-from_is_utf8, is_utf8-from_IsUtf8}
+use Rattle.std.proofs.Common.{codes}
+use Rattle.bay_main.specs.Trace.{LineData, is_space, rest_words, number_of, contact_of, event_of, words_line, trace_line_of}
+
+not_space : (b : ℕ) → b ≢ 32 → is_space b ≡ false
+not_space b h = grind (arith, nat_tests)
+
+-- a text without a space is one word
+pub one_word : (bs : List ℕ) → ((i : ℕ) → i < length bs → get_or bs i 0 ≢ 32) → slice_split is_space bs ≡ bs ∷ []
+one_word [] h = refl
+one_word (b ∷ bs) h =
+    slice_split-cons_no is_space b bs (not_space b (h 0 (omega arith))) ∙ ap (onto_first b) (one_word bs (λ i l. h (suc i) (omega arith)))
+
+pub digits_all : (bs : List ℕ) → list_all is_ascii_digit bs ≡ all_ascii_digits bs
+digits_all [] = refl
+digits_all (b ∷ bs) = ap (λ v. is_ascii_digit b && v) (digits_all bs)
+
+-- decimal digits as the standard library reads them
+pub digits : IsNumeralModel (λ ds. all_ascii_digits ds ≡ true) (digits_value 10)
+digits = numerals_by_value _ tells_all_ascii_digits
+
+-- digits that write no number below 2 ^ 64
+pub number_of-none : (bs : List ℕ) → all_ascii_digits bs ≡ true → ¬ ((0 < length bs) × (digits_value 10 bs < 2 ^ 64)) → number_of bs ≡ None
+number_of-none bs all none = by_tests (nat_lt 0 (length bs)) (nat_lt (digits_value 10 bs) (2 ^ 64)) refl refl
+  where
+    by_tests : (v w : Bool) → nat_lt 0 (length bs) ≡ v → nat_lt (digits_value 10 bs) (2 ^ 64) ≡ w → number_of bs ≡ None
+    by_tests false w e f = rw (all, e)
+    by_tests true false e f = rw (all, e, f)
+    by_tests true true e f = absurd (none (grind (arith, nat_tests), grind (arith, nat_tests)))
+
+-- a list that isn't empty
+abbrev HasFirst : List (List ℕ) → Type 0
+HasFirst ps = (w : List ℕ) × (ws : List (List ℕ)) × (ps ≡ w ∷ ws)
+
+some_first : (b : ℕ) (ps : List (List ℕ)) (v : Bool) → HasFirst (cond v ([] ∷ ps) (onto_first b ps))
+some_first b ps true = ([], ps, refl)
+some_first b [] false = (b ∷ [], [], refl)
+some_first b (p ∷ ps) false = (b ∷ p, ps, refl)
+
+some_word : (bs : List ℕ) → HasFirst (slice_split is_space bs)
+some_word [] = ([], [], refl)
+some_word (b ∷ bs) = some_first b (slice_split is_space bs) (is_space b)
+
+-- more words than an id and a position
+pub contact_of-more : (id position bs : List ℕ) (m : ℕ) → contact_of (id ∷ position ∷ slice_split is_space bs) m ≡ None
+contact_of-more id position bs m = let h = some_word bs in ap (λ ws. contact_of (id ∷ position ∷ ws) m) h.2
+
+pub event_of-more : (word bs : List ℕ) (m : ℕ)
+    → event_of word (slice_split is_space bs) m ≡ cond (bytes_eq word (codes "contact")) (contact_of (slice_split is_space bs) m) None
+event_of-more word bs m =
+    let h = some_word bs in
+    ap (λ ws. event_of word ws m) h.2 ∙ ap (λ ws. cond (bytes_eq word (codes "contact")) (contact_of ws m) None) (sym h.2)
+
+is_utf8_false : (bs : List ℕ) → ¬ (IsUtf8 bs) → is_utf8 bs ≡ false
+is_utf8_false bs bad = by_test (is_utf8 bs) refl
+  where
+    by_test : (v : Bool) → is_utf8 bs ≡ v → v ≡ false
+    by_test true e = absurd (bad (IsUtf8-from_is_utf8 bs e))
+    by_test false e = refl
+
+pub trace_line_of-text : (bs : List ℕ) → eqb (length bs) 0 ≡ false → IsUtf8 bs → trace_line_of bs ≡ words_line (slice_split is_space bs)
+trace_line_of-text [] e text = absurd (grind (arith, nat_tests))
+trace_line_of-text (b ∷ bs) e text = ap (λ v. cond v (words_line (slice_split is_space (b ∷ bs))) None) (is_utf8-from_IsUtf8 (b ∷ bs) text)
+
+pub trace_line_of-no_text : (bs : List ℕ) → eqb (length bs) 0 ≡ false → ¬ (IsUtf8 bs) → trace_line_of bs ≡ None
+trace_line_of-no_text [] e bad = absurd (grind (arith, nat_tests))
+trace_line_of-no_text (b ∷ bs) e bad = ap (λ v. cond v (words_line (slice_split is_space (b ∷ bs))) None) (is_utf8_false (b ∷ bs) bad)
+
+pub contact_of-extra : (text id next digit more : List ℕ) (m : ℕ) → slice_split is_space text ≡ id ∷ slice_split is_space next → slice_split is_space next ≡ digit ∷ slice_split is_space more
+    → contact_of (slice_split is_space text) m ≡ None
+contact_of-extra text id next digit more m e f = ap (λ ws. contact_of ws m) (e ∙ ap (λ ws. id ∷ ws) f) ∙ contact_of-more id digit more m

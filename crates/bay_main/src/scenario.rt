@@ -1,0 +1,87 @@
+// The parts of a scenario, and its lines.
+ghost use Rattle.std.specs.Prelude.{◌≡◌, ◌+◌, ◌-◌, ◌<◌, ◌≤◌, ℕ, true, false, length, slice_index, option_map, IfSome};
+ghost use Rattle.bay_main.specs.Scenario.{is_line_feed, pieces, content, is_separator, part_of, scenario_of, CutsLine};
+ghost use Rattle.bay_main.specs.ScenarioView.{scenario_view};
+
+/// The three parts of a scenario, as they stand in it.
+#[derive(Clone, Copy)]
+pub struct Scenario<'a> {
+    /// The bay file.
+    pub bay: &'a [u8],
+    /// The Instruction List program.
+    pub logic: &'a [u8],
+    /// The contact changes and scans, a line each.
+    pub trace: &'a [u8],
+}
+
+/// How many octets the first line takes, with its line feed.
+fn first_piece_len(text: &[u8]) -> usize
+    requires { 0 < length text.now }
+    ensures some { 0 < result }
+    ensures within { result ≤ length text.now }
+    ensures before { (k : ℕ) → k + 1 < result → is_line_feed (slice_index text.now k) ≡ false }
+    ensures at { result < length text.now → is_line_feed (slice_index text.now (result - 1)) ≡ true }
+{
+    match text.iter().position(|octet| *octet == b'\n') {
+        Some(at) => at + 1,
+        None => text.len(),
+    }
+}
+
+/// A line without its end, which is LF or CR LF.
+fn content(piece: &[u8]) -> &[u8]
+    ensures { result.now ≡ content piece.now }
+{
+    let Some(line) = piece.strip_suffix(b"\n") else {
+        return piece;
+    };
+    match line.strip_suffix(b"\r") {
+        Some(line) => line,
+        None => line,
+    }
+}
+
+/// The first line without its end, and what follows it.
+pub fn cut_line(text: &[u8]) -> (&[u8], &[u8])
+    requires { 0 < length text.now }
+    ensures cuts { CutsLine text.now result.0.now result.1.now }
+    ensures shorter { length result.1.now < length text.now }
+{
+    let (piece, rest) = text.split_at(first_piece_len(text));
+    (content(piece), rest)
+}
+
+/// Whether the line parts a scenario.
+fn is_separator(line: &[u8]) -> bool
+    ensures { result ≡ is_separator line.now }
+{
+    line == b"%%".as_slice()
+}
+
+/// What stands before the first line that is `%%`, and what follows that line.
+fn cut_part(text: &[u8]) -> Option<(&[u8], &[u8])>
+    ensures part { option_map (λ p. (p.0.now, p.1.now)) result ≡ part_of (pieces text.now) }
+    ensures within { IfSome result (λ p. length p.1.now ≤ length text.now) }
+{
+    let mut rest = text;
+    let mut taken = 0;
+    while !rest.is_empty() {
+        let (line, after) = cut_line(rest);
+        if is_separator(line) {
+            return Some((&text[..taken], after));
+        }
+        taken += rest.len() - after.len();
+        rest = after;
+    }
+    None
+}
+
+/// The parts of a scenario, or None where one of the two lines `%%` is missing.
+pub fn cut_scenario(text: &[u8]) -> Option<Scenario<'_>>
+    ensures parts { option_map scenario_view result ≡ scenario_of text.now }
+    ensures within { IfSome result (λ s. length s.trace.now ≤ length text.now) }
+{
+    let (bay, rest) = cut_part(text)?;
+    let (logic, trace) = cut_part(rest)?;
+    Some(Scenario { bay, logic, trace })
+}
