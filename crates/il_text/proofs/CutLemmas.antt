@@ -247,7 +247,7 @@ negated_cut bs s w h =
     let two : (s + 1) + 1 ≡ s + 2 = omega arith in
     let run : IsRun bs (s + 1) (s + 2) = record { after = omega arith; within = omega arith; inner = λ k a b. absurd (omega arith); last = rw before t.2 } in
     let after : IsPiece bs (s + 1) (s + 2) =
-        run_cut zero bs (s + 1) (s + 2) (omega arith) run (not_open bs (s + 1) (upper-open n up)) (not_N n (cut_at bs ((s + 1) + 1)) (upper-and n up)) in
+    run_cut zero bs (s + 1) (s + 2) (omega arith) run (not_open bs (s + 1) (upper-open n up)) (not_N n (cut_at bs ((s + 1) + 1)) (upper-and n up)) in
     let one : slice_range bs (s + 1) (s + 2) ≡ n ∷ [] = rw two at (range_one bs (s + 1) here) in
     let rest : cut_at bs (s + 1) ≡ (n ∷ []) ∷ cut_at bs (s + 2) = after ∙ ap (λ (p : List ℕ). p ∷ cut_at bs (s + 2)) one in
     let plain : x ≢ 40 = omega arith in
@@ -262,7 +262,7 @@ not_negated bs s h = false_of _ (λ e.
     let a = and_left (eqb (slice_index bs s) 38) _ e in
     let same : same_name (first_piece (cut_at bs (s + 1))) N ≡ true = and_right (eqb (slice_index bs s) 38) _ e in
     let stands : Stands (slice_index (first_piece (cut_at bs (s + 1))) 0) n =
-        rw (lead (blanked false (drop (s + 1) bs)), ← first_of_drop bs (s + 1)) (blanked_first (drop (s + 1) bs)) in
+    rw (lead (blanked false (drop (s + 1) bs)), ← first_of_drop bs (s + 1)) (blanked_first (drop (s + 1) bs)) in
     let up : to_ascii_uppercase n ≡ 78 = upper-stands _ n stands (N_upper _ same) in
     let two : (s + 1) + 1 ≡ s + 2 = omega arith in
     let l : linked n (slice_index bs (s + 2)) ≡ true = three_false (eqb (slice_index bs s) 38) (eqb (to_ascii_uppercase n) 78) _ h a (eq-eqb _ _ up) in

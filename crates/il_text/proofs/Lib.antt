@@ -1,4 +1,6 @@
 pub mod CutLemmas
+pub mod DurationLemmas
+pub mod LexemeLemmas
 pub mod Lists
 pub mod ListingLemmas
 pub mod LiteralLemmas

@@ -90,7 +90,7 @@ from_other radix value wanted ds i h d u = rw (front_of ds i h) (at_other radix 
 pub ruleset number_rules = (from_start, from_underscore, from_end, from_end_wanted, from_digit, from_other)
 
 -- the cap is past every bound
-leb_capped : (m b : ℕ) → b < 2 ^ 32 → leb (min m (2 ^ 32)) b ≡ leb m b
+pub leb_capped : (m b : ℕ) → b < 2 ^ 32 → leb (min m (2 ^ 32)) b ≡ leb m b
 leb_capped m b h = grind (arith, nat_tests)
 
 pub judged_capped : (below above : ℕ) (z : Option Signed) → below < 2 ^ 32 → above < 2 ^ 32 → judged below above (capped_signed z) ≡ judged below above z

@@ -1,6 +1,7 @@
 pub mod Characters
 pub mod Code
 pub mod Declaring
+pub mod Durations
 pub mod Forms
 pub mod Listing
 pub mod ListingViews

@@ -11,5 +11,8 @@ use Rattle.il_text.specs.declared.listing.Listing as code
 
 abbrev pub reached_of : code.Listing → Reached
 reached_of l =
-    record { place = l.place; instructions = l.instructions;
-    listing = record { name = l.name.now; declarations = map declared_of l.declarations.items; items = map entry_of l.items.items } }
+    record {
+      place = l.place;
+      instructions = l.instructions;
+      listing = record { name = l.name.now; declarations = map declared_of l.declarations.items; items = map entry_of l.items.items };
+    }

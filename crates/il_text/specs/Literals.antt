@@ -96,10 +96,9 @@ number_len w = prefix_len (λ x. is_ascii_digit x || is_underscore x) w
 abbrev pub unit_len : List ℕ → ℕ
 unit_len w = prefix_len is_ascii_alphabetic (drop (number_len w) w)
 
--- the number at the front: after the first part of a duration an `_` may stand before it
-abbrev pub part_number : Bool → List ℕ → Option ℕ
-part_number begun w =
-    if begun && is_underscore (slice_index w 0) then number 10 (drop 1 (take (number_len w) w)) else number 10 (take (number_len w) w)
+-- the number of a part: after the first part of a duration an `_` may stand before it
+abbrev pub number_of_part : Bool → List ℕ → Option ℕ
+number_of_part begun ds = if begun && is_underscore (slice_index ds 0) then number 10 (drop 1 ds) else number 10 ds
 
 abbrev pub with_part : ℕ → Duration → Option ℕ → Option Duration
 with_part factor d None = None
@@ -110,7 +109,7 @@ with_part factor d (Some n) =
 unfoldable pub part : List ℕ → ℕ → Duration → Option Duration
 part unit factor d =
     if same_name (take (unit_len d.rest) (drop (number_len d.rest) d.rest)) unit
-    then with_part factor d (part_number d.begun d.rest) else Some d
+    then with_part factor d (number_of_part d.begun (take (number_len d.rest) d.rest)) else Some d
 
 -- at least one part stands there, and nothing else
 unfoldable pub total_of : Duration → Option ℕ

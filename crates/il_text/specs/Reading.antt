@@ -49,8 +49,11 @@ pub record Reached : Type 0 where
 
 abbrev pub with_name : Reached → List ℕ → Reached
 with_name r n =
-    record { place = place.Declarations; instructions = r.instructions;
-    listing = record { name = n; declarations = r.listing.declarations; items = r.listing.items } }
+    record {
+      place = place.Declarations;
+      instructions = r.instructions;
+      listing = record { name = n; declarations = r.listing.declarations; items = r.listing.items };
+    }
 
 abbrev pub at_place : Place → Reached → Reached
 at_place p r = record { place = p; instructions = r.instructions; listing = r.listing }
@@ -60,13 +63,19 @@ declared_in line scope t n = record { line = line; scope = scope; name = n; kind
 
 abbrev pub with_declarations : ℕ → Scope → Reached → (List (List ℕ) × Tail) → Reached
 with_declarations line scope r d =
-    record { place = r.place; instructions = r.instructions;
-    listing = record { name = r.listing.name; declarations = r.listing.declarations ++ map (declared_in line scope d.1) d.0; items = r.listing.items } }
+    record {
+      place = r.place;
+      instructions = r.instructions;
+      listing = record { name = r.listing.name; declarations = r.listing.declarations ++ map (declared_in line scope d.1) d.0; items = r.listing.items };
+    }
 
 abbrev pub with_action : ℕ → Reached → Action → Reached
 with_action line r a =
-    record { place = place.Body; instructions = r.instructions + 1;
-    listing = record { name = r.listing.name; declarations = r.listing.declarations; items = r.listing.items ++ action line a ∷ [] } }
+    record {
+      place = place.Body;
+      instructions = r.instructions + 1;
+      listing = record { name = r.listing.name; declarations = r.listing.declarations; items = r.listing.items ++ action line a ∷ [] };
+    }
 
 -- A line too much. Where it is the last line, the text ends early there too, and that fault comes first.
 abbrev pub too_long : ℕ → ℕ → TextFault

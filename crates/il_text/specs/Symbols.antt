@@ -69,10 +69,14 @@ abbrev mark_piece : Option Mark → Piece
 mark_piece (Some m) = token (mark_symbol m)
 mark_piece None = bad_token
 
+-- LF, or CR LF
+abbrev pub is_line_end : List ℕ → Bool
+is_line_end p = bytes_eq p (10 ∷ []) || bytes_eq p (13 ∷ 10 ∷ [])
+
 unfoldable pub piece : List ℕ → Piece
 piece p =
     if is_blank (slice_index p 0) then blank
-    else if bytes_eq p (10 ∷ []) || bytes_eq p (13 ∷ 10 ∷ []) then line_end
+    else if is_line_end p then line_end
     else if begins_word (slice_index p 0) then word p
     else mark_piece (mark_of p)
 

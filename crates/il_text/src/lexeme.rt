@@ -1,6 +1,7 @@
 // What a piece of a text is: a blank, a line end, a token, or none.
 ghost use Rattle.std.specs.Prelude.{◌≡◌, ◌<◌, ◌≤◌, ◌-◌, length, slice_index, slice_range, option_map};
 ghost use Rattle.il_text.specs.Symbols as spec;
+ghost use Rattle.il_text.specs.TokenViews.{piece_of};
 
 use crate::character::{begins_name, begins_word, byte_at, is_blank};
 use crate::literal::{Judged, decimal, halves, prefixed, untyped};
@@ -21,7 +22,9 @@ pub(crate) enum Lexeme<'a> {
 /// The longest name, in characters.
 const MAX_NAME: usize = 64;
 
-fn judged<'a>(judged: Judged) -> Lexeme<'a> {
+fn judged<'a>(judged: Judged) -> Lexeme<'a>
+    ensures { piece_of result ≡ spec.judged_piece judged }
+{
     match judged {
         Judged::Fine => Lexeme::Token(Token::Literal),
         Judged::Malformed => Lexeme::BadToken,
@@ -30,7 +33,10 @@ fn judged<'a>(judged: Judged) -> Lexeme<'a> {
 }
 
 /// A word that begins with a letter or `_` and has no `#`.
-fn plain_word(word: &str) -> Lexeme<'_> {
+#[tactic(auto, unfolding(crate::specs::Symbols::plain_word))]
+fn plain_word(word: &str) -> Lexeme<'_>
+    ensures { piece_of result ≡ spec.plain_word word.now }
+{
     if same_name(word, "TRUE") {
         return Lexeme::Token(Token::Truth(true));
     }
@@ -48,7 +54,10 @@ fn plain_word(word: &str) -> Lexeme<'_> {
 }
 
 /// A name, a reserved word or a literal.
-fn word_lexeme(word: &str) -> Lexeme<'_> {
+#[tactic(auto, using(crate::proofs::LexemeLemmas::word_rules))]
+fn word_lexeme(word: &str) -> Lexeme<'_>
+    ensures { piece_of result ≡ spec.word word.now }
+{
     if let Some((before, after)) = halves(word) {
         return judged(prefixed(before, after));
     }
@@ -59,7 +68,10 @@ fn word_lexeme(word: &str) -> Lexeme<'_> {
     }
 }
 
-fn mark_of(piece: &[u8]) -> Option<Mark> {
+#[tactic(auto, unfolding(crate::specs::Symbols::mark_of))]
+fn mark_of(piece: &[u8]) -> Option<Mark>
+    ensures { result ≡ spec.mark_of piece.now }
+{
     match piece {
         b":" => Some(Mark::Colon),
         b":=" => Some(Mark::Assign),
@@ -73,11 +85,18 @@ fn mark_of(piece: &[u8]) -> Option<Mark> {
     }
 }
 
+fn is_line_end(piece: &[u8]) -> bool
+    ensures { result ≡ spec.is_line_end piece.now }
+{
+    matches!(piece, b"\n" | b"\r\n")
+}
+
 /// The piece of the text from start to end.
 pub(crate) fn lexeme_at(text: &str, start: usize, end: usize) -> Lexeme<'_>
     requires after { start < end }
     requires within { end ≤ length text.now }
     requires ascii { slice_index text.now start < 128 → slice_index text.now (end - 1) < 128 }
+    ensures { piece_of result ≡ spec.piece (slice_range text.now start end) }
 {
     let bytes = text.as_bytes();
     let first = bytes[start];
@@ -85,7 +104,7 @@ pub(crate) fn lexeme_at(text: &str, start: usize, end: usize) -> Lexeme<'_>
         return Lexeme::Blank;
     }
     let piece = &bytes[start..end];
-    if piece == b"\n".as_slice() || piece == b"\r\n".as_slice() {
+    if is_line_end(piece) {
         return Lexeme::LineEnd;
     }
     if begins_word(first) {

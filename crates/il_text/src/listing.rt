@@ -124,11 +124,7 @@ impl<'a> Listing<'a> {
     }
 
     #[tactic(auto, using(crate::proofs::ListingLemmas::body_rules), unfolding(crate::specs::Reading::body_line))]
-    fn take_body_line(
-        &mut self,
-        tokens: &[Token<'a>],
-        position: Position,
-    ) -> Result<(), TextFault>
+    fn take_body_line(&mut self, tokens: &[Token<'a>], position: Position) -> Result<(), TextFault>
         ensures ok { OnOk result (spec.body_line position.line position.last (reached_of self.old) (symbols_of tokens.now) ≡ Ok (reached_of self.new)) }
         ensures refused { IfErr result (λ e. e ≢ OutOfMemory → spec.body_line position.line position.last (reached_of self.old) (symbols_of tokens.now) ≡ Err e) }
     {

@@ -1,7 +1,8 @@
 // Numeric, truth and duration literals.
-ghost use Rattle.std.specs.Prelude.{◌≡◌, ◌≤◌, ◌<◌, ◌^◌, length, option_map, IfSome};
+ghost use Rattle.std.specs.Prelude.{◌≡◌, ◌≤◌, ◌<◌, ◌+◌, ◌*◌, ◌^◌, Option, length, min, option_map, option_and_then, IfSome};
 ghost use Rattle.std.specs.Char.{is_ascii_alphabetic};
 ghost use Rattle.std.specs.List.{prefix_len};
+ghost use Rattle.il_text.specs.Durations.{seen, capped_duration};
 ghost use Rattle.il_text.specs.Literals as spec;
 ghost use Rattle.il_text.specs.Runs.{capped, capped_signed};
 
@@ -156,8 +157,11 @@ fn typed_dint(word: &str) -> Judged
     judge(integer(word), 2_147_483_648, 2_147_483_647)
 }
 
+#[tactic(auto, using(crate::proofs::LiteralLemmas::untyped_capped), unfolding(crate::specs::Literals::prefixed))]
 /// Judges a literal with something before its first `#`.
-pub(crate) fn prefixed(before: &str, word: &str) -> Judged {
+pub(crate) fn prefixed(before: &str, word: &str) -> Judged
+    ensures { result ≡ spec.prefixed before.now word.now }
+{
     if same_name(before, "BOOL") {
         return typed_bool(word);
     }
@@ -199,18 +203,32 @@ fn letter_len(word: &[u8]) -> usize
     word.iter().take_while(|x| x.is_ascii_alphabetic()).count()
 }
 
-/// The number at the front of a part.
-fn part_number(digits: &[u8], begun: bool) -> Option<u64> {
+/// The number of a part; after the first part an `_` may stand before it.
+fn part_number(digits: &[u8], begun: bool) -> Option<u64>
+    ensures { result ≡ capped (spec.number_of_part begun digits.now) }
+{
     match digits {
         [b'_', rest @ ..] if begun => number(rest, 10),
         _ => number(digits, 10),
     }
 }
 
-/// Takes the part in this unit, if one stands first.
-fn part<'a>(duration: Duration<'a>, unit: &[u8], factor: u64) -> Option<Duration<'a>>
+fn add_capped(total: u64, number: u64, factor: u64) -> u64
     requires { factor < 2 ^ 31 }
+    ensures { result ≡ min (min total (2 ^ 32) + min number (2 ^ 32) * factor) (2 ^ 32) }
 {
+    (total.min(CAP) + number.min(CAP) * factor).min(CAP)
+}
+
+/// Takes the part in this unit, if one stands first.
+#[tactic(auto, using(crate::proofs::DurationLemmas::part_rules))]
+fn part<'a>(duration: Option<Duration<'a>>, unit: &[u8], factor: u64) -> Option<Duration<'a>>
+    requires some { 0 < factor }
+    requires small { factor < 2 ^ 31 }
+    ensures { (before : Option spec.Duration) → capped_duration before ≡ option_map seen duration.entry
+        → capped_duration (option_and_then (spec.part unit.now factor) before) ≡ option_map seen result }
+{
+    let duration = duration?;
     let (digits, tail) = duration.rest.split_at(number_len(duration.rest));
     let (letters, rest) = tail.split_at(letter_len(tail));
     if !same_letters(letters, unit) {
@@ -219,30 +237,38 @@ fn part<'a>(duration: Duration<'a>, unit: &[u8], factor: u64) -> Option<Duration
     let number = part_number(digits, duration.begun)?;
     Some(Duration {
         rest,
-        total: (duration.total.min(CAP) + number.min(CAP) * factor).min(CAP),
+        total: add_capped(duration.total, number, factor),
         begun: true,
     })
 }
 
-fn milliseconds(word: &[u8]) -> Option<u64> {
-    let duration = Duration {
+/// The milliseconds of a duration: parts in falling units, of which the first may pass the next unit.
+fn milliseconds(word: &[u8]) -> Option<u64>
+    ensures { result ≡ capped (spec.milliseconds word.now) }
+{
+    let whole = Duration {
         rest: word,
         total: 0,
         begun: false,
     };
-    let duration = part(duration, b"d", 86_400_000)?;
-    let duration = part(duration, b"h", 3_600_000)?;
-    let duration = part(duration, b"m", 60_000)?;
-    let duration = part(duration, b"s", 1_000)?;
-    let duration = part(duration, b"ms", 1)?;
-    if duration.begun && duration.rest.is_empty() {
-        Some(duration.total)
+    let days = part(Some(whole), b"d", 86_400_000);
+    let hours = part(days, b"h", 3_600_000);
+    let minutes = part(hours, b"m", 60_000);
+    let seconds = part(minutes, b"s", 1_000);
+    let Some(last) = part(seconds, b"ms", 1) else {
+        return None;
+    };
+    if last.begun && last.rest.is_empty() {
+        Some(last.total)
     } else {
         None
     }
 }
 
-fn typed_time(word: &[u8]) -> Judged {
+#[tactic(auto, using(crate::proofs::DurationLemmas::span_capped), unfolding(crate::specs::Literals::typed_time))]
+fn typed_time(word: &[u8]) -> Judged
+    ensures { result ≡ spec.typed_time word.now }
+{
     match milliseconds(word) {
         None => Judged::Malformed,
         Some(total) => {

@@ -1,0 +1,14 @@
+-- What the durations of the code stand for.
+use Rattle.std.specs.Prelude.{ℕ, ◌^◌, Option, option_map, min}
+use Rattle.il_text.specs.Literals.{Duration}
+use Rattle.il_text.specs.declared.literal.Duration as code
+
+abbrev pub seen : code.Duration → Duration
+seen d = record { rest = d.rest.now; total = d.total; begun = d.begun }
+
+-- totals past every bound count as one
+abbrev pub capped_one : Duration → Duration
+capped_one d = record { rest = d.rest; total = min d.total (2 ^ 32); begun = d.begun }
+
+abbrev pub capped_duration : Option Duration → Option Duration
+capped_duration = option_map capped_one
