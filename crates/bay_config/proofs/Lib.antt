@@ -1,6 +1,7 @@
 pub mod BayLemmas
 pub mod KeyLemmas
 pub mod LawLemmas
+pub mod NamedLemmas
 pub mod NodeLemmas
 pub mod NumberLemmas
 pub mod PathLemmas

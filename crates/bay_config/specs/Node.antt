@@ -1,5 +1,5 @@
 -- The logical nodes of switches (IEC 61850-7-4), as rows of the tree (IEC 61850-8-1, names of named variables).
-use Rattle.std.specs.Prelude.{ℕ, ◌+◌, pos, Bool, true, false, not, List, [], ◌∷◌, ◌++◌, map, filter, take, count_by, codes, Option, None, Some}
+use Rattle.std.specs.Prelude.{ℕ, ◌+◌, pos, Bool, true, false, not, List, [], ◌∷◌, ◌++◌, map, filter, take, length, codes, Option, None, Some}
 use Rattle.std.specs.List.{flat_map, enumerate_from}
 use Rattle.std.specs.Fmt.{decimal}
 use Rattle.bay_tree.specs.declared.row.Row.{Row}
@@ -109,6 +109,6 @@ nodes_of switches = position_nodes true switches ++ position_nodes false switche
 abbrev pub rows_of_all : List Switch → List Row
 rows_of_all switches = flat_map node_rows (nodes_of switches)
 
--- the place of a switch among the breakers or the other switches, from 1
+-- the number of the switch at a place: one more than there are of its class before it
 abbrev pub number_of : List Switch → Switch → ℕ → ℕ
-number_of switches s k = count_by (is_of (is_breaker s.kind)) (take (k + 1) switches)
+number_of switches s place = length (filter (is_of (is_breaker s.kind)) (take place switches)) + 1

@@ -1,7 +1,8 @@
 // The logical nodes of the switches, as rows of the tree.
-ghost use Rattle.std.specs.Prelude.{◌≡◌, ◌<◌, ◌++◌, ◌∷◌, [], length, codes, IfOk};
+ghost use Rattle.std.specs.Prelude.{◌≡◌, ◌<◌, ◌≤◌, filter, ◌++◌, ◌∷◌, [], length, codes, IfOk};
 ghost use Rattle.std.specs.List.{flat_map};
 ghost use Rattle.bay_config.specs.Node.{row, node_rows, position_parts, interlocking_parts, is_breaker, is_of, class_of, node_name, position_node, position_nodes, interlocking_nodes, rows_of_all};
+ghost use Rattle.bay_config.specs.Laws.{NamesPosition, NamesInterlocking};
 ghost use Rattle.bay_config.specs.NodeRows.{status_rows, type_rows};
 
 use crate::bay::{Bay, Switch, SwitchKind};
@@ -255,18 +256,37 @@ pub fn rows_of(alloc: Global, switches: &[Switch]) -> Result<Listing<Row>, Alloc
     Ok(Listing::new(rows))
 }
 
-/// The name of the node of the k-th switch, from 0: its class and its number, as `XCBR1` or `XSWI2`.
-pub fn node_name(alloc: Global, bay: &Bay, k: usize) -> Result<Text, AllocError>
-    requires exists { k < length bay.now.switches }
+/// How many of the switches are breakers, or are none.
+fn count_of(switches: &[Switch], breakers: bool) -> usize
+    ensures counted { result ≡ length (filter (is_of breakers) switches.now) }
+    ensures bounded { result ≤ length switches.now }
+{
+    switches
+        .iter()
+        .filter(|switch| is_of(breakers, switch))
+        .count()
+}
+
+/// The name of the logical node of the switch at a place of the bay's switches, from 0: XCBR for a
+/// breaker or XSWI for another switch, and its number among those, from 1 (IEC 61850-7-4).
+pub fn node_name(alloc: Global, bay: &Bay, place: usize) -> Result<Text, AllocError>
+    requires { place < length bay.now.switches }
+    ensures { IfOk result (NamesPosition bay.now place) }
 {
     let switches = bay.switches.as_slice();
-    let kind = switches[k].kind;
-    let mut number = 0usize;
-    for switch in &switches[..k + 1] {
-        if is_breaker(switch.kind) == is_breaker(kind) {
-            number += 1;
-        }
-    }
+    let kind = switches[place].kind;
     let class = class_of(kind);
+    let number = count_of(&switches[..place], is_breaker(kind)) + 1;
     Ok(Text::new(format!(in alloc; "{class}{number}")?))
+}
+
+/// The name of the logical node of the interlocking of the switch at a place of the bay's switches, from
+/// 0: CILO and the place's number, from 1 (IEC 61850-7-4).
+pub fn interlocking_name(alloc: Global, bay: &Bay, place: usize) -> Result<Text, AllocError>
+    requires { place < length bay.now.switches }
+    ensures { IfOk result (NamesInterlocking bay.now place) }
+{
+    let earlier = &bay.switches.as_slice()[..place];
+    let number = earlier.len() + 1;
+    Ok(Text::new(format!(in alloc; "CILO{number}")?))
 }

@@ -1,0 +1,115 @@
+-- The node of each switch is among the nodes of its bay.
+use Rattle.std.proofs.Common.{◌≡◌, ℕ, zero, suc, ◌+◌, ◌<◌, Bool, true, false, List, [], ◌∷◌, ◌++◌, length, map, filter, take, get_or, slice_get, Some, codes, All, Contains, refl, sym, ap, subst, ◌∙◌, arith}
+use Rattle.std.proofs.lemmas.List.{get_or-map, length-map}
+use Rattle.std.proofs.lemmas.List.Elements.{Contains-append_left, Contains-append_right, Contains-get_or}
+use Rattle.std.specs.List.{enumerate_from, flat_map}
+use Rattle.bay_tree.specs.declared.row.Row.{Row}
+use Rattle.bay_config.specs.declared.bay.Bay.{Bay}
+use Rattle.bay_config.specs.declared.bay.Switch.{Switch}
+use Rattle.bay_config.specs.Laws.{NamesPosition, NamesInterlocking}
+use Rattle.bay_config.specs.Node.{Node, node_rows, node_name, class_of, is_breaker, is_of, number_of, position_node, position_nodes, position_parts, interlocking_node, interlocking_nodes, interlocking_parts, nodes_of}
+
+Contains-cons : {X : Type 0} (y : X) (xs : List X) (x : X) → Contains xs x → Contains (y ∷ xs) x
+Contains-cons y xs x w = (suc w.0, omega (arith, w.1), w.2)
+
+Contains-map : {X Y : Type 0} (f : X → Y) (xs : List X) (x : X) → Contains xs x → Contains (map f xs) (f x)
+Contains-map f xs x w =
+    let long : length (map f xs) ≡ length xs = length-map xs f in
+    (w.0, omega (arith, w.1), get_or-map f xs w.0 x (f x) w.1 ∙ ap f w.2)
+
+-- each row of a node is among the rows of the nodes
+rows-among : (nodes : List Node) (node : Node) (r : Row) (k : ℕ) → k < length nodes → get_or nodes k node ≡ node → Contains (node_rows node) r → Contains (flat_map node_rows nodes) r
+rows-among [] node r k lt e at = absurd (omega arith)
+rows-among (n ∷ nodes) node r zero lt e at =
+    Contains-append_left (node_rows n) (flat_map node_rows nodes) r (subst (λ m. Contains (node_rows m) r) (sym e) at)
+rows-among (n ∷ nodes) node r (suc k) lt e at =
+    Contains-append_right (node_rows n) (flat_map node_rows nodes) r (rows-among nodes node r k (omega arith) e at)
+
+has-node : (nodes : List Node) (node : Node) → Contains nodes node → All (Contains (flat_map node_rows nodes)) (node_rows node)
+has-node nodes node w = λ k d lt. rows-among nodes node (get_or (node_rows node) k d) w.0 w.1 w.2 (Contains-get_or (node_rows node) k d lt)
+
+numbered-step : (b : Bool) (t : Switch) (ss : List Switch) (place : ℕ) (s : Switch) (n : ℕ) (c : Bool) → is_of b t ≡ c → ((m : ℕ) → Contains (enumerate_from m (filter (is_of b) ss)) (m + length (filter (is_of b) (take place ss)), s)) → Contains (enumerate_from n (filter (is_of b) (t ∷ ss))) (n + length (filter (is_of b) (t ∷ take place ss)), s)
+numbered-step b t ss place s n true e rest =
+    let more : n + 1 + length (filter (is_of b) (take place ss)) ≡ n + suc (length (filter (is_of b) (take place ss))) = omega arith in
+    rw e (subst (λ m. Contains ((n, t) ∷ enumerate_from (n + 1) (filter (is_of b) ss)) (m, s)) more (Contains-cons (n, t) (enumerate_from (n + 1) (filter (is_of b) ss)) (n + 1 + length (filter (is_of b) (take place ss)), s) (rest (n + 1))))
+numbered-step b t ss place s n false e rest =
+    rw e (rest n)
+
+numbered-first : (b : Bool) (t : Switch) (ss : List Switch) (n : ℕ) → is_of b t ≡ true → Contains (enumerate_from n (filter (is_of b) (t ∷ ss))) (n + 0, t)
+numbered-first b t ss n is =
+    let none : n + 0 ≡ n = omega arith in
+    rw is (0, omega arith, ap (λ m. (m, t)) (sym none))
+
+numbered-has : (b : Bool) (ss : List Switch) (place : ℕ) (s : Switch) (n : ℕ) → slice_get ss place ≡ Some s → is_of b s ≡ true → Contains (enumerate_from n (filter (is_of b) ss)) (n + length (filter (is_of b) (take place ss)), s)
+numbered-has b [] place s n here is = cc
+numbered-has b (t ∷ ss) zero s n here is =
+    let same : s ≡ t = cc in
+    subst (λ u. Contains (enumerate_from n (filter (is_of b) (t ∷ ss))) (n + 0, u)) (sym same) (numbered-first b t ss n (ap (is_of b) (sym same) ∙ is))
+numbered-has b (t ∷ ss) (suc place) s n here is =
+    numbered-step b t ss place s n (is_of b t) refl (λ m. numbered-has b ss place s m here is)
+
+enumerate-has : (ss : List Switch) (place n : ℕ) → place < length ss → (s : Switch) × Contains (enumerate_from n ss) (n + place, s)
+enumerate-has [] place n lt = absurd (omega arith)
+enumerate-has (t ∷ ss) zero n lt =
+    let none : n + 0 ≡ n = omega arith in
+    (t, (0, omega arith, ap (λ m. (m, t)) (sym none)))
+enumerate-has (t ∷ ss) (suc place) n lt =
+    let w = enumerate-has ss place (n + 1) (omega arith) in
+    let more : n + 1 + place ≡ n + suc place = omega arith in
+    (w.0, subst (λ m. Contains ((n, t) ∷ enumerate_from (n + 1) ss) (m, w.0)) more (Contains-cons (n, t) (enumerate_from (n + 1) ss) (n + 1 + place, w.0) w.1))
+
+among-class : (b : Bool) (ss : List Switch) (place : ℕ) (s : Switch) → slice_get ss place ≡ Some s → is_breaker s.kind ≡ b → Contains (position_nodes b ss) (position_node (length (filter (is_of b) (take place ss)) + 1, s))
+among-class b ss place s here e =
+    let count = length (filter (is_of b) (take place ss)) in
+    let more : 1 + count ≡ count + 1 = omega arith in
+    Contains-map position_node (enumerate_from 1 (filter (is_of b) ss)) (count + 1, s)
+    (subst (λ m. Contains (enumerate_from 1 (filter (is_of b) ss)) (m, s)) more (numbered-has b ss place s 1 here (is-own b s e)))
+  where
+    is-own : (b : Bool) (s : Switch) → is_breaker s.kind ≡ b → is_of b s ≡ true
+    is-own true s e = e
+    is-own false s e = rw e
+
+position-among : (b : Bool) (ss : List Switch) (place : ℕ) (s : Switch) → slice_get ss place ≡ Some s → is_breaker s.kind ≡ b → Contains (nodes_of ss) (position_node (length (filter (is_of b) (take place ss)) + 1, s))
+position-among true ss place s here e =
+    let node = position_node (length (filter (is_of true) (take place ss)) + 1, s) in
+    Contains-append_left (position_nodes true ss ++ position_nodes false ss) (interlocking_nodes ss) node
+    (Contains-append_left (position_nodes true ss) (position_nodes false ss) node (among-class true ss place s here e))
+position-among false ss place s here e =
+    let node = position_node (length (filter (is_of false) (take place ss)) + 1, s) in
+    Contains-append_left (position_nodes true ss ++ position_nodes false ss) (interlocking_nodes ss) node
+    (Contains-append_right (position_nodes true ss) (position_nodes false ss) node (among-class false ss place s here e))
+
+pub names_position : (bay : Bay) (place : ℕ) (s : Switch) (name : List ℕ) → slice_get bay.switches place ≡ Some s → name ≡ node_name (class_of s.kind) (number_of bay.switches s place) → NamesPosition bay place name
+names_position bay place s name here named =
+    let ss = bay.switches in
+    record {
+      switch = s;
+      here = here;
+      named = named;
+      rows = λ is_bay.
+          let node : Node = record { name = name; parts = position_parts s.kind } in
+          let own : position_node (number_of ss s place, s) ≡ node = ap (λ n. record { name = n; parts = position_parts s.kind }) (sym named) in
+          subst (λ rows. All (Contains rows) (node_rows node)) (sym is_bay.rows) (has-node (nodes_of ss) node (subst (Contains (nodes_of ss)) own (position-among (is_breaker s.kind) ss place s here refl)));
+    }
+
+abbrev interlocking_node_named : ℕ → Node
+interlocking_node_named m = record { name = node_name (codes "CILO") m; parts = interlocking_parts }
+
+pub names_interlocking : (bay : Bay) (place : ℕ) (name : List ℕ) → place < length bay.switches → name ≡ node_name (codes "CILO") (place + 1) → NamesInterlocking bay place name
+names_interlocking bay place name lt named =
+    let ss = bay.switches in
+    record {
+      named = named;
+      rows = λ is_bay.
+          let node : Node = record { name = name; parts = interlocking_parts } in
+          let own : (m : ℕ) → m ≡ place + 1 → interlocking_node_named m ≡ node = λ m e. ap interlocking_node_named e ∙ ap (λ n. record { name = n; parts = interlocking_parts }) (sym named) in
+          let w = enumerate-has ss place 1 lt in
+          let at : Contains (nodes_of ss) (interlocking_node (1 + place, w.0)) =
+          Contains-append_right (position_nodes true ss ++ position_nodes false ss) (interlocking_nodes ss) (interlocking_node (1 + place, w.0)) (Contains-map interlocking_node (enumerate_from 1 ss) (1 + place, w.0) w.1) in
+          subst (λ rows. All (Contains rows) (node_rows node)) (sym is_bay.rows) (has-node (nodes_of ss) node (subst (Contains (nodes_of ss)) (own (1 + place) (omega arith)) at));
+    }
+
+pub get-at : (ss : List Switch) (place : ℕ) (s : Switch) → place < length ss → s ≡ get_or ss place s → slice_get ss place ≡ Some s
+get-at [] place s lt at = absurd (omega arith)
+get-at (t ∷ ss) zero s lt at = ap Some (sym at)
+get-at (t ∷ ss) (suc place) s lt at = get-at ss place s (omega arith) at
