@@ -12,15 +12,15 @@ use Rattle.il_text.specs.Runs.{IsRun, IsPiece, is_negated_and}
 use Rattle.il_text.proofs.Lists.{front_of, none_left}
 use Rattle.il_text.proofs.PieceLemmas.{index-drop, run_ascii}
 
-abbrev first_piece : List (List ℕ) → List ℕ
+abbrev pub first_piece : List (List ℕ) → List ℕ
 first_piece [] = []
 first_piece (p ∷ ps) = p
 
-abbrev N : List ℕ
+abbrev pub N : List ℕ
 N = 78 ∷ []
 
 -- what a `&` before them would take
-abbrev is_N : ℕ → List (List ℕ) → Bool
+abbrev pub is_N : ℕ → List (List ℕ) → Bool
 is_N x ps = eqb x 38 && same_name (first_piece ps) N
 
 pub blanked_plain : (x : ℕ) (xs : List ℕ) → opens (x ∷ xs) ≡ false → blanked false (x ∷ xs) ≡ x ∷ blanked false xs
@@ -90,7 +90,7 @@ unfolding pieces
 lead [] = refl
 lead (x ∷ xs) = join_lead x (pieces xs)
 
-join_alone : (x : ℕ) (ps : List (List ℕ)) → linked x (slice_index (first_piece ps) 0) ≡ false → is_N x ps ≡ false → join x ps ≡ (x ∷ []) ∷ ps
+pub join_alone : (x : ℕ) (ps : List (List ℕ)) → linked x (slice_index (first_piece ps) 0) ≡ false → is_N x ps ≡ false → join x ps ≡ (x ∷ []) ∷ ps
 unfolding joins
 join_alone x [] h k = refl
 join_alone x (p ∷ ps) h k = rw (h, k) refl
@@ -132,7 +132,7 @@ not_open bs k h =
     let n : slice_index (drop k bs) 0 ≢ 40 = λ e. h (sym (first_of_drop bs k) ∙ e) in
     rw (ne_eqb _ _ n) refl
 
-not_N : (x : ℕ) (ps : List (List ℕ)) → x ≢ 38 → is_N x ps ≡ false
+pub not_N : (x : ℕ) (ps : List (List ℕ)) → x ≢ 38 → is_N x ps ≡ false
 not_N x ps h = rw (ne_eqb x 38 h) refl
 
 run_cut : (d : ℕ) (bs : List ℕ) (k e : ℕ) → k + suc d ≡ e → IsRun bs k e → opens (drop k bs) ≡ false
@@ -186,7 +186,7 @@ upper-stands y' y (inr (o, inr e)) h = absurd (let z : to_ascii_uppercase 256 �
 upper-ascii : (y : ℕ) → to_ascii_uppercase y ≡ 78 → y < 128
 upper-ascii y e = grind (arith, nat_tests)
 
-and_left : (a b : Bool) → a && b ≡ true → a ≡ true
+pub and_left : (a b : Bool) → a && b ≡ true → a ≡ true
 and_left true b h = refl
 and_left false b h = absurd (false≢true h)
 
@@ -219,7 +219,7 @@ false_of false h = refl
 past : (bs : List ℕ) (k : ℕ) → length bs ≤ k → slice_index bs k ≡ 0
 past bs k l = grind (arith, common_steps)
 
-within_of : (bs : List ℕ) (k : ℕ) → slice_index bs k ≢ 0 → k < length bs
+pub within_of : (bs : List ℕ) (k : ℕ) → slice_index bs k ≢ 0 → k < length bs
 within_of bs k h = ⊎_elim (λ (l : k < length bs). l) (λ (l : length bs ≤ k). absurd (h (past bs k l))) (cases_lt k (length bs))
 
 join_joined : (x : ℕ) (p : List ℕ) (ps : List (List ℕ)) → joins x p ≡ true → join x (p ∷ ps) ≡ (x ∷ p) ∷ ps
@@ -229,7 +229,7 @@ joins_N : (x n : ℕ) → eqb x 38 ≡ true → to_ascii_uppercase n ≡ 78 → 
 unfolding joins
 joins_N x n a e = rw (a, N_of n e) (or-true (linked x n))
 
-and_right : (a b : Bool) → a && b ≡ true → b ≡ true
+pub and_right : (a b : Bool) → a && b ≡ true → b ≡ true
 and_right true b h = h
 and_right false b h = absurd (false≢true h)
 

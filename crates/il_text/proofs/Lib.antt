@@ -7,3 +7,4 @@ pub mod LiteralLemmas
 pub mod NameLemmas
 pub mod PieceLemmas
 pub mod PlaceLemmas
+pub mod ReadLemmas

@@ -10,6 +10,7 @@ pub mod Meaning
 pub mod Names
 pub mod Pieces
 pub mod Places
+pub mod ReaderViews
 pub mod Reading
 pub mod Runs
 pub mod Symbols

@@ -1,5 +1,10 @@
 // Reads a program from a text.
-ghost use Rattle.std.specs.Prelude.{◌≡◌, ◌<◌, ◌≤◌, ◌+◌, length, OnOk};
+ghost use Rattle.std.specs.Prelude.{◌≡◌, ◌≢◌, ◌<◌, ◌≤◌, ◌+◌, true, false, drop, length, Ok, Err, OnOk, IfOk, IfErr};
+ghost use Rattle.il_text.specs.ListingViews.{reached_of};
+ghost use Rattle.il_text.specs.Pieces.{opens as starts_comment};
+ghost use Rattle.il_text.specs.Reading.{program_of};
+ghost use Rattle.il_text.specs.Views.{listing_of};
+ghost use Rattle.il_text.specs.declared.fault.TextFault.TheVariants.{OutOfMemory};
 ghost use Rattle.il_text.specs.Places.{last_line};
 
 use crate::fault::TextFault;
@@ -29,7 +34,10 @@ struct Reader<'a> {
 /// Reads a program in Instruction List (IEC 61131-3:2003, 3.2 and annex B.2.1). The first faulty line
 /// is the refusal; within a line a bad token or literal comes before a bad line, and the leftmost of
 /// those before the others. A text that ends early is a bad line at its last line.
-pub fn read_program<'a>(alloc: Global, text: &'a str) -> Result<Program<'a>, TextFault> {
+pub fn read_program<'a>(alloc: Global, text: &'a str) -> Result<Program<'a>, TextFault>
+    ensures ok { IfOk result (λ program. program_of text.now ≡ Ok (listing_of program)) }
+    ensures refused { IfErr result (λ fault. fault ≢ OutOfMemory → program_of text.now ≡ Err fault) }
+{
     let mut reader = Reader {
         text,
         at: 0,
@@ -82,25 +90,46 @@ fn last_line_of(text: &str) -> usize
 }
 
 impl<'a> Reader<'a> {
+    ghost use Rattle.il_text.specs.ReaderViews.{left_of, ended_of, whole_of};
+
     /// Reads one piece, or one character of a comment.
+    #[tactic(auto, using(crate::proofs::ReadLemmas::step_rules))]
     fn step(&mut self) -> Result<(), TextFault>
         requires { self.old.at < length self.old.text.now }
         ensures text { OnOk result (self.new.text.now ≡ self.old.text.now) }
         ensures progress { OnOk result (self.old.at < self.new.at) }
+        ensures ok { OnOk result (left_of self.new ≡ left_of self.old) }
+        ensures refused { IfErr result (λ e. e ≢ OutOfMemory → left_of self.old ≡ Err e) }
     {
-        let bytes = self.text.as_bytes();
         if self.in_comment {
             return self.comment_step();
         }
-        if opens(bytes, self.at) {
+        if opens(self.text.as_bytes(), self.at) {
             return self.open_comment();
         }
-        let end = piece_end(bytes, self.at);
+        self.piece_step()
+    }
+
+    /// Reads one piece outside of comments.
+    #[tactic(auto, using(crate::proofs::ReadLemmas::piece_rules))]
+    fn piece_step(&mut self) -> Result<(), TextFault>
+        requires within { self.old.at < length self.old.text.now }
+        requires outside { self.old.in_comment ≡ false }
+        requires plain { starts_comment (drop self.old.at self.old.text.now) ≡ false }
+        ensures text { OnOk result (self.new.text.now ≡ self.old.text.now) }
+        ensures progress { OnOk result (self.old.at < self.new.at) }
+        ensures ok { OnOk result (left_of self.new ≡ left_of self.old) }
+        ensures refused { IfErr result (λ e. e ≢ OutOfMemory → left_of self.old ≡ Err e) }
+    {
+        let end = piece_end(self.text.as_bytes(), self.at);
         let lexeme = lexeme_at(self.text, self.at, end);
         self.at = end;
         match lexeme {
             Lexeme::Blank => Ok(()),
-            Lexeme::LineEnd => self.end_line(),
+            Lexeme::LineEnd => match self.end_line() {
+                Ok(()) => Ok(()),
+                Err(fault) => Err(fault),
+            },
             Lexeme::Token(token) => {
                 self.tokens.push(token)?;
                 Ok(())
@@ -110,10 +139,15 @@ impl<'a> Reader<'a> {
         }
     }
 
+    /// Reads the opening of a comment, which has to be closed.
+    #[tactic(auto, using(crate::proofs::ReadLemmas::opening_rules))]
     fn open_comment(&mut self) -> Result<(), TextFault>
-        requires { self.old.at + 1 < length self.old.text.now }
+        requires outside { self.old.in_comment ≡ false }
+        requires opening { starts_comment (drop self.old.at self.old.text.now) ≡ true }
         ensures text { OnOk result (self.new.text.now ≡ self.old.text.now) }
         ensures progress { OnOk result (self.old.at < self.new.at) }
+        ensures ok { OnOk result (left_of self.new ≡ left_of self.old) }
+        ensures refused { IfErr result (λ e. e ≢ OutOfMemory → left_of self.old ≡ Err e) }
     {
         if !closes(self.text.as_bytes(), self.at + 2) {
             return Err(TextFault::BadToken { line: self.line });
@@ -123,29 +157,39 @@ impl<'a> Reader<'a> {
         Ok(())
     }
 
+    /// Reads one character of a comment, or its end.
+    #[tactic(auto, using(crate::proofs::ReadLemmas::comment_rules))]
     fn comment_step(&mut self) -> Result<(), TextFault>
-        requires { self.old.at < length self.old.text.now }
+        requires within { self.old.at < length self.old.text.now }
+        requires inside { self.old.in_comment ≡ true }
         ensures text { OnOk result (self.new.text.now ≡ self.old.text.now) }
         ensures progress { OnOk result (self.old.at < self.new.at) }
+        ensures ok { OnOk result (left_of self.new ≡ left_of self.old) }
+        ensures refused { IfErr result (λ e. e ≢ OutOfMemory → left_of self.old ≡ Err e) }
     {
-        let bytes = self.text.as_bytes();
-        if ends(bytes, self.at) {
+        if ends(self.text.as_bytes(), self.at) {
             self.at += 2;
             self.in_comment = false;
             return Ok(());
         }
-        let byte = bytes[self.at];
+        let byte = self.text.as_bytes()[self.at];
         self.at += 1;
-        if byte == b'\n' {
-            return self.end_line();
+        if byte != b'\n' {
+            return Ok(());
         }
-        Ok(())
+        match self.end_line() {
+            Ok(()) => Ok(()),
+            Err(fault) => Err(fault),
+        }
     }
 
+    /// Takes the tokens of a line that ends here.
     fn end_line(&mut self) -> Result<(), TextFault>
         requires { self.old.line ≤ self.old.at }
         ensures text { OnOk result (self.new.text.now ≡ self.old.text.now) }
         ensures place { OnOk result (self.new.at ≡ self.old.at) }
+        ensures ok { OnOk result (left_of self.new ≡ ended_of self.old) }
+        ensures refused { IfErr result (λ e. e ≢ OutOfMemory → ended_of self.old ≡ Err e) }
     {
         let position = Position {
             line: self.line,
@@ -158,16 +202,18 @@ impl<'a> Reader<'a> {
     }
 
     /// Takes the last line, after which the program has to be whole.
-    fn finish(&mut self) -> Result<(), TextFault> {
+    fn finish(&mut self) -> Result<(), TextFault>
+        ensures ok { OnOk result (whole_of self.old ≡ Ok (reached_of self.new.listing).listing) }
+        ensures refused { IfErr result (λ e. e ≢ OutOfMemory → whole_of self.old ≡ Err e) }
+    {
         let position = Position {
             line: self.line,
             last: self.last,
         };
         self.listing.take_line(self.tokens.as_slice(), position)?;
-        if self.listing.place == Place::Finished {
-            Ok(())
-        } else {
-            Err(TextFault::BadLine { line: self.last })
+        match self.listing.place {
+            Place::Finished => Ok(()),
+            _ => Err(TextFault::BadLine { line: self.last }),
         }
     }
 }

@@ -1,8 +1,13 @@
 use Rattle.std.proofs.Common.{◌≡◌, ◌-◌, length}
+use Rattle.il_text.specs.Reading.{program_of}
+use Rattle.il_text.specs.ReaderViews.{left_of}
 use Rattle.il_text.proofs.read.read_program.Given as goal
 
 abbrev pub invariant-loop-reader : goal.invariant-loop-reader
-invariant-loop-reader l = l.reader.text.now ≡ l.text
+invariant-loop-reader l = record {
+  same : l.reader.text.now ≡ l.text;
+  left : left_of l.reader ≡ program_of l.text;
+}
 
 abbrev pub decreases-loop-reader : goal.decreases-loop-reader
 decreases-loop-reader l = length l.text - l.reader.at

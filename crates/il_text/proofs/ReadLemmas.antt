@@ -1,0 +1,283 @@
+-- One piece, or one character of a comment.
+use Rattle.std.proofs.Common.{◌≡◌, ◌≢◌, ℕ, suc, ◌+◌, ◌<◌, ◌≤◌, ◌&&◌, Bool, true, false, cond, List, [], ◌∷◌, ◌++◌, Option, Some, None, Ok, Err, Result, map, length, drop, slice_index, slice_range, eqb, refl, sym, ap, subst, ◌∙◌, arith, append_assoc, append-nil}
+use Rattle.std.proofs.lemmas.Grind.{common_steps}
+use Rattle.std.proofs.lemmas.Bool.{false≢true, eqb-true, ne_eqb}
+use Rattle.std.proofs.lemmas.Bool.Decides.{nat_tests}
+use Rattle.std.proofs.lemmas.List.{map-append}
+use Rattle.std.proofs.Math.Bool.{and-false}
+use Rattle.il_text.specs.Characters.{linked}
+use Rattle.il_text.specs.Listing.{Listing}
+use Rattle.il_text.specs.Pieces.{opens, ends, closes, blanked, blank_of, joins, join, pieces}
+use Rattle.il_text.specs.Reading.{Reached, reading, lines, onto, tokens_of, then_on, after_line, whole, nothing_read, program_of}
+use Rattle.il_text.specs.Places.{last_line}
+use Rattle.il_text.specs.ReaderViews.{read_on}
+use Rattle.il_text.specs.Runs.{IsPiece}
+use Rattle.il_text.specs.Symbols.{Symbol, Piece, blank, line_end, token, bad_token, bad_literal, piece, cut, word, mark_of}
+use Rattle.il_text.specs.declared.fault.TextFault.{TextFault}
+use Rattle.il_text.specs.declared.fault.TextFault.TheVariants.{BadToken, BadLiteral}
+use Rattle.il_text.proofs.Lists.{front_of, none_left}
+use Rattle.il_text.proofs.PieceLemmas.{index-drop}
+use Rattle.il_text.proofs.CutLemmas.{join_alone, not_N, within_of, and_left, and_right}
+
+-- good tokens in front of the first of the lines
+abbrev onto_all : List Symbol → List (List Piece) → List (List Piece)
+onto_all [] ls = ls
+onto_all (s ∷ ss) ls = onto (token s) (onto_all ss ls)
+
+lines_onto : (ss : List Symbol) (ps : List Piece) → lines (map token ss ++ ps) ≡ onto_all ss (lines ps)
+unfolding lines
+lines_onto [] ps = refl
+lines_onto (s ∷ ss) ps = ap (onto (token s)) (unfold lines in lines_onto ss ps)
+
+onto_line : (ss : List Symbol) (l : List Piece) (ls : List (List Piece)) → onto_all ss (l ∷ ls) ≡ (map token ss ++ l) ∷ ls
+onto_line [] l ls = refl
+onto_line (s ∷ ss) l ls = ap (onto (token s)) (onto_line ss l ls)
+
+onto_more : (ss : List Symbol) (s : Symbol) (ls : List (List Piece)) → onto_all ss (onto (token s) ls) ≡ onto_all (ss ++ s ∷ []) ls
+onto_more [] s ls = refl
+onto_more (t ∷ ss) s ls = ap (onto (token t)) (onto_more ss s ls)
+
+tokens_good : (line : ℕ) (ss : List Symbol) → tokens_of line (map token ss) ≡ Ok ss
+unfolding tokens_of
+tokens_good line [] = refl
+tokens_good line (s ∷ ss) = ap (λ (r : Result (List Symbol) TextFault). then_on r (λ xs. Ok (s ∷ xs))) (unfold tokens_of in tokens_good line ss)
+
+tokens_bad : (line : ℕ) (ss : List Symbol) (l : List Piece) → tokens_of line (map token ss ++ bad_token ∷ l) ≡ Err (BadToken line)
+unfolding tokens_of
+tokens_bad line [] l = refl
+tokens_bad line (s ∷ ss) l = ap (λ (r : Result (List Symbol) TextFault). then_on r (λ xs. Ok (s ∷ xs))) (unfold tokens_of in tokens_bad line ss l)
+
+tokens_bad_literal : (line : ℕ) (ss : List Symbol) (l : List Piece) → tokens_of line (map token ss ++ bad_literal ∷ l) ≡ Err (BadLiteral line)
+unfolding tokens_of
+tokens_bad_literal line [] l = refl
+tokens_bad_literal line (s ∷ ss) l = ap (λ (r : Result (List Symbol) TextFault). then_on r (λ xs. Ok (s ∷ xs))) (unfold tokens_of in tokens_bad_literal line ss l)
+
+read_blank : (last : ℕ) (r : Reached) (n : ℕ) (ss : List Symbol) (ps : List Piece) → read_on last r n ss (blank ∷ ps) ≡ read_on last r n ss ps
+unfolding read_on lines
+read_blank last r n ss ps = ap (reading last r n) (lines_onto ss (blank ∷ ps) ∙ sym (lines_onto ss ps))
+
+read_token : (last : ℕ) (r : Reached) (n : ℕ) (ss : List Symbol) (s : Symbol) (ps : List Piece) → read_on last r n ss (token s ∷ ps) ≡ read_on last r n (ss ++ s ∷ []) ps
+unfolding read_on lines
+read_token last r n ss s ps = ap (reading last r n) (lines_onto ss (token s ∷ ps) ∙ onto_more ss s (lines ps) ∙ sym (lines_onto (ss ++ s ∷ []) ps))
+
+-- a line of good tokens, and the lines after it
+reading_line : (last : ℕ) (r : Reached) (n : ℕ) (ss : List Symbol) (ls : List (List Piece))
+    → reading last r n (map token ss ∷ ls) ≡ then_on (after_line n last r ss) (λ s. reading last s (n + 1) ls)
+unfolding reading
+reading_line last r n ss ls =
+    ap (λ (t : Result (List Symbol) TextFault). then_on t (λ ts. then_on (after_line n last r ts) (λ s. reading last s (n + 1) ls))) (tokens_good n ss)
+
+read_line_end : (last : ℕ) (r : Reached) (n : ℕ) (ss : List Symbol) (ps : List Piece)
+    → read_on last r n ss (line_end ∷ ps) ≡ then_on (after_line n last r ss) (λ s. read_on last s (n + 1) [] ps)
+unfolding read_on lines
+read_line_end last r n ss ps =
+    ap (reading last r n) (lines_onto ss (line_end ∷ ps) ∙ onto_line ss [] (lines ps) ∙ ap (λ (l : List Piece). l ∷ lines ps) (append-nil (map token ss)))
+    ∙ reading_line last r n ss (lines ps)
+
+pub read_end : (last : ℕ) (r : Reached) (n : ℕ) (ss : List Symbol)
+    → read_on last r n ss [] ≡ then_on (after_line n last r ss) (λ s. whole last s.listing s.place)
+unfolding read_on lines reading
+read_end last r n ss =
+    ap (reading last r n) (lines_onto ss [] ∙ onto_line ss [] [] ∙ ap (λ (l : List Piece). l ∷ []) (append-nil (map token ss)))
+    ∙ reading_line last r n ss []
+
+bad_lines : (last : ℕ) (r : Reached) (n : ℕ) (ss : List Symbol) (ls : List (List Piece)) → reading last r n (onto_all ss (onto bad_token ls)) ≡ Err (BadToken n)
+unfolding reading
+bad_lines last r n ss [] = rw (onto_line ss (bad_token ∷ []) [], tokens_bad n ss []) refl
+bad_lines last r n ss (l ∷ ls) = rw (onto_line ss (bad_token ∷ l) ls, tokens_bad n ss l) refl
+
+bad_literal_lines : (last : ℕ) (r : Reached) (n : ℕ) (ss : List Symbol) (ls : List (List Piece)) → reading last r n (onto_all ss (onto bad_literal ls)) ≡ Err (BadLiteral n)
+unfolding reading
+bad_literal_lines last r n ss [] = rw (onto_line ss (bad_literal ∷ []) [], tokens_bad_literal n ss []) refl
+bad_literal_lines last r n ss (l ∷ ls) = rw (onto_line ss (bad_literal ∷ l) ls, tokens_bad_literal n ss l) refl
+
+read_bad : (last : ℕ) (r : Reached) (n : ℕ) (ss : List Symbol) (ps : List Piece) → read_on last r n ss (bad_token ∷ ps) ≡ Err (BadToken n)
+unfolding read_on lines
+read_bad last r n ss ps = ap (reading last r n) (lines_onto ss (bad_token ∷ ps)) ∙ bad_lines last r n ss (lines ps)
+
+read_bad_literal : (last : ℕ) (r : Reached) (n : ℕ) (ss : List Symbol) (ps : List Piece) → read_on last r n ss (bad_literal ∷ ps) ≡ Err (BadLiteral n)
+unfolding read_on lines
+read_bad_literal last r n ss ps = ap (reading last r n) (lines_onto ss (bad_literal ∷ ps)) ∙ bad_literal_lines last r n ss (lines ps)
+
+-- the first piece from a place on
+cut_piece : (bs : List ℕ) (s e : ℕ) → IsPiece bs s e → cut false (drop s bs) ≡ piece (slice_range bs s e) ∷ cut false (drop e bs)
+unfolding cut
+cut_piece bs s e h = ap (map piece) h
+
+-- what begins no longer piece
+abbrev Alone : ℕ → Type 0
+Alone x = (y : ℕ) → linked x y ≡ false
+
+alone-space : Alone 32
+unfolding linked
+alone-space y = simp and-false refl
+
+alone-line_end : Alone 10
+unfolding linked
+alone-line_end y = simp and-false refl
+
+alone-unclosed : Alone 256
+unfolding linked
+alone-unclosed y = simp and-false refl
+
+pieces_alone : (x : ℕ) (xs : List ℕ) → Alone x → x ≢ 38 → pieces (x ∷ xs) ≡ (x ∷ []) ∷ pieces xs
+unfolding pieces
+pieces_alone x xs a n = join_alone x (pieces xs) (a _) (not_N x (pieces xs) n)
+
+two_of : (bs : List ℕ) (s : ℕ) → s + 1 < length bs → drop s bs ≡ slice_index bs s ∷ slice_index bs (s + 1) ∷ drop (s + 2) bs
+two_of bs s h =
+    let a : s < length bs = omega arith in
+    let two : (s + 1) + 1 ≡ s + 2 = omega arith in
+    front_of bs s a ∙ ap (λ (t : List ℕ). slice_index bs s ∷ t) (front_of bs (s + 1) h ∙ ap (λ (i : ℕ). slice_index bs (s + 1) ∷ drop i bs) two)
+
+-- what the cut of a text that begins with a blanked character is
+cut_first : (x : ℕ) (xs : List ℕ) → Alone x → x ≢ 38 → map piece (pieces (x ∷ xs)) ≡ piece (x ∷ []) ∷ map piece (pieces xs)
+cut_first x xs a n = ap (map piece) (pieces_alone x xs a n)
+
+space_piece : piece (32 ∷ []) ≡ blank
+unfolding piece
+space_piece = refl
+
+end_piece : piece (10 ∷ []) ≡ line_end
+unfolding piece
+end_piece = refl
+
+unclosed_piece : piece (256 ∷ []) ≡ bad_token
+unfolding piece mark_of
+unclosed_piece = refl
+
+space_first : (xs : List ℕ) → map piece (pieces (32 ∷ xs)) ≡ blank ∷ map piece (pieces xs)
+space_first xs = cut_first 32 xs alone-space (λ e. absurd (omega (arith, e))) ∙ ap (λ (p : Piece). p ∷ map piece (pieces xs)) space_piece
+
+end_first : (xs : List ℕ) → map piece (pieces (10 ∷ xs)) ≡ line_end ∷ map piece (pieces xs)
+end_first xs = cut_first 10 xs alone-line_end (λ e. absurd (omega (arith, e))) ∙ ap (λ (p : Piece). p ∷ map piece (pieces xs)) end_piece
+
+unclosed_first : (xs : List ℕ) → map piece (pieces (256 ∷ xs)) ≡ bad_token ∷ map piece (pieces xs)
+unclosed_first xs = cut_first 256 xs alone-unclosed (λ e. absurd (omega (arith, e))) ∙ ap (λ (p : Piece). p ∷ map piece (pieces xs)) unclosed_piece
+
+opening_cons : (x y : ℕ) (xs : List ℕ) → opens (x ∷ y ∷ xs) ≡ true → closes xs ≡ true → cut false (x ∷ y ∷ xs) ≡ blank ∷ blank ∷ cut true xs
+unfolding cut blanked
+opening_cons x y xs h k = rw (h, k) (space_first _ ∙ ap (λ (l : List Piece). blank ∷ l) (space_first (blanked true xs)))
+
+unclosed_cons : (x y : ℕ) (xs : List ℕ) → opens (x ∷ y ∷ xs) ≡ true → closes xs ≡ false → cut false (x ∷ y ∷ xs) ≡ bad_token ∷ blank ∷ cut true xs
+unfolding cut blanked
+unclosed_cons x y xs h k = rw (h, k) (unclosed_first _ ∙ ap (λ (l : List Piece). bad_token ∷ l) (space_first (blanked true xs)))
+
+closing_cons : (x y : ℕ) (xs : List ℕ) → ends (x ∷ y ∷ xs) ≡ true → cut true (x ∷ y ∷ xs) ≡ blank ∷ blank ∷ cut false xs
+unfolding cut blanked
+closing_cons x y xs h = rw h (space_first _ ∙ ap (λ (l : List Piece). blank ∷ l) (space_first (blanked false xs)))
+
+inside_end : (x : ℕ) (xs : List ℕ) → ends (x ∷ xs) ≡ false → x ≡ 10 → cut true (x ∷ xs) ≡ line_end ∷ cut true xs
+unfolding cut blanked
+inside_end x [] h e = rw e (end_first [])
+inside_end x (y ∷ ys) h e = rw (h, e) (end_first (blanked true (y ∷ ys)))
+
+inside_other : (x : ℕ) (xs : List ℕ) → ends (x ∷ xs) ≡ false → x ≢ 10 → cut true (x ∷ xs) ≡ blank ∷ cut true xs
+unfolding cut blanked
+inside_other x [] h e = rw (ne_eqb x 10 e) (space_first [])
+inside_other x (y ∷ ys) h e = rw (h, ne_eqb x 10 e) (space_first (blanked true (y ∷ ys)))
+
+-- the second character of a comment's opening or ending is there
+pub opens_within : (bs : List ℕ) (s : ℕ) → opens (drop s bs) ≡ true → s + 1 < length bs
+opens_within bs s h =
+    let star : slice_index bs (s + 1) ≡ 42 = sym (index-drop bs s 1) ∙ eqb-true _ _ (and_right (eqb (slice_index (drop s bs) 0) 40) _ h) in
+    within_of bs (s + 1) (λ e. absurd (omega (arith, e, star)))
+
+pub ends_within : (bs : List ℕ) (s : ℕ) → ends (drop s bs) ≡ true → s + 1 < length bs
+ends_within bs s h =
+    let close : slice_index bs (s + 1) ≡ 41 = sym (index-drop bs s 1) ∙ eqb-true _ _ (and_right (eqb (slice_index (drop s bs) 0) 42) _ h) in
+    within_of bs (s + 1) (λ e. absurd (omega (arith, e, close)))
+
+cut_opening : (bs : List ℕ) (s : ℕ) → opens (drop s bs) ≡ true → closes (drop (s + 2) bs) ≡ true
+    → cut false (drop s bs) ≡ blank ∷ blank ∷ cut true (drop (s + 2) bs)
+cut_opening bs s h k =
+    let t = two_of bs s (opens_within bs s h) in
+    ap (cut false) t ∙ opening_cons _ _ _ (subst (λ (l : List ℕ). opens l ≡ true) t h) k
+
+cut_unclosed : (bs : List ℕ) (s : ℕ) → opens (drop s bs) ≡ true → closes (drop (s + 2) bs) ≡ false
+    → cut false (drop s bs) ≡ bad_token ∷ blank ∷ cut true (drop (s + 2) bs)
+cut_unclosed bs s h k =
+    let t = two_of bs s (opens_within bs s h) in
+    ap (cut false) t ∙ unclosed_cons _ _ _ (subst (λ (l : List ℕ). opens l ≡ true) t h) k
+
+cut_closing : (bs : List ℕ) (s : ℕ) → ends (drop s bs) ≡ true → cut true (drop s bs) ≡ blank ∷ blank ∷ cut false (drop (s + 2) bs)
+cut_closing bs s h =
+    let t = two_of bs s (ends_within bs s h) in
+    ap (cut true) t ∙ closing_cons _ _ _ (subst (λ (l : List ℕ). ends l ≡ true) t h)
+
+cut_inside_end : (bs : List ℕ) (s : ℕ) → s < length bs → ends (drop s bs) ≡ false → slice_index bs s ≡ 10 → cut true (drop s bs) ≡ line_end ∷ cut true (drop (s + 1) bs)
+cut_inside_end bs s w h e =
+    let t = front_of bs s w in
+    ap (cut true) t ∙ inside_end _ _ (subst (λ (l : List ℕ). ends l ≡ false) t h) e
+
+cut_inside_other : (bs : List ℕ) (s : ℕ) → s < length bs → ends (drop s bs) ≡ false → slice_index bs s ≢ 10 → cut true (drop s bs) ≡ blank ∷ cut true (drop (s + 1) bs)
+cut_inside_other bs s w h e =
+    let t = front_of bs s w in
+    ap (cut true) t ∙ inside_other _ _ (subst (λ (l : List ℕ). ends l ≡ false) t h) e
+
+-- what the code's steps keep, in the words of the reader
+
+pub step_blank : (last : ℕ) (r : Reached) (n : ℕ) (ss : List Symbol) (bs : List ℕ) (s e : ℕ) → IsPiece bs s e → piece (slice_range bs s e) ≡ blank
+    → read_on last r n ss (cut false (drop s bs)) ≡ read_on last r n ss (cut false (drop e bs))
+step_blank last r n ss bs s e h k = rw (cut_piece bs s e h, k) (read_blank last r n ss _)
+
+pub step_token : (last : ℕ) (r : Reached) (n : ℕ) (ss : List Symbol) (bs : List ℕ) (s e : ℕ) (t : Symbol) → IsPiece bs s e → piece (slice_range bs s e) ≡ token t
+    → read_on last r n ss (cut false (drop s bs)) ≡ read_on last r n (ss ++ t ∷ []) (cut false (drop e bs))
+step_token last r n ss bs s e t h k = rw (cut_piece bs s e h, k) (read_token last r n ss t _)
+
+pub step_bad : (last : ℕ) (r : Reached) (n : ℕ) (ss : List Symbol) (bs : List ℕ) (s e : ℕ) → IsPiece bs s e → piece (slice_range bs s e) ≡ bad_token
+    → read_on last r n ss (cut false (drop s bs)) ≡ Err (BadToken n)
+step_bad last r n ss bs s e h k = rw (cut_piece bs s e h, k) (read_bad last r n ss _)
+
+pub step_bad_literal : (last : ℕ) (r : Reached) (n : ℕ) (ss : List Symbol) (bs : List ℕ) (s e : ℕ) → IsPiece bs s e → piece (slice_range bs s e) ≡ bad_literal
+    → read_on last r n ss (cut false (drop s bs)) ≡ Err (BadLiteral n)
+step_bad_literal last r n ss bs s e h k = rw (cut_piece bs s e h, k) (read_bad_literal last r n ss _)
+
+pub step_line_end : (last : ℕ) (r : Reached) (n : ℕ) (ss : List Symbol) (bs : List ℕ) (s e : ℕ) → IsPiece bs s e → piece (slice_range bs s e) ≡ line_end
+    → read_on last r n ss (cut false (drop s bs)) ≡ then_on (after_line n last r ss) (λ q. read_on last q (n + 1) [] (cut false (drop e bs)))
+step_line_end last r n ss bs s e h k = rw (cut_piece bs s e h, k) (read_line_end last r n ss _)
+
+pub step_opening : (last : ℕ) (r : Reached) (n : ℕ) (ss : List Symbol) (bs : List ℕ) (s : ℕ) → opens (drop s bs) ≡ true → closes (drop (s + 2) bs) ≡ true
+    → read_on last r n ss (cut false (drop s bs)) ≡ read_on last r n ss (cut true (drop (s + 2) bs))
+step_opening last r n ss bs s h k = rw (cut_opening bs s h k) (read_blank last r n ss _ ∙ read_blank last r n ss _)
+
+pub step_unclosed : (last : ℕ) (r : Reached) (n : ℕ) (ss : List Symbol) (bs : List ℕ) (s : ℕ) → opens (drop s bs) ≡ true → closes (drop (s + 2) bs) ≡ false
+    → read_on last r n ss (cut false (drop s bs)) ≡ Err (BadToken n)
+step_unclosed last r n ss bs s h k = rw (cut_unclosed bs s h k) (read_bad last r n ss _)
+
+pub step_closing : (last : ℕ) (r : Reached) (n : ℕ) (ss : List Symbol) (bs : List ℕ) (s : ℕ) → ends (drop s bs) ≡ true
+    → read_on last r n ss (cut true (drop s bs)) ≡ read_on last r n ss (cut false (drop (s + 2) bs))
+step_closing last r n ss bs s h = rw (cut_closing bs s h) (read_blank last r n ss _ ∙ read_blank last r n ss _)
+
+pub step_inside : (last : ℕ) (r : Reached) (n : ℕ) (ss : List Symbol) (bs : List ℕ) (s : ℕ) → s < length bs → ends (drop s bs) ≡ false → slice_index bs s ≢ 10
+    → read_on last r n ss (cut true (drop s bs)) ≡ read_on last r n ss (cut true (drop (s + 1) bs))
+step_inside last r n ss bs s w h e = rw (cut_inside_other bs s w h e) (read_blank last r n ss _)
+
+pub step_inside_end : (last : ℕ) (r : Reached) (n : ℕ) (ss : List Symbol) (bs : List ℕ) (s : ℕ) → s < length bs → ends (drop s bs) ≡ false → slice_index bs s ≡ 10
+    → read_on last r n ss (cut true (drop s bs)) ≡ then_on (after_line n last r ss) (λ q. read_on last q (n + 1) [] (cut true (drop (s + 1) bs)))
+step_inside_end last r n ss bs s w h e = rw (cut_inside_end bs s w h e) (read_line_end last r n ss _)
+
+pub ruleset step_rules = (front_of)
+
+pub ruleset piece_rules = (step_blank, step_token, step_bad, step_bad_literal, step_line_end, map-append)
+
+pub ruleset opening_rules = (step_opening, step_unclosed, opens_within)
+
+pub ruleset comment_rules = (step_closing, step_inside, step_inside_end, ends_within)
+
+pub step_ended : (last : ℕ) (r : Reached) (n : ℕ) (ss : List Symbol) (bs : List ℕ) (b : Bool) (s e : ℕ) → b ≡ false → IsPiece bs s e → line_end ≡ piece (slice_range bs s e)
+    → read_on last r n ss (cut b (drop s bs)) ≡ then_on (after_line n last r ss) (λ q. read_on last q (n + 1) [] (cut b (drop e bs)))
+step_ended last r n ss bs b s e f h k =
+    rw f (step_line_end last r n ss bs s e h (sym k))
+
+pub program_start : (text : List ℕ) (last : ℕ) (r : Reached) → last ≡ last_line text → r ≡ nothing_read → read_on last r 1 [] (cut false (drop 0 text)) ≡ program_of text
+unfolding read_on program_of
+program_start text last r e f = rw (e, f) refl
+
+pub cut_none : (b : Bool) (bs : List ℕ) (i : ℕ) → length bs ≤ i → cut b (drop i bs) ≡ []
+unfolding cut blanked pieces
+cut_none b bs i h = rw (none_left bs i h) refl
+
+pub text_end : (last : ℕ) (r : Reached) (n : ℕ) (ss : List Symbol) (bs : List ℕ) (b : Bool) (i : ℕ) → length bs ≤ i
+    → read_on last r n ss (cut b (drop i bs)) ≡ then_on (after_line n last r ss) (λ s. whole last s.listing s.place)
+text_end last r n ss bs b i h = rw (cut_none b bs i h) (read_end last r n ss)
