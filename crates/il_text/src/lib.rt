@@ -15,4 +15,6 @@ mod piece;
 pub mod program;
 pub mod read;
 mod reserved;
+#[cfg(test)]
+mod tests;
 mod token;
