@@ -1,0 +1,4 @@
+pub mod ContentLemmas
+pub mod OctetLemmas
+pub mod ReadLemmas
+pub mod TagLemmas

@@ -1,0 +1,43 @@
+-- The contents of the simple types.
+use Rattle.std.specs.Prelude.{ℕ, ℤ, pos, ◌≡◌, ◌+◌, ◌-ℤ◌, ◌*◌, ◌^◌, ◌<◌, ◌≤◌, Bool, true, false, FitsSigned, List, [], ◌∷◌, length, nat_lt, if◌then◌else◌}
+use Rattle.std.specs.Int.{w64}
+use Rattle.bay_ber.specs.declared.content.Bits.{Bits}
+use Rattle.bay_ber.specs.Octets.{number_of}
+
+-- the number that octets spell in two's complement: bit 8 of the first is the sign (X.690 8.3.3)
+abbrev pub signed_of : List ℕ → ℤ
+signed_of [] = pos 0
+signed_of (first ∷ octets) =
+    if nat_lt first 128 then pos (number_of (first ∷ octets)) else pos (number_of (first ∷ octets)) -ℤ pos (256 ^ length (first ∷ octets))
+
+-- The content is an integer of 1 to 9 octets, within 64 bits (X.690 8.3).
+pub record IsInteger (content : List ℕ) (value : ℤ) : Type 0 where
+  pub some : 0 < length content
+  pub few : length content ≤ 9
+  pub is : value ≡ signed_of content
+  pub fits : FitsSigned w64 value
+
+-- Octets hold so many bits and at most 7 unused ones behind them, at most 2 ^ 64 - 8 bits in all.
+pub record HasBits (unused : ℕ) (octets : List ℕ) (count : ℕ) : Type 0 where
+  pub few : unused ≤ 7
+  pub filled : count + unused ≡ 8 * length octets
+  pub within : length octets < 2 ^ 61
+
+-- The content is the number of unused bits, and the octets that hold the bits, the first bit highest (X.690 8.6.2).
+abbrev pub IsBits : List ℕ → List ℕ → ℕ → Type 0
+IsBits [] octets count = ⊥
+IsBits (unused ∷ behind) octets count = (octets ≡ behind) × HasBits unused behind count
+
+-- The content is one octet: 0 is false, all else is true (X.690 8.2.2).
+abbrev pub IsTruth : List ℕ → Bool → Type 0
+IsTruth (octet ∷ []) false = octet ≡ 0
+IsTruth (octet ∷ []) true = 0 < octet
+IsTruth content value = ⊥
+
+-- a bit string without where its octets lie in memory
+pub record BitString : Type 0 where
+  pub octets : List ℕ
+  pub count : ℕ
+
+abbrev pub bits_of : Bits → BitString
+bits_of b = record { octets = b.octets.now; count = b.count }

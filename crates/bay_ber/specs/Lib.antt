@@ -1,0 +1,5 @@
+pub mod Code
+pub mod Content
+pub mod Octets
+pub mod Reading
+pub mod Spelling

@@ -1,0 +1,101 @@
+-- What stands at the front of a list of octets.
+use Rattle.std.specs.Prelude.{ℕ, ◌≡◌, ◌-◌, ◌/◌, ◌%◌, ◌<◌, ◌≤◌, ◌==◌, Bool, List, [], ◌∷◌, ◌++◌, length, take, drop, Result, Ok, Err, nat_lt, if◌then◌else◌}
+use Rattle.bay_ber.specs.declared.fault.BerFault.{BerFault}
+use Rattle.bay_ber.specs.declared.fault.BerFault.TheVariants.{Truncated, Indefinite, LengthTooLong, TagTooLarge}
+use Rattle.bay_ber.specs.declared.tlv.Class.{Class}
+use Rattle.bay_ber.specs.declared.tlv.Class.TheVariants.{Universal, Application, ContextSpecific, Private}
+use Rattle.bay_ber.specs.declared.tlv.Tlv.{Tlv}
+use Rattle.bay_ber.specs.declared.tlv.Tag.{Tag}
+use Rattle.bay_ber.specs.Octets.{number_of}
+use Rattle.bay_ber.specs.Spelling.{IsTag, Spells}
+
+-- a value that was read, and the octets behind it, without where they lie in memory
+pub record Reading : Type 0 where
+  pub class : Class
+  pub constructed : Bool
+  pub number : ℕ
+  pub content : List ℕ
+  pub rest : List ℕ
+
+abbrev pub reading_of : Tlv → Reading
+reading_of t = record { class = t.class; constructed = t.constructed; number = t.number; content = t.content.now; rest = t.rest.now }
+
+-- A prefix of the octets is spelled so, and the rest follows it.
+pub record Begins (octets : List ℕ) (r : Reading) : Type 0 where
+  pub front : List ℕ
+  pub spelled : Spells front r.class r.constructed r.number r.content
+  pub parts : octets ≡ front ++ r.rest
+
+-- Some prefix is spelled.
+abbrev pub IsSpelled : List ℕ → Type 0
+IsSpelled octets = (r : Reading) × Begins octets r
+
+-- A tag octet has 31 in its low five bits, and an octet of 128 or more follows it.
+abbrev pub HasLargeTag : List ℕ → Type 0
+HasLargeTag (first ∷ second ∷ octets) = (first % 32 ≡ 31) × (128 ≤ second)
+HasLargeTag octets = ⊥
+
+-- A tag stands first, and then this octet in the length's place.
+pub record HasLengthOctet (octets : List ℕ) (octet : ℕ) : Type 0 where
+  pub class : Class
+  pub constructed : Bool
+  pub number : ℕ
+  pub tag : List ℕ
+  pub rest : List ℕ
+  pub is_tag : IsTag tag class constructed number
+  pub parts : octets ≡ tag ++ octet ∷ rest
+
+-- The octet 0x80 stands in the length's place: the indefinite form (X.690 8.1.3.6).
+abbrev pub IsIndefinite : List ℕ → Type 0
+IsIndefinite octets = HasLengthOctet octets 128
+
+-- An octet above 0x84 stands there: more than four octets of length.
+abbrev pub HasLongLength : List ℕ → Type 0
+HasLongLength octets = (octet : ℕ) × (132 < octet) × HasLengthOctet octets octet
+
+-- None of these, and no prefix is spelled.
+pub record IsTruncated (octets : List ℕ) : Type 0 where
+  pub no_large_tag : HasLargeTag octets → ⊥
+  pub not_indefinite : IsIndefinite octets → ⊥
+  pub no_long_length : HasLongLength octets → ⊥
+  pub not_spelled : IsSpelled octets → ⊥
+
+-- ---- reading from the left, which the laws tie to the relations above
+
+infixl 10 ◌>>=◌
+abbrev pub ◌>>=◌ : {A B : Type 0} → Result A BerFault → (A → Result B BerFault) → Result B BerFault
+(Ok x) >>= f = f x
+(Err e) >>= f = Err e
+
+-- What a function answered, seen by view, is what reading gives.
+abbrev pub Gives : {X Y : Type 0} → (X → Y) → Result X BerFault → Result Y BerFault → Type 0
+Gives view (Ok x) read = read ≡ Ok (view x)
+Gives view (Err e) read = read ≡ Err e
+
+abbrev pub class_of : ℕ → Class
+class_of first = if nat_lt first 64 then Universal else (if nat_lt first 128 then Application else (if nat_lt first 192 then ContextSpecific else Private))
+
+abbrev pub is_constructed : ℕ → Bool
+is_constructed first = (first / 32) % 2 == 1
+
+abbrev pub low_bits : ℕ → ℕ
+low_bits first = first % 32
+
+-- a tag of two octets, behind its first
+abbrev pub second_at : ℕ → List ℕ → Result (Tag × List ℕ) BerFault
+second_at first [] = Err Truncated
+second_at first (second ∷ octets) = if nat_lt second 128 then Ok (record { class = class_of first; constructed = is_constructed first; number = second }, octets) else Err TagTooLarge
+
+unfoldable pub tag_at : List ℕ → Result (Tag × List ℕ) BerFault
+tag_at [] = Err Truncated
+tag_at (first ∷ octets) = if low_bits first == 31 then second_at first octets else Ok (record { class = class_of first; constructed = is_constructed first; number = low_bits first }, octets)
+
+unfoldable pub length_at : List ℕ → Result (ℕ × List ℕ) BerFault
+length_at [] = Err Truncated
+length_at (first ∷ octets) = if nat_lt first 128 then Ok (first, octets) else (if first == 128 then Err Indefinite else (if nat_lt 132 first then Err LengthTooLong else (if nat_lt (length octets) (first - 128) then Err Truncated else Ok (number_of (take (first - 128) octets), drop (first - 128) octets))))
+
+unfoldable pub tlv_at : List ℕ → Result Reading BerFault
+tlv_at octets = do
+  tag ← tag_at octets
+  n ← length_at tag.1
+  if nat_lt (length n.1) n.0 then Err Truncated else Ok (record { class = tag.0.class; constructed = tag.0.constructed; number = tag.0.number; content = take n.0 n.1; rest = drop n.0 n.1 })

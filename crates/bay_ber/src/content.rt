@@ -1,0 +1,95 @@
+// The contents of the simple types (X.690 8.2, 8.3 and 8.6), which other layers also spell under tags of their own.
+ghost use Rattle.std.specs.Prelude.{◌≡◌, ◌+◌, ◌*◌, ◌^◌, ◌<◌, ◌≤◌, ℕ, ℤ, Bool, List, pos, Ok, Err, length, IfOk, IfErr, IsOkAnd};
+ghost use Rattle.bay_ber.specs.Content.{signed_of, IsInteger, HasBits, IsBits, IsTruth, BitString, bits_of};
+
+use crate::fault::BerFault;
+use crate::tlv::number_of;
+
+/// The bits of a bit string.
+#[derive(Clone, Copy, Debug, PartialEq, Eq)]
+pub struct Bits<'a> {
+    /// The octets that hold the bits, the first bit in bit 8 of the first octet. The last octet may hold up to
+    /// seven bits more, of any value.
+    pub octets: &'a [u8],
+    /// The number of bits.
+    pub count: usize,
+}
+
+// The number of values that so many octets can have.
+fn span(count: usize) -> u128
+    requires { count ≤ 9 }
+    ensures { result ≡ 256 ^ count }
+{
+    1 << (8 * count)
+}
+
+// The number that octets spell in two's complement.
+fn signed_of(octets: &[u8]) -> i128
+    requires some { 0 < length octets.now }
+    requires few { length octets.now ≤ 9 }
+    ensures { result ≡ signed_of octets.now }
+{
+    let number = number_of(octets) as i128;
+    if octets[0] < 0x80 {
+        number
+    } else {
+        number - span(octets.len()) as i128
+    }
+}
+
+/// The value of an integer's content (X.690 8.3): two's complement in 1 to 9 octets, the highest first, within 64 bits.
+/// Needless octets are read. BadContent where no value is spelled.
+pub fn int_of(content: &[u8]) -> Result<i64, BerFault>
+    ensures ok { IfOk result (λ value. IsInteger content.now value) }
+    ensures only { (value : ℤ) → IsInteger content.now value → result ≡ Ok value }
+    ensures err { IfErr result (λ fault. (fault ≡ BerFault.BadContent) × ((value : ℤ) → IsInteger content.now value → ⊥)) }
+{
+    if content.is_empty() || content.len() > 9 {
+        return Err(BerFault::BadContent);
+    }
+    match i64::try_from(signed_of(content)) {
+        Ok(value) => Ok(value),
+        Err(_) => Err(BerFault::BadContent),
+    }
+}
+
+// The bits of these octets, without the unused ones.
+fn bits_behind(unused: u8, octets: &[u8]) -> Result<Bits<'_>, BerFault>
+    ensures ok { IfOk result (λ bits. (bits.octets.now ≡ octets.now) × HasBits unused octets.now bits.count) }
+    ensures err { IfErr result (λ fault. (fault ≡ BerFault.BadContent) × ((count : ℕ) → HasBits unused octets.now count → ⊥)) }
+{
+    if unused > 7 || octets.len() >= 1 << 61 {
+        return Err(BerFault::BadContent);
+    }
+    match (8 * octets.len()).checked_sub(unused as usize) {
+        Some(count) => Ok(Bits { octets, count }),
+        None => Err(BerFault::BadContent),
+    }
+}
+
+/// The bits of a bit string's content (X.690 8.6.2): the number of unused bits, and the octets. The values of the unused
+/// bits are not looked at. BadContent where no bits are spelled: no octet, more than 7 unused bits, unused bits and no octet
+/// behind, or 2^61 octets or more.
+pub fn bits_of(content: &[u8]) -> Result<Bits<'_>, BerFault>
+    ensures ok { IfOk result (λ bits. IsBits content.now bits.octets.now bits.count) }
+    ensures only { (b : BitString) → IsBits content.now b.octets b.count → IsOkAnd result (λ bits. bits_of bits ≡ b) }
+    ensures err { IfErr result (λ fault. (fault ≡ BerFault.BadContent) × ((octets : List ℕ) (count : ℕ) → IsBits content.now octets count → ⊥)) }
+{
+    match content {
+        [unused, octets @ ..] => bits_behind(*unused, octets),
+        [] => Err(BerFault::BadContent),
+    }
+}
+
+/// The value of a truth value's content (X.690 8.2): one octet, of which 0 is false and all else is true. BadContent for
+/// another number of octets.
+pub fn bool_of(content: &[u8]) -> Result<bool, BerFault>
+    ensures ok { IfOk result (λ value. IsTruth content.now value) }
+    ensures only { (value : Bool) → IsTruth content.now value → result ≡ Ok value }
+    ensures err { IfErr result (λ fault. (fault ≡ BerFault.BadContent) × ((value : Bool) → IsTruth content.now value → ⊥)) }
+{
+    match content {
+        [octet] => Ok(*octet != 0),
+        _ => Err(BerFault::BadContent),
+    }
+}

@@ -1,0 +1,170 @@
+// One tag, length and content at the front of a list of octets.
+ghost use Rattle.std.specs.Prelude.{◌≡◌, ◌+◌, ◌*◌, ◌^◌, ◌<◌, ◌≤◌, ◌==◌, ◌↔◌, Ok, Err, length, IfOk, IsOkAnd};
+ghost use Rattle.bay_ber.specs.Octets.{number_of};
+ghost use Rattle.bay_ber.specs.Reading.{Gives, Reading, Begins, HasLargeTag, IsIndefinite, HasLongLength, IsTruncated, class_of, is_constructed, low_bits, tag_at, length_at, tlv_at, reading_of};
+
+use crate::fault::BerFault;
+
+/// The class of a tag (X.690 8.1.2.2).
+#[derive(Clone, Copy, Debug, PartialEq, Eq)]
+pub enum Class {
+    Universal,
+    Application,
+    ContextSpecific,
+    Private,
+}
+
+/// One value at the front of a list of octets, and the octets behind it.
+#[derive(Clone, Copy, Debug, PartialEq, Eq)]
+pub struct Tlv<'a> {
+    /// The class of the tag.
+    pub class: Class,
+    /// Whether the content is itself made of values.
+    pub constructed: bool,
+    /// The number of the tag, 0 to 127.
+    pub number: u8,
+    /// The octets of the content.
+    pub content: &'a [u8],
+    /// The octets behind the value.
+    pub rest: &'a [u8],
+}
+
+// A tag: its class, whether the content is constructed, and its number.
+#[derive(Clone, Copy)]
+struct Tag {
+    class: Class,
+    constructed: bool,
+    number: u8,
+}
+
+fn class_of(first: u8) -> Class
+    ensures { result ≡ class_of first }
+{
+    match first {
+        0x00..=0x3F => Class::Universal,
+        0x40..=0x7F => Class::Application,
+        0x80..=0xBF => Class::ContextSpecific,
+        0xC0..=0xFF => Class::Private,
+    }
+}
+
+fn is_constructed(first: u8) -> bool
+    ensures { result ≡ is_constructed first }
+{
+    (first >> 5) & 1 == 1
+}
+
+fn low_bits(first: u8) -> u8
+    ensures { result ≡ low_bits first }
+{
+    first & 0x1F
+}
+
+#[tactic(auto, unfolding(crate::specs::Reading::tag_at))]
+fn tag_at(octets: &[u8]) -> Result<(Tag, &[u8]), BerFault>
+    ensures { Gives (λ x. (x.0, x.1.now)) result (tag_at octets.now) }
+{
+    let (first, rest) = match octets {
+        [] => return Err(BerFault::Truncated),
+        [first, rest @ ..] => (*first, rest),
+    };
+    let class = class_of(first);
+    let constructed = is_constructed(first);
+    let number = low_bits(first);
+    if number != 31 {
+        return Ok((
+            Tag {
+                class,
+                constructed,
+                number,
+            },
+            rest,
+        ));
+    }
+    match rest {
+        [] => Err(BerFault::Truncated),
+        [number, rest @ ..] if *number < 128 => Ok((
+            Tag {
+                class,
+                constructed,
+                number: *number,
+            },
+            rest,
+        )),
+        [_, ..] => Err(BerFault::TagTooLarge),
+    }
+}
+
+/// The number whose octets these are, the highest first.
+pub(crate) fn number_of(octets: &[u8]) -> u128
+    requires { length octets.now ≤ 9 }
+    ensures value { result ≡ number_of octets.now }
+    ensures below { result < 256 ^ length octets.now }
+{
+    let mut number = 0;
+    for octet in octets {
+        number = number * 256 + u128::from(*octet);
+    }
+    number
+}
+
+#[tactic(auto, unfolding(crate::specs::Reading::length_at))]
+fn length_at(octets: &[u8]) -> Result<(usize, &[u8]), BerFault>
+    ensures { Gives (λ x. (x.0, x.1.now)) result (length_at octets.now) }
+{
+    let (first, rest) = match octets {
+        [] => return Err(BerFault::Truncated),
+        [first, rest @ ..] => (*first, rest),
+    };
+    if first < 0x80 {
+        return Ok((first as usize, rest));
+    }
+    if first == 0x80 {
+        return Err(BerFault::Indefinite);
+    }
+    if first > 0x84 {
+        return Err(BerFault::LengthTooLong);
+    }
+    let count = (first - 0x80) as usize;
+    if rest.len() < count {
+        return Err(BerFault::Truncated);
+    }
+    let (octets, rest) = rest.split_at(count);
+    Ok((number_of(octets) as usize, rest))
+}
+
+#[tactic(auto, unfolding(crate::specs::Reading::tlv_at))]
+fn tlv_at(octets: &[u8]) -> Result<Tlv<'_>, BerFault>
+    ensures { Gives reading_of result (tlv_at octets.now) }
+{
+    let (tag, rest) = tag_at(octets)?;
+    let (length, rest) = length_at(rest)?;
+    if rest.len() < length {
+        return Err(BerFault::Truncated);
+    }
+    let (content, rest) = rest.split_at(length);
+    Ok(Tlv {
+        class: tag.class,
+        constructed: tag.constructed,
+        number: tag.number,
+        content,
+        rest,
+    })
+}
+
+/// The value at the front of the octets (X.690 8.1), with slices of them as its content and the rest. Numbers of
+/// tags to 127 and lengths of one to five octets are read; the shortest form is not demanded.
+pub fn read_tlv(octets: &[u8]) -> Result<Tlv<'_>, BerFault>
+    // What is read is spelled so at the front of the octets, and what is spelled so is read.
+    ensures ok { IfOk result (λ tlv. Begins octets.now (reading_of tlv)) }
+    ensures only { (r : Reading) → Begins octets.now r → IsOkAnd result (λ tlv. reading_of tlv ≡ r) }
+    // Each fault, exactly where it stands.
+    ensures large_tag { (result ≡ Err BerFault.TagTooLarge) ↔ HasLargeTag octets.now }
+    ensures indefinite { (result ≡ Err BerFault.Indefinite) ↔ IsIndefinite octets.now }
+    ensures long_length { (result ≡ Err BerFault.LengthTooLong) ↔ HasLongLength octets.now }
+    ensures truncated { (result ≡ Err BerFault.Truncated) ↔ IsTruncated octets.now }
+    // The same answer, read from the left.
+    ensures exact { Gives reading_of result (tlv_at octets.now) }
+{
+    tlv_at(octets)
+}
