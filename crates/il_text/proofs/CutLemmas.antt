@@ -45,7 +45,7 @@ unfolding linked
 linked-and x y e = rw e refl
 
 -- the first character of a text is itself, or that of a comment's opening
-abbrev Stands : ℕ → ℕ → Type 0
+abbrev pub Stands : ℕ → ℕ → Type 0
 Stands y' y = (y' ≡ y) ⊎ ((y ≡ 40) × ((y' ≡ 32) ⊎ (y' ≡ 256)))
 
 abbrev opening : Bool → ℕ
@@ -63,7 +63,7 @@ unfolding blanked
 first_stands y z zs true h = rw h (inr (is_open y z h, stand_in (closes zs)))
 first_stands y z zs false h = rw h (inl refl)
 
-blanked_first : (r : List ℕ) → Stands (slice_index (blanked false r) 0) (slice_index r 0)
+pub blanked_first : (r : List ℕ) → Stands (slice_index (blanked false r) 0) (slice_index r 0)
 unfolding blanked
 blanked_first [] = inl refl
 blanked_first (y ∷ []) = inl refl

@@ -8,3 +8,4 @@ pub mod NameLemmas
 pub mod PieceLemmas
 pub mod PlaceLemmas
 pub mod ReadLemmas
+pub mod RespellingLemmas

@@ -105,10 +105,10 @@ unfolding cut
 cut_piece bs s e h = ap (map piece) h
 
 -- what begins no longer piece
-abbrev Alone : ℕ → Type 0
+abbrev pub Alone : ℕ → Type 0
 Alone x = (y : ℕ) → linked x y ≡ false
 
-alone-space : Alone 32
+pub alone-space : Alone 32
 unfolding linked
 alone-space y = simp and-false refl
 
@@ -120,7 +120,7 @@ alone-unclosed : Alone 256
 unfolding linked
 alone-unclosed y = simp and-false refl
 
-pieces_alone : (x : ℕ) (xs : List ℕ) → Alone x → x ≢ 38 → pieces (x ∷ xs) ≡ (x ∷ []) ∷ pieces xs
+pub pieces_alone : (x : ℕ) (xs : List ℕ) → Alone x → x ≢ 38 → pieces (x ∷ xs) ≡ (x ∷ []) ∷ pieces xs
 unfolding pieces
 pieces_alone x xs a n = join_alone x (pieces xs) (a _) (not_N x (pieces xs) n)
 
@@ -134,7 +134,7 @@ two_of bs s h =
 cut_first : (x : ℕ) (xs : List ℕ) → Alone x → x ≢ 38 → map piece (pieces (x ∷ xs)) ≡ piece (x ∷ []) ∷ map piece (pieces xs)
 cut_first x xs a n = ap (map piece) (pieces_alone x xs a n)
 
-space_piece : piece (32 ∷ []) ≡ blank
+pub space_piece : piece (32 ∷ []) ≡ blank
 unfolding piece
 space_piece = refl
 

@@ -12,6 +12,7 @@ pub mod Pieces
 pub mod Places
 pub mod ReaderViews
 pub mod Reading
+pub mod Respelling
 pub mod Runs
 pub mod Symbols
 pub mod TokenViews

@@ -7,6 +7,7 @@
 mod character;
 pub mod fault;
 mod form;
+pub mod law;
 mod lexeme;
 mod listing;
 mod literal;

@@ -1,0 +1,9 @@
+// Laws of the definition of a text's program, each the contract of a function that does nothing.
+ghost use Rattle.il_text.specs.Respelling.{BlanksMayBeRespelled};
+
+/// Blanks and whole comments between two parts of a text, within their line, may be spelled by other
+/// blanks and comments: the text makes the same program, or has the same fault
+/// (IEC 61131-3:2003, 2.1.4 and 2.1.5).
+pub fn blanks_may_be_respelled()
+    ensures { BlanksMayBeRespelled }
+{}
