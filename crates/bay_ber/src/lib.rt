@@ -7,3 +7,4 @@ pub mod content;
 pub mod fault;
 pub mod laws;
 pub mod tlv;
+pub mod writer;

@@ -1,0 +1,207 @@
+// A writer of the canonical spelling.
+ghost use Rattle.std.specs.Prelude.{◌≡◌, ◌+◌, ◌*◌, ◌%◌, ◌^◌, ◌<◌, ◌≤◌, [], ◌∷◌, ◌++◌, length, take, drop, OnOk, OnErr};
+ghost use Rattle.bay_ber.specs.Growth.{Extends};
+ghost use Rattle.bay_ber.specs.Writing.{octets_needed, length_octets, element, truth_octets, is_needless, without_needless, integer_octets, bit_string_octets};
+
+use crate::content::Bits;
+use std::alloc::{AllocError, Global};
+use std::marker::Model;
+
+// How many octets a length needs behind the first.
+fn octets_needed(length: u32) -> usize
+    ensures needed { result ≡ octets_needed length }
+    ensures some { 0 < result }
+    ensures few { result ≤ 4 }
+{
+    match length {
+        0..=0xFF => 1,
+        0x100..=0xFFFF => 2,
+        0x1_0000..=0xFF_FFFF => 3,
+        0x100_0000..=0xFFFF_FFFF => 4,
+    }
+}
+
+// Appends the shortest spelling of a length.
+#[tactic(auto, unfolding(crate::specs::Writing::length_octets))]
+fn append_length(out: &mut Vec<u8>, length: u32) -> Result<(), AllocError>
+    ensures ok { OnOk result (out.new.items ≡ out.old.items ++ length_octets length) }
+    ensures err { OnErr result (Extends out.old.items out.new.items) }
+{
+    if length < 0x80 {
+        out.push(length as u8)?;
+        return Ok(());
+    }
+    let needed = octets_needed(length);
+    out.push(0x80 + needed as u8)?;
+    out.extend_from_slice(&length.to_be_bytes()[4 - needed..])?;
+    Ok(())
+}
+
+// Appends a value whose content has three parts. A refused call may leave some of its octets at the end.
+#[tactic(auto, unfolding(crate::specs::Writing::element))]
+fn append(
+    out: &mut Vec<u8>,
+    identifier: u8,
+    first: &[u8],
+    middle: &[u8],
+    last: &[u8],
+) -> Result<(), AllocError>
+    requires { length first.now + length middle.now + length last.now < 2 ^ 32 }
+    ensures ok { OnOk result (out.new.items ≡ out.old.items ++ element identifier (first.now ++ middle.now ++ last.now)) }
+    ensures err { OnErr result (Extends out.old.items out.new.items) }
+{
+    out.push(identifier)?;
+    append_length(out, (first.len() + middle.len() + last.len()) as u32)?;
+    out.extend_from_slice(first)?;
+    out.extend_from_slice(middle)?;
+    out.extend_from_slice(last)?;
+    Ok(())
+}
+
+// Whether the first of two octets says no more than the sign of the second.
+fn is_needless(first: u8, second: u8) -> bool
+    ensures { result ≡ is_needless first second }
+{
+    if second < 0x80 {
+        first == 0x00
+    } else {
+        first == 0xFF
+    }
+}
+
+// The octets without the needless ones at their front.
+fn without_needless(octets: &[u8]) -> &[u8]
+    requires { 0 < length octets.now }
+    ensures octets { result.now ≡ without_needless octets.now }
+    ensures few { length result.now ≤ length octets.now }
+{
+    let last = octets.len() - 1;
+    for start in 0..last {
+        if !is_needless(octets[start], octets[start + 1]) {
+            return &octets[start..];
+        }
+    }
+    &octets[last..]
+}
+
+/// A writer of values one after another, which contracts see as the octets written so far. Each value is written under
+/// an identifier octet (X.690 8.1.2) whose low five bits are below 31, with the shortest length. Where memory is wanting
+/// nothing is appended.
+#[derive(Debug, Drop)]
+pub struct Writer {
+    octets: Vec<u8>,
+}
+
+impl Model for Writer {
+    ghost use Rattle.std.specs.Prelude.{ℕ, List};
+
+    ghost Value = { List ℕ };
+
+    ghost view = { λ w. w.octets.items };
+}
+
+impl Writer {
+    /// A writer that has written nothing.
+    pub fn new(alloc: Global) -> Self
+        ensures { result ≡ [] }
+    {
+        Writer {
+            octets: Vec::new(alloc),
+        }
+    }
+
+    /// Writes an integer in the fewest octets (X.690 8.3).
+    pub fn int(&mut self, identifier: u8, value: i64) -> Result<(), AllocError>
+        requires { identifier % 32 < 31 }
+        ensures ok { OnOk result (self.new ≡ self.old ++ element identifier (integer_octets value)) }
+        ensures err { OnErr result (self.new ≡ self.old) }
+    {
+        self.element(identifier, &[], without_needless(&value.to_be_bytes()), &[])
+    }
+
+    /// Writes a bit string (X.690 8.6): its bits in the octets that they need, with 0 in the unused bits.
+    pub fn bits(&mut self, identifier: u8, bits: Bits<'_>) -> Result<(), AllocError>
+        requires tag { identifier % 32 < 31 }
+        requires held { bits.count ≤ 8 * length bits.octets.now }
+        requires short { bits.count + 16 ≤ 2 ^ 35 }
+        ensures ok { OnOk result (self.new ≡ self.old ++ element identifier (bit_string_octets bits.entry.octets.now bits.entry.count)) }
+        ensures err { OnErr result (self.new ≡ self.old) }
+    {
+        let (whole, left) = (bits.count / 8, bits.count % 8);
+        if left == 0 {
+            return self.element(identifier, &[0], &bits.octets[..whole], &[]);
+        }
+        let unused = 8 - left as u8;
+        let last = bits.octets[whole] >> unused << unused;
+        self.element(identifier, &[unused], &bits.octets[..whole], &[last])
+    }
+
+    /// Writes a truth value (X.690 8.2): TRUE is FF.
+    pub fn boolean(&mut self, identifier: u8, value: bool) -> Result<(), AllocError>
+        requires { identifier % 32 < 31 }
+        ensures ok { OnOk result (self.new ≡ self.old ++ element identifier (truth_octets value)) }
+        ensures err { OnErr result (self.new ≡ self.old) }
+    {
+        let octet = if value { 0xFF } else { 0x00 };
+        self.element(identifier, &[], &[octet], &[])
+    }
+
+    /// Writes a string of octets (X.690 8.7).
+    pub fn octets(&mut self, identifier: u8, octets: &[u8]) -> Result<(), AllocError>
+        requires tag { identifier % 32 < 31 }
+        requires short { length octets.now < 2 ^ 32 }
+        ensures ok { OnOk result (self.new ≡ self.old ++ element identifier octets.now) }
+        ensures err { OnErr result (self.new ≡ self.old) }
+    {
+        self.element(identifier, &[], octets, &[])
+    }
+
+    /// Writes a text (X.690 8.23), as its octets in UTF-8.
+    pub fn text(&mut self, identifier: u8, text: &str) -> Result<(), AllocError>
+        requires tag { identifier % 32 < 31 }
+        requires short { length text.now < 2 ^ 32 }
+        ensures ok { OnOk result (self.new ≡ self.old ++ element identifier text.now) }
+        ensures err { OnErr result (self.new ≡ self.old) }
+    {
+        self.element(identifier, &[], text.as_bytes(), &[])
+    }
+
+    /// Writes a value that is made of values (X.690 8.9), whose octets are given.
+    pub fn nest(&mut self, identifier: u8, inner: &[u8]) -> Result<(), AllocError>
+        requires tag { identifier % 32 < 31 }
+        requires short { length inner.now < 2 ^ 32 }
+        ensures ok { OnOk result (self.new ≡ self.old ++ element identifier inner.now) }
+        ensures err { OnErr result (self.new ≡ self.old) }
+    {
+        self.element(identifier, &[], inner, &[])
+    }
+
+    /// The octets that were written.
+    pub fn finish(self) -> Vec<u8>
+        ensures { result.items ≡ self }
+    {
+        self.octets
+    }
+
+    // Writes a value whose content has three parts; a refused call appends nothing.
+    fn element(
+        &mut self,
+        identifier: u8,
+        first: &[u8],
+        middle: &[u8],
+        last: &[u8],
+    ) -> Result<(), AllocError>
+        requires { length first.now + length middle.now + length last.now < 2 ^ 32 }
+        ensures ok { OnOk result (self.new ≡ self.old ++ element identifier (first.now ++ middle.now ++ last.now)) }
+        ensures err { OnErr result (self.new ≡ self.old) }
+    {
+        let written = self.octets.len();
+        match append(&mut self.octets, identifier, first, middle, last) {
+            Ok(()) => Ok(()),
+            Err(error) => {
+                self.octets.truncate(written);
+                Err(error)
+            }
+        }
+    }
+}
