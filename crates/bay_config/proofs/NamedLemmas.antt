@@ -1,13 +1,15 @@
 -- The node of each switch is among the nodes of its bay.
-use Rattle.std.proofs.Common.{◌≡◌, ℕ, zero, suc, ◌+◌, ◌<◌, Bool, true, false, List, [], ◌∷◌, ◌++◌, length, map, filter, take, get_or, slice_get, Some, codes, All, Contains, refl, sym, ap, subst, ◌∙◌, arith}
+use Rattle.std.proofs.Common.{◌≡◌, ℕ, zero, suc, ◌+◌, ◌<◌, Bool, true, false, List, [], ◌∷◌, ◌++◌, length, map, filter, take, get_or, slice_get, None, Some, codes, All, Contains, refl, sym, ap, subst, ◌∙◌, arith}
 use Rattle.std.proofs.lemmas.List.{get_or-map, length-map}
 use Rattle.std.proofs.lemmas.List.Elements.{Contains-append_left, Contains-append_right, Contains-get_or}
 use Rattle.std.specs.List.{enumerate_from, flat_map}
 use Rattle.bay_tree.specs.declared.row.Row.{Row}
 use Rattle.bay_config.specs.declared.bay.Bay.{Bay}
 use Rattle.bay_config.specs.declared.bay.Switch.{Switch}
-use Rattle.bay_config.specs.Laws.{NamesPosition, NamesInterlocking}
-use Rattle.bay_config.specs.Node.{Node, node_rows, node_name, class_of, is_breaker, is_of, number_of, position_node, position_nodes, position_parts, interlocking_node, interlocking_nodes, interlocking_parts, nodes_of}
+use Rattle.bay_config.specs.declared.bay.SwitchKind.{SwitchKind}
+use Rattle.bay_config.specs.declared.bay.SwitchKind.TheVariants.{Breaker, Disconnector, Earthing}
+use Rattle.bay_config.specs.Laws.{IsBay, HasNode, HasPosition, HasEnable, NamesPosition, NamesInterlocking}
+use Rattle.bay_config.specs.Node.{Node, row, node_rows, node_name, class_of, is_breaker, is_of, number_of, position_node, position_nodes, position_parts, interlocking_node, interlocking_nodes, interlocking_parts, nodes_of, rows_of_all}
 
 Contains-cons : {X : Type 0} (y : X) (xs : List X) (x : X) → Contains xs x → Contains (y ∷ xs) x
 Contains-cons y xs x w = (suc w.0, omega (arith, w.1), w.2)
@@ -79,35 +81,47 @@ position-among false ss place s here e =
     Contains-append_left (position_nodes true ss ++ position_nodes false ss) (interlocking_nodes ss) node
     (Contains-append_right (position_nodes true ss) (position_nodes false ss) node (among-class false ss place s here e))
 
-pub names_position : (bay : Bay) (place : ℕ) (s : Switch) (name : List ℕ) → slice_get bay.switches place ≡ Some s → name ≡ node_name (class_of s.kind) (number_of bay.switches s place) → NamesPosition bay place name
-names_position bay place s name here named =
+-- the rows of a position and of an interlocking, by their places in their nodes
+has-position : (bay : Bay) (name : List ℕ) (kind : SwitchKind) → HasNode bay (record { name = name; parts = position_parts kind }) → HasPosition bay.rows name
+has-position bay name Breaker h = record { position = h 3 (row name None) (omega arith); quality = h 4 (row name None) (omega arith); moment = h 5 (row name None) (omega arith); count = h 15 (row name None) (omega arith); count_moment = h 17 (row name None) (omega arith) }
+has-position bay name Disconnector h = record { position = h 3 (row name None) (omega arith); quality = h 4 (row name None) (omega arith); moment = h 5 (row name None) (omega arith); count = h 15 (row name None) (omega arith); count_moment = h 17 (row name None) (omega arith) }
+has-position bay name Earthing h = record { position = h 3 (row name None) (omega arith); quality = h 4 (row name None) (omega arith); moment = h 5 (row name None) (omega arith); count = h 15 (row name None) (omega arith); count_moment = h 17 (row name None) (omega arith) }
+
+has-open : (bay : Bay) (name : List ℕ) → HasNode bay (record { name = name; parts = interlocking_parts }) → HasEnable bay.rows name (codes "$ST$EnaOpn")
+has-open bay name h = record { value = h 3 (row name None) (omega arith); quality = h 4 (row name None) (omega arith); moment = h 5 (row name None) (omega arith) }
+
+has-close : (bay : Bay) (name : List ℕ) → HasNode bay (record { name = name; parts = interlocking_parts }) → HasEnable bay.rows name (codes "$ST$EnaCls")
+has-close bay name h = record { value = h 7 (row name None) (omega arith); quality = h 8 (row name None) (omega arith); moment = h 9 (row name None) (omega arith) }
+
+position-node : (bay : Bay) (place : ℕ) (s : Switch) (name : List ℕ) → slice_get bay.switches place ≡ Some s → name ≡ node_name (class_of s.kind) (number_of bay.switches s place) → IsBay bay → HasNode bay (record { name = name; parts = position_parts s.kind })
+position-node bay place s name here named is_bay =
     let ss = bay.switches in
-    record {
-      switch = s;
-      here = here;
-      named = named;
-      rows = λ is_bay.
-          let node : Node = record { name = name; parts = position_parts s.kind } in
-          let own : position_node (number_of ss s place, s) ≡ node = ap (λ n. record { name = n; parts = position_parts s.kind }) (sym named) in
-          subst (λ rows. All (Contains rows) (node_rows node)) (sym is_bay.rows) (has-node (nodes_of ss) node (subst (Contains (nodes_of ss)) own (position-among (is_breaker s.kind) ss place s here refl)));
-    }
+    let node : Node = record { name = name; parts = position_parts s.kind } in
+    let own : position_node (number_of ss s place, s) ≡ node = ap (λ n. record { name = n; parts = position_parts s.kind }) (sym named) in
+    subst (λ rows. All (Contains rows) (node_rows node)) (sym is_bay.rows) (has-node (nodes_of ss) node (subst (Contains (nodes_of ss)) own (position-among (is_breaker s.kind) ss place s here refl)))
 
 abbrev interlocking_node_named : ℕ → Node
 interlocking_node_named m = record { name = node_name (codes "CILO") m; parts = interlocking_parts }
 
+interlocking-node : (bay : Bay) (place : ℕ) (name : List ℕ) → place < length bay.switches → name ≡ node_name (codes "CILO") (place + 1) → IsBay bay → HasNode bay (record { name = name; parts = interlocking_parts })
+interlocking-node bay place name lt named is_bay =
+    let ss = bay.switches in
+    let node : Node = record { name = name; parts = interlocking_parts } in
+    let own : (m : ℕ) → m ≡ place + 1 → interlocking_node_named m ≡ node = λ m e. ap interlocking_node_named e ∙ ap (λ n. record { name = n; parts = interlocking_parts }) (sym named) in
+    let w = enumerate-has ss place 1 lt in
+    let at : Contains (nodes_of ss) (interlocking_node (1 + place, w.0)) =
+    Contains-append_right (position_nodes true ss ++ position_nodes false ss) (interlocking_nodes ss) (interlocking_node (1 + place, w.0)) (Contains-map interlocking_node (enumerate_from 1 ss) (1 + place, w.0) w.1) in
+    subst (λ rows. All (Contains rows) (node_rows node)) (sym is_bay.rows) (has-node (nodes_of ss) node (subst (Contains (nodes_of ss)) (own (1 + place) (omega arith)) at))
+
+pub names_position : (bay : Bay) (place : ℕ) (s : Switch) (name : List ℕ) → slice_get bay.switches place ≡ Some s → name ≡ node_name (class_of s.kind) (number_of bay.switches s place) → NamesPosition bay place name
+names_position bay place s name here named =
+    let node = position-node bay place s name here named in
+    record { switch = s; here = here; named = named; node = node; rows = λ is_bay. has-position bay name s.kind (node is_bay) }
+
 pub names_interlocking : (bay : Bay) (place : ℕ) (name : List ℕ) → place < length bay.switches → name ≡ node_name (codes "CILO") (place + 1) → NamesInterlocking bay place name
 names_interlocking bay place name lt named =
-    let ss = bay.switches in
-    record {
-      named = named;
-      rows = λ is_bay.
-          let node : Node = record { name = name; parts = interlocking_parts } in
-          let own : (m : ℕ) → m ≡ place + 1 → interlocking_node_named m ≡ node = λ m e. ap interlocking_node_named e ∙ ap (λ n. record { name = n; parts = interlocking_parts }) (sym named) in
-          let w = enumerate-has ss place 1 lt in
-          let at : Contains (nodes_of ss) (interlocking_node (1 + place, w.0)) =
-          Contains-append_right (position_nodes true ss ++ position_nodes false ss) (interlocking_nodes ss) (interlocking_node (1 + place, w.0)) (Contains-map interlocking_node (enumerate_from 1 ss) (1 + place, w.0) w.1) in
-          subst (λ rows. All (Contains rows) (node_rows node)) (sym is_bay.rows) (has-node (nodes_of ss) node (subst (Contains (nodes_of ss)) (own (1 + place) (omega arith)) at));
-    }
+    let node = interlocking-node bay place name lt named in
+    record { named = named; node = node; open_rows = λ is_bay. has-open bay name (node is_bay); close_rows = λ is_bay. has-close bay name (node is_bay) }
 
 pub get-at : (ss : List Switch) (place : ℕ) (s : Switch) → place < length ss → s ≡ get_or ss place s → slice_get ss place ≡ Some s
 get-at [] place s lt at = absurd (omega arith)

@@ -1,10 +1,14 @@
 -- What holds of every bay that is read, beside what its file says.
-use Rattle.std.specs.Prelude.{◌≡◌, ◌≢◌, ℕ, ◌+◌, ◌≤◌, codes, Some, List, length, slice_get, All, AllPairs, Contains}
+use Rattle.std.specs.Prelude.{◌≡◌, ◌≢◌, ℕ, ◌+◌, ◌≤◌, ◌++◌, pos, false, codes, Some, List, length, slice_get, All, AllPairs, Contains}
+use Rattle.bay_tree.specs.declared.row.Row.{Row}
+use Rattle.bay_tree.specs.declared.leaf.Leaf.TheVariants.{Truth, Dbpos, Quality, Int32, Utc}
+use Rattle.bay_tree.specs.declared.leaf.Dbpos.TheVariants.{Intermediate}
+use Rattle.bay_tree.specs.declared.leaf.Quality.TheVariants.{Invalid}
 use Rattle.bay_tree.specs.Rows.{IsTree}
 use Rattle.bay_config.specs.declared.bay.Bay.{Bay}
 use Rattle.bay_config.specs.declared.bay.Point.{Point}
 use Rattle.bay_config.specs.declared.bay.Switch.{Switch}
-use Rattle.bay_config.specs.Node.{Node, node_rows, node_name, class_of, number_of, position_parts, interlocking_parts, rows_of_all}
+use Rattle.bay_config.specs.Node.{Node, row, node_rows, node_name, class_of, number_of, position_parts, interlocking_parts, rows_of_all}
 use Rattle.bay_config.specs.Point.{points_of, points_of_all}
 
 -- the switch at a place has the point
@@ -36,14 +40,31 @@ pub record IsBay (bay : Bay) : Type 0 where
 abbrev pub HasNode : Bay → Node → Type 0
 HasNode bay node = All (Contains bay.rows) (node_rows node)
 
+-- the rows hold the position of a node XCBR or XSWI and the count of its operations, with the values of the start
+pub record HasPosition (rows : List Row) (node : List ℕ) : Type 0 where
+  pub position : Contains rows (row (node ++ codes "$ST$Pos$stVal") (Some (Dbpos Intermediate)))
+  pub quality : Contains rows (row (node ++ codes "$ST$Pos$q") (Some (Quality Invalid)))
+  pub moment : Contains rows (row (node ++ codes "$ST$Pos$t") (Some (Utc 0)))
+  pub count : Contains rows (row (node ++ codes "$ST$OpCnt$stVal") (Some (Int32 (pos 0))))
+  pub count_moment : Contains rows (row (node ++ codes "$ST$OpCnt$t") (Some (Utc 0)))
+
+-- the rows hold a value of a node CILO, with the values of the start
+pub record HasEnable (rows : List Row) (node object : List ℕ) : Type 0 where
+  pub value : Contains rows (row (node ++ (object ++ codes "$stVal")) (Some (Truth false)))
+  pub quality : Contains rows (row (node ++ (object ++ codes "$q")) (Some (Quality Invalid)))
+  pub moment : Contains rows (row (node ++ (object ++ codes "$t")) (Some (Utc 0)))
+
 -- the name is that of the node XCBR or XSWI of the switch at a place
 pub record NamesPosition (bay : Bay) (place : ℕ) (name : List ℕ) : Type 0 where
   pub switch : Switch
   pub here : slice_get bay.switches place ≡ Some switch
   pub named : name ≡ node_name (class_of switch.kind) (number_of bay.switches switch place)
-  pub rows : IsBay bay → HasNode bay (record { name = name; parts = position_parts switch.kind })
+  pub node : IsBay bay → HasNode bay (record { name = name; parts = position_parts switch.kind })
+  pub rows : IsBay bay → HasPosition bay.rows name
 
 -- the name is that of the node CILO of the switch at a place
 pub record NamesInterlocking (bay : Bay) (place : ℕ) (name : List ℕ) : Type 0 where
   pub named : name ≡ node_name (codes "CILO") (place + 1)
-  pub rows : IsBay bay → HasNode bay (record { name = name; parts = interlocking_parts })
+  pub node : IsBay bay → HasNode bay (record { name = name; parts = interlocking_parts })
+  pub open_rows : IsBay bay → HasEnable bay.rows name (codes "$ST$EnaOpn")
+  pub close_rows : IsBay bay → HasEnable bay.rows name (codes "$ST$EnaCls")

@@ -57,3 +57,6 @@ pub fn read_bay(alloc: Global, text: &str) -> Result<Bay, BayFault>
         }
     }
 }
+
+#[cfg(test)]
+mod tests;
