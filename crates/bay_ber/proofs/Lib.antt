@@ -2,3 +2,4 @@ pub mod ContentLemmas
 pub mod OctetLemmas
 pub mod ReadLemmas
 pub mod TagLemmas
+pub mod WriteLemmas

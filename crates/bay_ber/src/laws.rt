@@ -1,9 +1,22 @@
 // Laws of the spelling. Each function does nothing, and its contract is the law.
-ghost use Rattle.std.specs.Prelude.{◌≡◌, List, ℕ};
+ghost use Rattle.std.specs.Prelude.{◌≡◌, ◌*◌, ◌^◌, ◌<◌, ◌≤◌, ◌++◌, List, ℕ, ℤ, Bool, FitsSigned, length};
+ghost use Rattle.std.specs.Int.{w64};
+ghost use Rattle.bay_ber.specs.Content.{IsInteger, IsBits, IsTruth};
 ghost use Rattle.bay_ber.specs.Reading.{Reading, Begins};
+ghost use Rattle.bay_ber.specs.Spelling.{identifier};
+ghost use Rattle.bay_ber.specs.Writing.{element, integer_octets, truth_octets, bit_octets, bit_string_octets};
+ghost use Rattle.bay_ber.specs.declared.tlv.Class.{Class};
 
 /// At most one prefix of an input is spelled, in one way.
 pub fn one_spelling()
     ensures reading { (octets : List ℕ) (r s : Reading) → Begins octets r → Begins octets s → r ≡ s }
     ensures prefix { (octets : List ℕ) (r s : Reading) (a : Begins octets r) (b : Begins octets s) → a.front ≡ b.front }
+{}
+
+/// What is written is read back, whatever follows it: the value, and each content as the value that was written.
+pub fn written_is_read()
+    ensures value { (class : Class) (constructed : Bool) (number : ℕ) (content rest : List ℕ) → number < 31 → length content < 2 ^ 32 → Begins (element (identifier class constructed number) content ++ rest) (record { class = class; constructed = constructed; number = number; content = content; rest = rest }) }
+    ensures integer { (value : ℤ) → FitsSigned w64 value → IsInteger (integer_octets value) value }
+    ensures bits { (octets : List ℕ) (count : ℕ) → count ≤ 8 * length octets → count < 2 ^ 35 → IsBits (bit_string_octets octets count) (bit_octets octets count) count }
+    ensures truth { (value : Bool) → IsTruth (truth_octets value) value }
 {}

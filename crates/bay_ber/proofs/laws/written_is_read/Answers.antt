@@ -1,0 +1,14 @@
+use Rattle.bay_ber.proofs.WriteLemmas.{element_begins, integer_is, bit_string_is, truth_is}
+use Rattle.bay_ber.proofs.laws.written_is_read.Goals as goal
+
+pub returns-clause-value : goal.returns-clause-value
+returns-clause-value c = element_begins
+
+pub returns-clause-integer : goal.returns-clause-integer
+returns-clause-integer c = integer_is
+
+pub returns-clause-bits : goal.returns-clause-bits
+returns-clause-bits c = bit_string_is
+
+pub returns-clause-truth : goal.returns-clause-truth
+returns-clause-truth c = truth_is
