@@ -3,6 +3,7 @@ pub mod Code
 pub mod Declaring
 pub mod Durations
 pub mod Forms
+pub mod LetterCase
 pub mod Listing
 pub mod ListingViews
 pub mod Literals

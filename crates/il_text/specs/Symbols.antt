@@ -65,7 +65,7 @@ mark_of p =
     else if slice_index p 0 == byte "&" then Some mark.Ampersand
     else None
 
-abbrev mark_piece : Option Mark → Piece
+abbrev pub mark_piece : Option Mark → Piece
 mark_piece (Some m) = token (mark_symbol m)
 mark_piece None = bad_token
 
