@@ -1,11 +1,11 @@
 -- Letters in upper case: pieces.
-use Rattle.std.proofs.Common.{◌≡◌, ℕ, suc, zero, ◌+◌, ◌<◌, ◌≤◌, ◌&&◌, ◌||◌, not, Bool, true, false, cond, List, [], ◌∷◌, Option, Some, None, option_map, map, length, slice_index, eqb, ltb, leb, codes, refl, sym, ap, ◌∙◌, arith, lit<}
+use Rattle.std.proofs.Common.{◌≡◌, ℕ, suc, zero, ◌||◌, Bool, true, false, cond, List, [], ◌∷◌, Option, Some, None, map, length, slice_index, eqb, ltb, leb, codes, refl, ap, ◌∙◌, lit<}
 use Rattle.std.specs.List.{list_all}
 use Rattle.std.specs.Str.{bytes_eq}
 use Rattle.std.proofs.lemmas.Bool.{ltb-true}
 use Rattle.il_text.proofs.CutLemmas.{and_left, and_right}
 use Rattle.il_text.specs.Characters.{is_blank, is_sign, is_word, begins_word, begins_name, linked}
-use Rattle.il_text.specs.Names.{upper, same_name}
+use Rattle.il_text.specs.Names.{same_name}
 use Rattle.il_text.specs.Literals.{halves, prefixed, decimal, untyped}
 use Rattle.il_text.specs.Words.{operator, frame_word, is_type, is_modified_operator, is_logic, is_arithmetic, is_comparison, is_jump, reserved_of}
 use Rattle.il_text.specs.Pieces.{opens, ends, closes, blanked, blank_of, joins, join, pieces}
@@ -15,7 +15,7 @@ use Rattle.il_text.specs.declared.literal.Judged.{Judged}
 use Rattle.il_text.specs.declared.literal.Judged.TheVariants.{Fine, Malformed, OutOfRange}
 use Rattle.il_text.specs.declared.reserved.Reserved.{Reserved}
 use Rattle.il_text.specs.declared.token.Mark.{Mark}
-use Rattle.il_text.proofs.CaseLemmas.{up, up-eqb, up-underscore, up-digit, up-alphabetic, up-alphanumeric, same_up, length-up, up_both, halves-up, decimal-up, prefixed-up}
+use Rattle.il_text.proofs.CaseLemmas.{up, up-eqb, up-underscore, up-digit, up-alphabetic, up-alphanumeric, same_up, length-up, halves-up, decimal-up, prefixed-up}
 
 abbrev pub upper_symbol : Symbol → Symbol
 upper_symbol (name n) = name (map up n)

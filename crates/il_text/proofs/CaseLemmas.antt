@@ -1,14 +1,12 @@
 -- Letters in upper case: literals.
-use Rattle.std.proofs.Common.{◌≡◌, ◌≢◌, ℕ, suc, zero, ◌+◌, ◌-◌, ◌*◌, ◌<◌, ◌≤◌, ◌&&◌, ◌||◌, not, Bool, true, false, cond, List, [], ◌∷◌, ◌++◌, Option, Some, None, option_map, option_and_then, map, filter, length, drop, take, slice_index, eqb, ltb, refl, sym, ap, subst, ◌∙◌, arith, lit<}
-use Rattle.std.proofs.lemmas.Grind.{common_steps}
+use Rattle.std.proofs.Common.{◌≡◌, ℕ, suc, ◌+◌, ◌*◌, ◌<◌, ◌||◌, not, Bool, true, false, cond, List, [], ◌∷◌, Option, Some, None, option_map, option_and_then, map, filter, length, drop, take, eqb, ltb, refl, ap, ◌∙◌, arith, lit<}
 use Rattle.std.proofs.lemmas.Bool.Decides.{nat_tests}
 use Rattle.std.proofs.lemmas.List.{drop-map, take-map}
-use Rattle.std.specs.Char.{to_ascii_uppercase, is_ascii_digit, is_ascii_alphabetic, is_ascii_alphanumeric, digit_value, is_digit}
-use Rattle.std.specs.List.{position_or_len, before_first, after_first, prefix_len}
-use Rattle.std.specs.Str.{bytes_eq}
-use Rattle.std.specs.Str.Parse.{digits_value, digits_value_after}
-use Rattle.il_text.specs.Names.{upper, same_name}
-use Rattle.il_text.specs.Literals.{is_underscore, is_hash, is_integer, number, halves, base_of, decimal, based, integer, typed_bool, typed_int, typed_dint, typed_time, Duration, number_len, unit_len, number_of_part, with_part, part, total_of, milliseconds, prefixed, judged_span, untyped}
+use Rattle.std.specs.Char.{to_ascii_uppercase, is_ascii_digit, is_ascii_alphabetic, is_ascii_alphanumeric, digit_value}
+use Rattle.std.specs.List.{position_or_len, prefix_len}
+use Rattle.std.specs.Str.Parse.{digits_value_after}
+use Rattle.il_text.specs.Names.{same_name}
+use Rattle.il_text.specs.Literals.{is_underscore, is_hash, is_integer, number, halves, base_of, decimal, based, integer, typed_bool, typed_int, typed_dint, typed_time, Duration, number_len, unit_len, number_of_part, with_part, part, total_of, milliseconds, prefixed}
 
 abbrev pub up : ℕ → ℕ
 up = to_ascii_uppercase

@@ -1,11 +1,11 @@
 -- Letters in upper case: lines and the program.
-use Rattle.std.proofs.Common.{◌≡◌, ℕ, ◌+◌, ◌&&◌, Bool, true, false, cond, not, List, [], ◌∷◌, ◌++◌, Option, Some, None, Ok, Err, Result, option_map, option_and_then, map, take, drop, ltb, refl, sym, ap, ◌∙◌}
+use Rattle.std.proofs.Common.{◌≡◌, ℕ, ◌+◌, Bool, true, false, cond, List, [], ◌∷◌, Option, Some, None, Ok, Err, Result, option_map, option_and_then, map, take, drop, ltb, refl, ap, ◌∙◌}
 use Rattle.std.proofs.lemmas.List.{drop-map, take-map, map-append}
-use Rattle.std.specs.List.{prefix_len, position_or_len, before_first, after_first}
+use Rattle.std.specs.List.{position_or_len}
 use Rattle.std.specs.Option.{ok_or}
 use Rattle.il_text.specs.Forms.{is_reserved, is_mark, name_of, truth_of, header, is_alone, opened, operand, operation, instruction, tail, names_from, is_colon, declaration}
 use Rattle.il_text.specs.LetterCase.{upper_source, upper_action, upper_entry, upper_declared, upper_listing, upper_program, LettersMayBeRespelled}
-use Rattle.il_text.specs.Listing.{Source, constant, variable, Action, load, store, combine, Entry, action, Declared, Listing}
+use Rattle.il_text.specs.Listing.{Source, Action, load, store, combine, action, Declared, Listing}
 use Rattle.il_text.specs.Reading.{onto, lines, then_on, tokens_of, Reached, with_name, at_place, declared_in, with_declarations, with_action, with_instruction, body_line, block_line, line_at, block_or_body, after_line, whole, reading, nothing_read, program_of, too_long}
 use Rattle.il_text.specs.Symbols.{Symbol, name, reserved_word, truth, other_literal, mark_symbol, Piece, blank, line_end, token, bad_token, bad_literal, cut}
 use Rattle.il_text.specs.declared.fault.TextFault.{TextFault}

@@ -1,5 +1,5 @@
 -- The first piece of a text, from its characters.
-use Rattle.std.proofs.Common.{◌≡◌, ◌≢◌, ℕ, suc, zero, ◌+◌, ◌-◌, ◌<◌, ◌≤◌, ◌&&◌, ◌||◌, not, Bool, true, false, cond, List, [], ◌∷◌, length, drop, take, slice_index, slice_range, eqb, refl, sym, ap, subst, ◌∙◌, arith, add-zero, inl, inr, ◌⊎◌, ⊎_elim}
+use Rattle.std.proofs.Common.{◌≡◌, ◌≢◌, ℕ, suc, zero, ◌+◌, ◌-◌, ◌<◌, ◌≤◌, ◌&&◌, not, Bool, true, false, cond, List, [], ◌∷◌, length, drop, slice_index, slice_range, eqb, refl, sym, ap, subst, ◌∙◌, arith, add-zero, inl, inr, ◌⊎◌, ⊎_elim}
 use Rattle.std.proofs.lemmas.Grind.{common_steps}
 use Rattle.std.proofs.lemmas.Bool.{false≢true, eqb-true, eq-eqb, ne_eqb, cases_lt}
 use Rattle.std.proofs.lemmas.Bool.Decides.{nat_tests}
@@ -9,7 +9,7 @@ use Rattle.il_text.specs.Characters.{linked}
 use Rattle.il_text.specs.Names.{same_name}
 use Rattle.il_text.specs.Pieces.{opens, blanked, closes, joins, join, pieces}
 use Rattle.il_text.specs.Runs.{IsRun, IsPiece, is_negated_and}
-use Rattle.il_text.proofs.Lists.{front_of, none_left}
+use Rattle.il_text.proofs.Lists.{front_of}
 use Rattle.il_text.proofs.PieceLemmas.{index-drop, run_ascii}
 
 abbrev pub first_piece : List (List ℕ) → List ℕ

@@ -1,7 +1,6 @@
 -- Parts of a duration, with totals past every bound counted as one.
-use Rattle.std.proofs.Common.{◌≡◌, ℕ, ◌+◌, ◌*◌, ◌^◌, ◌<◌, ◌≤◌, ◌&&◌, ◌==◌, Bool, true, false, cond, List, Option, Some, None, option_map, option_and_then, length, take, drop, min, leb, refl, sym, ap, subst, ◌∙◌, arith, ⊎_elim, lit<}
+use Rattle.std.proofs.Common.{◌≡◌, ℕ, ◌+◌, ◌*◌, ◌^◌, ◌<◌, ◌≤◌, ◌&&◌, ◌==◌, Bool, true, false, cond, List, Option, Some, None, option_and_then, length, take, drop, min, refl, sym, ap, subst, ◌∙◌, arith, ⊎_elim, lit<}
 use Rattle.std.proofs.lemmas.Bool.{cases_lt}
-use Rattle.std.proofs.lemmas.Bool.Decides.{nat_tests}
 use Rattle.std.proofs.Math.Nat.{mul-le-mul_left, mul-le-mul_right}
 use Rattle.il_text.specs.Names.{same_name}
 use Rattle.il_text.specs.Literals.{Duration, number_len, unit_len, number_of_part, part, total_of, judged_span}

@@ -1,9 +1,9 @@
 -- A piece of a text, by its first character.
-use Rattle.std.proofs.Common.{◌≡◌, ℕ, ◌<◌, ◌≤◌, ◌||◌, Bool, true, false, cond, List, [], ◌∷◌, Option, Some, None, length, slice_index, slice_range, refl, sym, ap, ◌∙◌, arith}
+use Rattle.std.proofs.Common.{◌≡◌, ℕ, ◌<◌, ◌≤◌, true, false, List, Some, None, length, slice_index, slice_range, refl, sym, arith}
 use Rattle.std.proofs.lemmas.Grind.{common_steps}
 use Rattle.il_text.specs.Characters.{is_blank, begins_word, begins_name}
 use Rattle.il_text.specs.Literals.{halves, prefixed, decimal, untyped}
-use Rattle.il_text.specs.Symbols.{Piece, blank, line_end, token, bad_token, mark_symbol, word, plain_word, judged_piece, is_line_end, mark_of, piece}
+use Rattle.il_text.specs.Symbols.{blank, line_end, token, bad_token, mark_symbol, word, plain_word, judged_piece, is_line_end, mark_of, piece}
 use Rattle.il_text.specs.declared.token.Mark.{Mark}
 
 pub word_some : (w : List ℕ) (h : List ℕ × List ℕ) → Some h ≡ halves w → word w ≡ judged_piece (prefixed h.0 h.1)

@@ -1,10 +1,10 @@
 -- One line, and one token of a declaration.
-use Rattle.std.proofs.Common.{◌≡◌, ℕ, ◌+◌, ◌-◌, ◌<◌, ◌≤◌, Bool, true, false, List, [], ◌∷◌, ◌++◌, Option, Some, None, Ok, Err, option_map, map, length, drop, get_or, Bor, Vec, Global, rules, refl, ap, sym, ◌∙◌, arith, append_assoc, append-nil, drop-cons, add-one, suc, take}
+use Rattle.std.proofs.Common.{◌≡◌, ℕ, ◌+◌, ◌-◌, ◌<◌, ◌≤◌, true, false, List, [], ◌∷◌, ◌++◌, Option, Some, None, Ok, Err, option_map, map, length, drop, get_or, rules, refl, ap, sym, ◌∙◌, arith, append_assoc, append-nil, drop-cons, add-one, suc, take}
 use Rattle.std.proofs.lemmas.Grind.{common_steps}
 use Rattle.std.proofs.lemmas.List.{drop-map, take-map}
-use Rattle.il_text.specs.Listing.{Declared, Entry, action, block, entries_of}
+use Rattle.il_text.specs.Listing.{Declared, action}
 use Rattle.il_text.specs.Symbols.{Symbol}
-use Rattle.std.specs.List.{position_or_len, before_first, after_first}
+use Rattle.std.specs.List.{position_or_len, before_first}
 use Rattle.std.specs.Option.{ok_or}
 use Rattle.il_text.specs.Forms.{names_from, name_of, is_mark, is_colon, is_alone, tail, declaration}
 use Rattle.il_text.specs.declared.fault.TextFault.TheVariants.{BadLine}
@@ -18,7 +18,7 @@ use Rattle.il_text.specs.declared.form.Tail.{Tail}
 use Rattle.il_text.specs.declared.token.Token.{Token}
 use Rattle.il_text.specs.declared.token.Mark.TheVariants as mark
 use Rattle.il_text.specs.declared.program.Scope.{Scope}
-use Rattle.il_text.specs.declared.program.Item.{Item, Instruction, the_lemmas}
+use Rattle.il_text.specs.declared.program.Item.{Instruction, the_lemmas}
 use Rattle.il_text.specs.declared.program.Instruction as ins
 
 pub front_item : {X : Type 0} → (xs : List X) (i : ℕ) (x : X) → i < length xs → x ≡ get_or xs i x → drop i xs ≡ x ∷ drop (i + 1) xs

@@ -1,23 +1,20 @@
 -- One piece, or one character of a comment.
-use Rattle.std.proofs.Common.{◌≡◌, ◌≢◌, ℕ, suc, ◌+◌, ◌<◌, ◌≤◌, ◌&&◌, Bool, true, false, cond, List, [], ◌∷◌, ◌++◌, Option, Some, None, Ok, Err, Result, map, length, drop, slice_index, slice_range, eqb, refl, sym, ap, subst, ◌∙◌, arith, append_assoc, append-nil}
-use Rattle.std.proofs.lemmas.Grind.{common_steps}
-use Rattle.std.proofs.lemmas.Bool.{false≢true, eqb-true, ne_eqb}
-use Rattle.std.proofs.lemmas.Bool.Decides.{nat_tests}
+use Rattle.std.proofs.Common.{◌≡◌, ◌≢◌, ℕ, ◌+◌, ◌<◌, ◌≤◌, Bool, true, false, List, [], ◌∷◌, ◌++◌, Ok, Err, Result, map, length, drop, slice_index, slice_range, eqb, refl, sym, ap, subst, ◌∙◌, arith, append-nil}
+use Rattle.std.proofs.lemmas.Bool.{eqb-true, ne_eqb}
 use Rattle.std.proofs.lemmas.List.{map-append}
 use Rattle.std.proofs.Math.Bool.{and-false}
 use Rattle.il_text.specs.Characters.{linked}
-use Rattle.il_text.specs.Listing.{Listing}
-use Rattle.il_text.specs.Pieces.{opens, ends, closes, blanked, blank_of, joins, join, pieces}
+use Rattle.il_text.specs.Pieces.{opens, ends, closes, blanked, pieces}
 use Rattle.il_text.specs.Reading.{Reached, reading, lines, onto, tokens_of, then_on, after_line, whole, nothing_read, program_of}
 use Rattle.il_text.specs.Places.{last_line}
 use Rattle.il_text.specs.ReaderViews.{read_on}
 use Rattle.il_text.specs.Runs.{IsPiece}
-use Rattle.il_text.specs.Symbols.{Symbol, Piece, blank, line_end, token, bad_token, bad_literal, piece, cut, word, mark_of}
+use Rattle.il_text.specs.Symbols.{Symbol, Piece, blank, line_end, token, bad_token, bad_literal, piece, cut, mark_of}
 use Rattle.il_text.specs.declared.fault.TextFault.{TextFault}
 use Rattle.il_text.specs.declared.fault.TextFault.TheVariants.{BadToken, BadLiteral}
 use Rattle.il_text.proofs.Lists.{front_of, none_left}
 use Rattle.il_text.proofs.PieceLemmas.{index-drop}
-use Rattle.il_text.proofs.CutLemmas.{join_alone, not_N, within_of, and_left, and_right}
+use Rattle.il_text.proofs.CutLemmas.{join_alone, not_N, within_of, and_right}
 
 -- good tokens in front of the first of the lines
 abbrev onto_all : List Symbol → List (List Piece) → List (List Piece)

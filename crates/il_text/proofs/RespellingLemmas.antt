@@ -1,8 +1,7 @@
 -- Blanks between two parts of a text.
-use Rattle.std.proofs.Common.{◌≡◌, ◌≢◌, ℕ, ◌+◌, ◌<◌, ◌≤◌, ◌&&◌, ◌||◌, not, Bool, true, false, cond, List, [], ◌∷◌, ◌++◌, map, length, slice_index, eqb, ltb, refl, sym, ap, subst, ◌∙◌, arith, append_assoc, append-nil, length-append, inl, inr, ◌⊎◌, ⊎_elim}
+use Rattle.std.proofs.Common.{◌≡◌, ◌≢◌, ℕ, ◌+◌, ◌<◌, ◌&&◌, ◌||◌, not, Bool, true, false, cond, List, [], ◌∷◌, ◌++◌, map, length, slice_index, eqb, refl, sym, ap, subst, ◌∙◌, arith, length-append, inl, inr, ◌⊎◌, ⊎_elim}
 use Rattle.std.specs.List.{list_all}
 use Rattle.std.proofs.lemmas.Bool.{false≢true, eqb-true, ne_eqb, lt-ltb}
-use Rattle.std.proofs.lemmas.Bool.Decides.{nat_tests}
 use Rattle.std.proofs.lemmas.List.{map-append}
 use Rattle.std.proofs.Math.Bool.{and-false, or-true}
 use Rattle.il_text.specs.Characters.{is_blank, linked}
@@ -12,7 +11,7 @@ use Rattle.il_text.specs.Places.{last_line}
 use Rattle.il_text.specs.Reading.{lines, onto, reading, nothing_read, program_of}
 use Rattle.il_text.specs.Respelling.{ends_inside, AreBlanks, BlanksMayBeRespelled}
 use Rattle.il_text.specs.Symbols.{Piece, blank, line_end, token, bad_token, bad_literal, piece, cut}
-use Rattle.il_text.proofs.CutLemmas.{and_left, and_right, Stands, blanked_first, blanked_plain, N}
+use Rattle.il_text.proofs.CutLemmas.{and_left, and_right, Stands, blanked_first, blanked_plain}
 use Rattle.il_text.proofs.ReadLemmas.{Alone, alone-space, pieces_alone, space_piece}
 
 or_cases : (a b : Bool) → a || b ≡ true → (a ≡ true) ⊎ (b ≡ true)

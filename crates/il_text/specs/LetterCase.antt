@@ -1,5 +1,5 @@
 -- A program with its names in upper case.
-use Rattle.std.specs.Prelude.{◌≡◌, List, [], ◌∷◌, map, Result, Ok, Err}
+use Rattle.std.specs.Prelude.{◌≡◌, List, map, Result, Ok, Err}
 use Rattle.il_text.specs.Listing.{Source, constant, variable, Action, load, store, combine, Entry, action, block, Entries, no_entries, entry, Declared, Listing}
 use Rattle.il_text.specs.Names.{upper}
 use Rattle.il_text.specs.Reading.{program_of}

@@ -1,12 +1,7 @@
 -- What the lines so far stand for in the code.
-use Rattle.std.specs.Prelude.{◌≡◌, ◌≢◌, List, ◌++◌, map, Option, option_map, Result, Ok, Err}
-use Rattle.il_text.specs.Listing.{Declared}
-use Rattle.il_text.specs.Forms.{names_from}
-use Rattle.il_text.specs.Symbols.{Symbol}
-use Rattle.il_text.specs.Reading.{Reached, declared_in}
+use Rattle.std.specs.Prelude.{map}
+use Rattle.il_text.specs.Reading.{Reached}
 use Rattle.il_text.specs.Views.{declared_of, entry_of}
-use Rattle.il_text.specs.declared.form.Tail.{Tail}
-use Rattle.il_text.specs.declared.program.Scope.{Scope}
 use Rattle.il_text.specs.declared.listing.Listing as code
 
 abbrev pub reached_of : code.Listing → Reached

@@ -1,7 +1,7 @@
 -- The program of a text (IEC 61131-3:2003, 2.5.3 and annex B).
-use Rattle.std.specs.Prelude.{ℕ, ◌+◌, Bool, true, false, ◌==◌, nat_lt, if◌then◌else◌, List, [], ◌∷◌, ◌++◌, map, Option, Some, None, option_map, Result, Ok, Err}
+use Rattle.std.specs.Prelude.{ℕ, ◌+◌, false, ◌==◌, nat_lt, if◌then◌else◌, List, [], ◌∷◌, ◌++◌, map, Option, Some, None, option_map, Result, Ok, Err}
 use Rattle.std.specs.Option.{ok_or}
-use Rattle.il_text.specs.Listing.{Action, Entry, action, Declared, Listing}
+use Rattle.il_text.specs.Listing.{Action, action, Declared, Listing}
 use Rattle.il_text.specs.Symbols.{Symbol, Piece, blank, line_end, token, bad_token, bad_literal, cut}
 use Rattle.il_text.specs.Forms.{header, is_alone, opened, instruction, declaration}
 use Rattle.il_text.specs.Places.{last_line}

@@ -1,5 +1,5 @@
 -- The plain data that a program of the code stands for.
-use Rattle.std.specs.Prelude.{ℕ, List, [], ◌∷◌, map}
+use Rattle.std.specs.Prelude.{map}
 use Rattle.il_text.specs.Listing.{Source, constant, variable, Action, load, store, combine, Entry, action, block, entries_of, Declared, Listing}
 use Rattle.il_text.specs.declared.program.Operand.{Operand}
 use Rattle.il_text.specs.declared.program.Operand.TheVariants.{Literal, Name}

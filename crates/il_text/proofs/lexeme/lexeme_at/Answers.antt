@@ -1,4 +1,4 @@
-use Rattle.std.proofs.Common.{◌≡◌, ◌<◌, ◌≤◌, List, ℕ, Bool, true, false, length, slice_index, slice_range, sym, ap, ◌∙◌, subst}
+use Rattle.std.proofs.Common.{◌≡◌, ◌<◌, ◌≤◌, List, ℕ, Bool, length, slice_index, slice_range, sym, ap, ◌∙◌, subst}
 use Rattle.il_text.specs.Characters.{is_blank, begins_word}
 use Rattle.il_text.specs.Symbols.{is_line_end, mark_of, word}
 use Rattle.il_text.proofs.PieceLemmas.{boundary_after}

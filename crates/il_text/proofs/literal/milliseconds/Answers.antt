@@ -1,7 +1,7 @@
-use Rattle.std.proofs.Common.{◌≡◌, ℕ, List, [], Option, Some, None, true, false, option_map, option_and_then, sym, refl, ap, ◌∙◌}
+use Rattle.std.proofs.Common.{Option, Some, false, option_map, option_and_then, sym, refl, ap, ◌∙◌}
 use Rattle.il_text.specs.Literals.{Duration, milliseconds, total_of}
 use Rattle.il_text.specs.Runs.{capped}
-use Rattle.il_text.specs.Durations.{seen, capped_duration}
+use Rattle.il_text.specs.Durations.{seen}
 use Rattle.il_text.proofs.DurationLemmas.{none_from, total_from}
 use Rattle.il_text.proofs.literal.milliseconds.Goals.{else-last-via-then-last+else-is_empty, else-last-via-else-last}
 use Rattle.il_text.proofs.literal.milliseconds.Goals as goal

@@ -1,8 +1,8 @@
-use Rattle.std.proofs.Common.{◌≡◌, ℕ, List, Option, Some, None, true, false, option_map, take, drop, sym, refl, ap, ◌∙◌}
+use Rattle.std.proofs.Common.{◌≡◌, ℕ, List, Some, None, true, false, option_map, take, drop, sym, refl, ap, ◌∙◌}
 use Rattle.il_text.specs.Names.{same_name}
-use Rattle.il_text.specs.Literals.{Duration, number_len, unit_len, number_of_part}
+use Rattle.il_text.specs.Literals.{number_len, unit_len, number_of_part}
 use Rattle.il_text.specs.Runs.{capped}
-use Rattle.il_text.specs.Durations.{seen, capped_duration}
+use Rattle.il_text.specs.Durations.{seen}
 use Rattle.il_text.proofs.DurationLemmas.{part_other, part_bad, part_more}
 use Rattle.il_text.proofs.literal.part.Goals as goal
 

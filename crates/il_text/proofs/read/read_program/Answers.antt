@@ -1,4 +1,4 @@
-use Rattle.std.proofs.Common.{◌≡◌, ◌≤◌, length, sym, ◌∙◌, refl}
+use Rattle.std.proofs.Common.{◌≤◌, length, sym, ◌∙◌, refl}
 use Rattle.std.proofs.lemmas.Result.{err_from_is_err_and}
 use Rattle.il_text.specs.ListingViews.{reached_of}
 use Rattle.il_text.specs.TokenViews.{symbols_of}

@@ -1,4 +1,4 @@
-use Rattle.std.proofs.Common.{◌≡◌, ℕ, List, sym, subst, ◌∙◌}
+use Rattle.std.proofs.Common.{ℕ, List, sym, subst, ◌∙◌}
 use Rattle.il_text.specs.ListingViews.{reached_of}
 use Rattle.il_text.specs.Runs.{IsPiece}
 use Rattle.il_text.specs.TokenViews.{symbols_of}
