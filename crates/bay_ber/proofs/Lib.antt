@@ -1,5 +1,6 @@
 pub mod ContentLemmas
 pub mod OctetLemmas
 pub mod ReadLemmas
+pub mod ShortestLemmas
 pub mod TagLemmas
 pub mod WriteLemmas

@@ -17,19 +17,19 @@ use Rattle.bay_ber.proofs.ReadLemmas.{IsBytes, chosen}
 
 -- ---- lengths
 
-octets_needed-1 : (n : ℕ) → n < 256 → octets_needed n ≡ 1
+pub octets_needed-1 : (n : ℕ) → n < 256 → octets_needed n ≡ 1
 octets_needed-1 n lt = rw (lt-ltb n 256 lt) refl
 
-octets_needed-2 : (n : ℕ) → 256 ≤ n → n < 65536 → octets_needed n ≡ 2
+pub octets_needed-2 : (n : ℕ) → 256 ≤ n → n < 65536 → octets_needed n ≡ 2
 octets_needed-2 n ge lt = rw (le-ltb n 256 ge, lt-ltb n 65536 lt) refl
 
-octets_needed-3 : (n : ℕ) → 65536 ≤ n → n < 16777216 → octets_needed n ≡ 3
+pub octets_needed-3 : (n : ℕ) → 65536 ≤ n → n < 16777216 → octets_needed n ≡ 3
 octets_needed-3 n ge lt = rw (le-ltb n 256 (omega arith), le-ltb n 65536 ge, lt-ltb n 16777216 lt) refl
 
-octets_needed-4 : (n : ℕ) → 16777216 ≤ n → octets_needed n ≡ 4
+pub octets_needed-4 : (n : ℕ) → 16777216 ≤ n → octets_needed n ≡ 4
 octets_needed-4 n ge = rw (le-ltb n 256 (omega arith), le-ltb n 65536 (omega arith), le-ltb n 16777216 ge) refl
 
-long_is : (n k : ℕ) → octets_needed n ≡ k → 128 ≤ n → length_octets n ≡ (128 + k) ∷ bytes_high_first k n
+pub long_is : (n k : ℕ) → octets_needed n ≡ k → 128 ≤ n → length_octets n ≡ (128 + k) ∷ bytes_high_first k n
 unfolding length_octets
 long_is n k needed ge = rw (le-ltb n 128 ge, needed) refl
 
@@ -94,7 +94,7 @@ number_from h (x ∷ octets) =
     let b = number_from (0 * 256 + x) octets in
     a ∙ carried h x (256 ^ length octets) (number_of octets) ∙ rw (← pow-suc 256 (length octets), ← b) refl
 
-number_of-cons : (x : ℕ) (octets : List ℕ) → number_of (x ∷ octets) ≡ x * 256 ^ length octets + number_of octets
+pub number_of-cons : (x : ℕ) (octets : List ℕ) → number_of (x ∷ octets) ≡ x * 256 ^ length octets + number_of octets
 number_of-cons x octets = number_from (0 * 256 + x) octets ∙ rw (let e : 0 * 256 + x ≡ x = omega arith in e) refl
 
 pub number_of-below : (octets : List ℕ) → IsBytes octets → number_of octets < 256 ^ length octets

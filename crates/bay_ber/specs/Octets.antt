@@ -1,6 +1,10 @@
 -- Numbers of octets.
-use Rattle.std.specs.Prelude.{ℕ, ◌+◌, ◌*◌, fold, List}
+use Rattle.std.specs.Prelude.{ℕ, ◌+◌, ◌*◌, ◌<◌, fold, slice_index, List}
 
 -- the number whose octets these are, the highest first
 abbrev pub number_of : List ℕ → ℕ
 number_of octets = fold (λ high octet. high * 256 + octet) 0 octets
+
+-- each number of the list is an octet
+abbrev pub AreOctets : List ℕ → Type 0
+AreOctets octets = (i : ℕ) → slice_index octets i < 256

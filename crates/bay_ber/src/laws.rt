@@ -2,8 +2,9 @@
 ghost use Rattle.std.specs.Prelude.{◌≡◌, ◌*◌, ◌^◌, ◌<◌, ◌≤◌, ◌++◌, List, ℕ, ℤ, Bool, FitsSigned, length};
 ghost use Rattle.std.specs.Int.{w64};
 ghost use Rattle.bay_ber.specs.Content.{IsInteger, IsBits, IsTruth};
+ghost use Rattle.bay_ber.specs.Octets.{AreOctets};
 ghost use Rattle.bay_ber.specs.Reading.{Reading, Begins};
-ghost use Rattle.bay_ber.specs.Spelling.{identifier};
+ghost use Rattle.bay_ber.specs.Spelling.{identifier, Spells};
 ghost use Rattle.bay_ber.specs.Writing.{element, integer_octets, truth_octets, bit_octets, bit_string_octets};
 ghost use Rattle.bay_ber.specs.declared.tlv.Class.{Class};
 
@@ -19,4 +20,11 @@ pub fn written_is_read()
     ensures integer { (value : ℤ) → FitsSigned w64 value → IsInteger (integer_octets value) value }
     ensures bits { (octets : List ℕ) (count : ℕ) → count ≤ 8 * length octets → count < 2 ^ 35 → IsBits (bit_string_octets octets count) (bit_octets octets count) count }
     ensures truth { (value : Bool) → IsTruth (truth_octets value) value }
+{}
+
+/// What is written is the shortest spelling: no octets that spell the same value, and no content of the same integer, are
+/// fewer.
+pub fn written_is_shortest()
+    ensures value { (octets : List ℕ) (class : Class) (constructed : Bool) (number : ℕ) (content : List ℕ) → AreOctets octets → Spells octets class constructed number content → length (element (identifier class constructed number) content) ≤ length octets }
+    ensures integer { (content : List ℕ) (value : ℤ) → AreOctets content → IsInteger content value → length (integer_octets value) ≤ length content }
 {}

@@ -6,5 +6,7 @@
 pub mod content;
 pub mod fault;
 pub mod laws;
+#[cfg(test)]
+mod tests;
 pub mod tlv;
 pub mod writer;

@@ -180,7 +180,8 @@ impl Writer {
     pub fn finish(self) -> Vec<u8>
         ensures { result.items ≡ self }
     {
-        self.octets
+        let Writer { octets } = self;
+        octets
     }
 
     // Writes a value whose content has three parts; a refused call appends nothing.
