@@ -350,3 +350,22 @@ pub one_front : (octets : List ℕ) (r s : Reading) (a : Begins octets r) (b : B
 one_front octets r s a b =
     let same : r.rest ≡ s.rest = ap (λ (x : Reading). x.rest) (one_reading octets r s a b) in
     append_cancel_right a.front b.front s.rest (ap (λ (xs : List ℕ). a.front ++ xs) (sym same) ∙ sym a.parts ∙ b.parts)
+
+pub tag_some : (tag : List ℕ) (class : Class) (constructed : Bool) (number : ℕ) → IsTag tag class constructed number → 0 < length tag
+tag_some [] class constructed number is = absurd is
+tag_some (first ∷ octets) class constructed number is = omega arith
+
+len_some : (len : List ℕ) (n : ℕ) → IsLength len n → 0 < length len
+len_some [] n is = absurd is
+len_some (first ∷ octets) n is = omega arith
+
+-- a tag and a length take two octets at least
+begins_shorter : (octets : List ℕ) (r : Reading) → Begins octets r → length r.content + length r.rest + 2 ≤ length octets
+begins_shorter octets r begins =
+    let s = begins.spelled in
+    let whole : length octets ≡ length s.tag + (length s.len + length r.content) + length r.rest = rw (begins.parts, s.parts) (simp length-append) in
+    omega (arith, tag_some s.tag r.class r.constructed r.number s.is_tag, len_some s.len (length r.content) s.is_length)
+
+pub is_shorter : (octets : List ℕ) (result : Result Tlv BerFault) → IsBytes octets → Gives reading_of result (tlv_at octets) → IfOk result (λ tlv. length tlv.content.now + length tlv.rest.now + 2 ≤ length octets)
+is_shorter octets (Ok tlv) fits given = begins_shorter octets (reading_of tlv) (tlv_takes octets (reading_of tlv) fits given)
+is_shorter octets (Err d) fits given = tt

@@ -8,12 +8,12 @@ use Rattle.std.proofs.lemmas.Nat.{mul-add-lt, mul-le}
 use Rattle.std.proofs.Math.Nat.{pow-suc}
 use Rattle.bay_ber.specs.declared.tlv.Class.{Class}
 use Rattle.bay_ber.specs.Octets.{number_of}
-use Rattle.bay_ber.specs.Spelling.{identifier, IsTag, IsLength, Spells}
+use Rattle.bay_ber.specs.Spelling.{identifier, IsLength, Spells}
 use Rattle.bay_ber.specs.Content.{signed_of, IsInteger}
 use Rattle.bay_ber.specs.Writing.{octets_needed, length_octets, element, is_needless, without_needless, integer_octets}
 use Rattle.bay_ber.proofs.ContentLemmas.{signed_of-low, signed_of-high}
 use Rattle.bay_ber.proofs.OctetLemmas.{pow_within}
-use Rattle.bay_ber.proofs.ReadLemmas.{IsBytes, chosen}
+use Rattle.bay_ber.proofs.ReadLemmas.{IsBytes, chosen, tag_some}
 use Rattle.bay_ber.proofs.WriteLemmas.{octets_needed-1, octets_needed-2, octets_needed-3, octets_needed-4, long_is, number_of-cons, number_of-below, integer_is}
 
 -- ---- lengths and values
@@ -57,10 +57,6 @@ length_shortest (first ∷ second ∷ octets) n fits is =
       | inl small ↦ omega (arith, length-short n small)
       | inr ge ↦ omega (arith, length-long n ge, needed_within n (length (second ∷ octets)) (omega arith) is.1 below)
     ]
-
-tag_some : (tag : List ℕ) (class : Class) (constructed : Bool) (number : ℕ) → IsTag tag class constructed number → 0 < length tag
-tag_some [] class constructed number is = absurd is
-tag_some (first ∷ octets) class constructed number is = omega arith
 
 bytes_within : (front middle back : List ℕ) → IsBytes (front ++ (middle ++ back)) → IsBytes middle
 bytes_within front middle back fits i =

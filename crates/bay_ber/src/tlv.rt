@@ -158,6 +158,7 @@ pub fn read_tlv(octets: &[u8]) -> Result<Tlv<'_>, BerFault>
     // What is read is spelled so at the front of the octets, and what is spelled so is read.
     ensures ok { IfOk result (λ tlv. Begins octets.now (reading_of tlv)) }
     ensures only { (r : Reading) → Begins octets.now r → IsOkAnd result (λ tlv. reading_of tlv ≡ r) }
+    ensures shorter { IfOk result (λ tlv. length tlv.content.now + length tlv.rest.now + 2 ≤ length octets.now) }
     // Each fault, exactly where it stands.
     ensures large_tag { (result ≡ Err BerFault.TagTooLarge) ↔ HasLargeTag octets.now }
     ensures indefinite { (result ≡ Err BerFault.Indefinite) ↔ IsIndefinite octets.now }

@@ -1,6 +1,6 @@
 use Rattle.std.proofs.Common.{arith}
 use Rattle.bay_ber.specs.declared.fault.BerFault.TheVariants.{Truncated, Indefinite, LengthTooLong, TagTooLarge}
-use Rattle.bay_ber.proofs.ReadLemmas.{is_ok, is_only, is_err, err_is_answer, tlv_fault, large_tag_again, indefinite_again, long_length_again, truncated_holds, truncated_again}
+use Rattle.bay_ber.proofs.ReadLemmas.{is_ok, is_only, is_shorter, is_err, err_is_answer, tlv_fault, large_tag_again, indefinite_again, long_length_again, truncated_holds, truncated_again}
 use Rattle.bay_ber.proofs.tlv.read_tlv.Goals as goal
 
 pub returns-clause-ok : goal.returns-clause-ok
@@ -28,3 +28,6 @@ pub returns-clause-truncated : goal.returns-clause-truncated
 returns-clause-truncated c =
     let octets = c.args.octets.now in
     (λ e. truncated_holds octets (is_err octets c.tlv_at.result Truncated c.tlv_at.ensures e), λ h. err_is_answer octets c.tlv_at.result Truncated c.tlv_at.ensures (truncated_again octets (λ i. omega (arith, c.type_inv.octets i)) h))
+
+pub returns-clause-shorter : goal.returns-clause-shorter
+returns-clause-shorter c = is_shorter c.args.octets.now c.tlv_at.result (λ i. omega (arith, c.type_inv.octets i)) c.tlv_at.ensures
