@@ -1,4 +1,4 @@
--- The reserved words of Instruction List (IEC 61131-3:2003, annex C and tables 51b and 52), in upper case.
+-- The reserved words of Instruction List (IEC 61131-3:2003, table 52 and annex C), in upper case.
 use Rattle.std.specs.Prelude.{ℕ, List, [], ◌∷◌, ◌++◌, codes}
 
 -- the operators that are written as names

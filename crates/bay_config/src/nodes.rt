@@ -246,7 +246,7 @@ fn push_interlockings(
 
 /// The rows of the switches' nodes with the values of the start: the breakers, the
 /// other switches, and the interlocking of each.
-pub fn rows_of(alloc: Global, switches: &[Switch]) -> Result<Listing<Row>, AllocError>
+pub(crate) fn rows_of(alloc: Global, switches: &[Switch]) -> Result<Listing<Row>, AllocError>
     ensures { IfOk result (λ rows. rows ≡ rows_of_all switches.now) }
 {
     let mut rows = Vec::new(alloc);

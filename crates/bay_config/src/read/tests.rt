@@ -7,13 +7,15 @@ use std::alloc::AllocError;
 use std::test::Fail;
 
 /// One bay, in two lines.
-const BAY1: &str =
+fn first_bay() -> &'static str {
     r#"bay = { domain = "BAY1", vendor = "Demo", model = "BC1", revision = "1.0", scan_max_age_ms = 1000 }
 switch = [{ id = "QA1", kind = "breaker", control = "sbo", sbo_timeout_ms = 2000, travel_ms = 500 }, { id = "qb_1", kind = "disconnector", control = "direct", travel_ms = 3000 }]
-"#;
+"#
+}
 
 /// Another, spelled by headers, with two switches of each class.
-const BAY2: &str = r#"[bay]
+fn second_bay() -> &'static str {
+    r#"[bay]
 domain = "B"
 vendor = "V"
 model = "M"
@@ -35,10 +37,12 @@ control = "status"
 id = "QA2"
 kind = "breaker"
 control = "status"
-"#;
+"#
+}
 
 /// The rows of the first bay: name and value.
-const ROWS: &str = "XCBR1 structure
+fn first_rows() -> &'static str {
+    "XCBR1 structure
 XCBR1$ST structure
 XCBR1$ST$Pos structure
 XCBR1$ST$Pos$stVal intermediate
@@ -104,9 +108,11 @@ CILO2$ST$EnaCls structure
 CILO2$ST$EnaCls$stVal FALSE
 CILO2$ST$EnaCls$q invalid
 CILO2$ST$EnaCls$t moment-0
-";
+"
+}
 
-const POINTS: &str = "QA1_POS INT read
+fn first_points() -> &'static str {
+    "QA1_POS INT read
 QA1_OPEN BOOL read
 QA1_CLOSED BOOL read
 QA1_ENA_OPN BOOL write
@@ -116,11 +122,13 @@ QB_1_OPEN BOOL read
 QB_1_CLOSED BOOL read
 QB_1_ENA_OPN BOOL write
 QB_1_ENA_CLS BOOL write
-";
+"
+}
 
 /// What a part of the first bay's text is replaced with, and the refusal's number, 1 for none: what a key
 /// may hold, keys that are missing or unknown, sections as a whole, and of two faults the first in order.
-const CHANGES: &str = r#"1|"BAY1"|"b_9"
+fn changes() -> &'static str {
+    r#"1|"BAY1"|"b_9"
 1|"BAY1"|"A123456789B123456789C123456789_1"
 53|"BAY1"|"A123456789B123456789C123456789_12"
 53|"BAY1"|""
@@ -198,7 +206,8 @@ const CHANGES: &str = r#"1|"BAY1"|"b_9"
 53|2000, travel_ms = 500|0
 51|sbo_timeout_ms = 2000, travel_ms = 500|travel_ms = 0
 51|qb_1", kind = "disconnector"|QA1"
-"#;
+"#
+}
 
 /// The number of a text's refusal; 1 for a bay.
 fn code_of(alloc: Global, text: &str) -> u8 {
@@ -210,7 +219,7 @@ fn code_of(alloc: Global, text: &str) -> u8 {
 
 /// The number of the refusal of the first bay with one part of its text replaced; 2 where it lacks that part.
 fn code_with(alloc: Global, old: &str, new: &str) -> Result<u8, AllocError> {
-    match BAY1.split_once(old) {
+    match first_bay().split_once(old) {
         Some((front, back)) => {
             let changed = format!(in alloc; "{front}{new}{back}")?;
             Ok(code_of(alloc, changed.as_str()))
@@ -261,7 +270,7 @@ fn shown_point(point: &Point) -> &'static str {
 
 #[test]
 fn reads_the_fields_of_a_bay(rt: HostRuntime) -> Result<(), Fail> {
-    let bay = read_bay(rt.alloc(), BAY1)?;
+    let bay = read_bay(rt.alloc(), first_bay())?;
     assert_eq!(rt; bay.domain.as_str(), "BAY1");
     assert_eq!(rt; bay.vendor.as_str(), "Demo");
     assert_eq!(rt; bay.model.as_str(), "BC1");
@@ -284,25 +293,25 @@ fn reads_the_fields_of_a_bay(rt: HostRuntime) -> Result<(), Fail> {
 
 #[test]
 fn reads_the_points_and_rows_of_a_bay(rt: HostRuntime) -> Result<(), Fail> {
-    let bay = read_bay(rt.alloc(), BAY1)?;
+    let bay = read_bay(rt.alloc(), first_bay())?;
     let mut points = String::new(rt.alloc());
     for point in bay.points.as_slice() {
         let (name, kind) = (point.name.as_str(), shown_point(point));
         writeln!(points, "{name} {kind}")?;
     }
-    assert_eq!(rt; points.as_str(), POINTS);
+    assert_eq!(rt; points.as_str(), first_points());
     let mut rows = String::new(rt.alloc());
     for row in bay.rows.as_slice() {
         let (name, leaf) = (row.name.as_str(), shown(&row.leaf));
         writeln!(rows, "{name} {leaf}")?;
     }
-    assert_eq!(rt; rows.as_str(), ROWS);
+    assert_eq!(rt; rows.as_str(), first_rows());
     Ok(())
 }
 
 #[test]
 fn names_the_nodes_of_the_switches(rt: HostRuntime) -> Result<(), Fail> {
-    let bay = read_bay(rt.alloc(), BAY2)?;
+    let bay = read_bay(rt.alloc(), second_bay())?;
     let mut names = String::new(rt.alloc());
     for place in 0..bay.switches.as_slice().len() {
         let node = node_name(rt.alloc(), &bay, place)?;
@@ -319,7 +328,7 @@ fn names_the_nodes_of_the_switches(rt: HostRuntime) -> Result<(), Fail> {
 
 #[test]
 fn refuses_the_first_fault(rt: HostRuntime) -> Result<(), Fail> {
-    for line in CHANGES.lines() {
+    for line in changes().lines() {
         let (want, change) = line.split_once("|").ok_or("no change")?;
         let (old, new) = change.split_once("|").ok_or("no text")?;
         let want: u8 = want.parse()?;
