@@ -9,7 +9,7 @@ use Rattle.bay_config.specs.declared.bay.Switch.{Switch}
 use Rattle.bay_config.specs.declared.bay.SwitchKind.{SwitchKind}
 use Rattle.bay_config.specs.declared.bay.SwitchKind.TheVariants.{Breaker, Disconnector, Earthing}
 use Rattle.bay_config.specs.Laws.{IsBay, HasNode, HasPosition, HasEnable, NamesPosition, NamesInterlocking}
-use Rattle.bay_config.specs.Node.{Node, row, node_rows, node_name, class_of, is_breaker, is_of, number_of, position_node, position_nodes, position_parts, interlocking_node, interlocking_nodes, interlocking_parts, nodes_of, rows_of_all}
+use Rattle.bay_config.specs.Node.{Node, row, node_rows, node_name, class_of, is_breaker, is_of, number_of, position_node, position_nodes, position_parts, interlocking_node, interlocking_nodes, interlocking_parts, nodes_of}
 
 Contains-cons : {X : Type 0} (y : X) (xs : List X) (x : X) → Contains xs x → Contains (y ∷ xs) x
 Contains-cons y xs x w = (suc w.0, omega (arith, w.1), w.2)

@@ -1,6 +1,6 @@
 // A bay with each of its fields, and tables of files that are refused.
 use super::*;
-use crate::bay::{Control, Point, PointKind, SwitchKind};
+use crate::bay::{Point, PointKind};
 use crate::nodes::{interlocking_name, node_name};
 use bay_tree::leaf::{Dbpos, Leaf, Quality};
 use std::alloc::AllocError;
@@ -108,6 +108,13 @@ CILO2$ST$EnaCls structure
 CILO2$ST$EnaCls$stVal FALSE
 CILO2$ST$EnaCls$q invalid
 CILO2$ST$EnaCls$t moment-0
+"
+}
+
+fn first_fields() -> &'static str {
+    "BAY1 Demo BC1 1.0 1000
+QA1 Breaker Sbo 2000 500
+qb_1 Disconnector Direct 0 3000
 "
 }
 
@@ -271,23 +278,17 @@ fn shown_point(point: &Point) -> &'static str {
 #[test]
 fn reads_the_fields_of_a_bay(rt: HostRuntime) -> Result<(), Fail> {
     let bay = read_bay(rt.alloc(), first_bay())?;
-    assert_eq!(rt; bay.domain.as_str(), "BAY1");
-    assert_eq!(rt; bay.vendor.as_str(), "Demo");
-    assert_eq!(rt; bay.model.as_str(), "BC1");
-    assert_eq!(rt; bay.revision.as_str(), "1.0");
-    assert_eq!(rt; bay.scan_max_age_ms, 1000);
-    let switches = bay.switches.as_slice();
-    assert_eq!(rt; switches.len(), 2);
-    assert_eq!(rt; switches[0].id.as_str(), "QA1");
-    assert_eq!(rt; switches[0].kind, SwitchKind::Breaker);
-    assert_eq!(rt; switches[0].control, Control::Sbo);
-    assert_eq!(rt; switches[0].sbo_timeout_ms, 2000);
-    assert_eq!(rt; switches[0].travel_ms, 500);
-    assert_eq!(rt; switches[1].id.as_str(), "qb_1");
-    assert_eq!(rt; switches[1].kind, SwitchKind::Disconnector);
-    assert_eq!(rt; switches[1].control, Control::Direct);
-    assert_eq!(rt; switches[1].sbo_timeout_ms, 0);
-    assert_eq!(rt; switches[1].travel_ms, 3000);
+    let mut fields = String::new(rt.alloc());
+    let (domain, vendor) = (bay.domain.as_str(), bay.vendor.as_str());
+    let (model, revision) = (bay.model.as_str(), bay.revision.as_str());
+    let age = bay.scan_max_age_ms;
+    writeln!(fields, "{domain} {vendor} {model} {revision} {age}")?;
+    for switch in bay.switches.as_slice() {
+        let (id, kind, control) = (switch.id.as_str(), switch.kind, switch.control);
+        let (timeout, travel) = (switch.sbo_timeout_ms, switch.travel_ms);
+        writeln!(fields, "{id} {kind:?} {control:?} {timeout} {travel}")?;
+    }
+    assert_eq!(rt; fields.as_str(), first_fields());
     Ok(())
 }
 
