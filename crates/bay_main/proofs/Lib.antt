@@ -2,4 +2,5 @@ pub mod KindLemmas
 pub mod PieceLemmas
 pub mod ReadLemmas
 pub mod SentLemmas
+pub mod SlotLemmas
 pub mod WordLemmas

@@ -1,7 +1,11 @@
 pub mod Code
+pub mod Device
 pub mod Kinds
+pub mod Report
 pub mod Scenario
 pub mod ScenarioView
 pub mod Sent
+pub mod Slots
 pub mod Trace
 pub mod TraceView
+pub mod WellTyped

@@ -1,5 +1,6 @@
 // The first checks of a program that can be read: its names, its points and its current result.
-ghost use Rattle.std.specs.Prelude.{◌<◌, IfSome, length};
+ghost use Rattle.std.specs.Prelude.{◌<◌, IfOk, IfSome, length, vec_len};
+ghost use Rattle.bay_main.specs.Slots.{IsSourceWithin, IsWithin};
 
 use crate::fault::{CheckFault, LoadFault};
 use crate::typed::{Slot, Source, SwitchOutputs, SwitchPoint, TypedInstruction, TypedProgram};
@@ -140,9 +141,21 @@ impl Declared {
     }
 
     /// The slot of a name.
-    fn slot(&self, alloc: Global, name: &str) -> Result<Option<usize>, AllocError> {
+    fn slot(&self, alloc: Global, name: &str) -> Result<Option<usize>, AllocError>
+        ensures { IfOk result (λ found. IfSome found (λ slot. slot < vec_len self.now.slots)) }
+    {
         let upper = upper_case(alloc, name)?;
-        Ok(self.names.get(upper.as_str()).copied())
+        match self.names.get(upper.as_str()) {
+            Some(slot) => {
+                let slot = *slot;
+                if slot < self.slots.len() {
+                    Ok(Some(slot))
+                } else {
+                    Ok(None)
+                }
+            }
+            None => Ok(None),
+        }
     }
 }
 
@@ -194,7 +207,9 @@ fn resolve_operand(
     alloc: Global,
     declared: &Declared,
     operand: Operand<'_>,
-) -> Result<Option<Source>, AllocError> {
+) -> Result<Option<Source>, AllocError>
+    ensures { IfOk result (λ found. IfSome found (IsSourceWithin (vec_len declared.now.slots))) }
+{
     match operand {
         Operand::Literal(value) => Ok(Some(Source::Literal(value))),
         Operand::Name(name) => match declared.slot(alloc, name)? {
@@ -210,7 +225,9 @@ fn resolve(
     declared: &Declared,
     is_set: bool,
     instruction: Instruction<'_>,
-) -> Result<Result<TypedInstruction, CheckFault>, AllocError> {
+) -> Result<Result<TypedInstruction, CheckFault>, AllocError>
+    ensures { IfOk result (λ judged. IfOk judged (IsWithin (vec_len declared.now.slots))) }
+{
     match instruction {
         Instruction::Load { negated, operand } => match resolve_operand(alloc, declared, operand)? {
             Some(source) => Ok(Ok(TypedInstruction::Load { negated, source })),
@@ -248,7 +265,9 @@ fn resolve_item(
     declared: &Declared,
     is_set: bool,
     item: &Item<'_>,
-) -> Result<TypedInstruction, LoadFault> {
+) -> Result<TypedInstruction, LoadFault>
+    ensures { IfOk result (IsWithin (vec_len declared.now.slots)) }
+{
     match item {
         Item::Instruction { line, instruction } => {
             match resolve(alloc, declared, is_set, *instruction)? {

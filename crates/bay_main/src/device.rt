@@ -3,11 +3,12 @@ ghost use Rattle.std.specs.Prelude.{◌≡◌, ◌<◌, ◌≤◌, length, vec_l
 ghost use Rattle.bay_tree.specs.declared.leaf.Kind.TheVariants as kind;
 ghost use Rattle.bay_tree.specs.Kinds.{kind_of};
 ghost use Rattle.bay_tree.specs.Rows.{kinds_of};
+ghost use Rattle.bay_main.specs.Device.{verdict, verdicts, moment_after};
 ghost use Rattle.bay_main.specs.Kinds.{AreStatusRows, AreSwitchRows};
 
 use crate::fault::StepFault;
 use crate::status::{StatusRows, SwitchRows, count_at, position_at, put, quality_at, truth_at};
-use crate::typed::{Slot, SwitchOutputs, SwitchPoint, TypedProgram, run_instructions, value_of};
+use crate::typed::{Slot, SwitchOutputs, SwitchPoint, TypedProgram, run_instructions};
 use bay_config::bay::Switch;
 use bay_tree::leaf::{Dbpos, Leaf, Quality};
 use bay_tree::list::Listing;
@@ -53,6 +54,7 @@ pub struct Device {
     /// Whether a value or a quality of a contact has changed since the last scan.
     pub is_stale: bool,
     ghost kinds: { All (AreSwitchRows (kinds_of tree)) rows.items },
+    ghost sized: { vec_len values ≡ vec_len program.slots },
 }
 
 /// The quality of a position (IEC 61850-7-3).
@@ -161,7 +163,7 @@ fn read_inputs(tree: &Tree, rows: &[SwitchRows], slots: &[Slot], values: &mut [b
 /// The value of an output: its slot's, or FALSE where the program does not name its point.
 fn output_value(slot: Option<usize>, values: &[bool]) -> bool {
     match slot {
-        Some(slot) => value_of(values, slot),
+        Some(slot) => slot < values.len() && values[slot],
         None => false,
     }
 }
@@ -232,6 +234,7 @@ impl Device {
     /// Takes the position of a switch.
     fn contact(&mut self, now: u64, switch: usize, position: Dbpos)
         requires { switch < vec_len self.old.rows }
+        ensures { vec_len self.new.rows ≡ vec_len self.old.rows }
     {
         let rows = self.rows[switch];
         if take_position(&mut self.tree, rows, position, now) {
@@ -240,7 +243,9 @@ impl Device {
     }
 
     /// Runs the program once on the positions as they stand.
-    fn scan(&mut self, now: u64) {
+    fn scan(&mut self, now: u64)
+        ensures { vec_len self.new.rows ≡ vec_len self.old.rows }
+    {
         let rows = self.rows.as_slice();
         let values = self.values.as_mut_slice();
         read_inputs(&self.tree, rows, self.program.slots.as_slice(), values);
@@ -257,7 +262,12 @@ impl Device {
     }
 
     /// Does one event, at a moment in milliseconds since 1970. A refused event changes nothing.
-    pub fn step(&mut self, now: u64, event: Event) -> Result<Step, StepFault> {
+    pub fn step(&mut self, now: u64, event: Event) -> Result<Step, StepFault>
+        ensures verdict { result ≡ verdict (vec_len self.old.rows) self.old.moment now event }
+        ensures moment { self.new.moment ≡ moment_after self.old.moment now result }
+        ensures switches { vec_len self.new.rows ≡ vec_len self.old.rows }
+        ensures err { OnErr result (self.new ≡ self.old) }
+    {
         if now > LAST_MOMENT {
             return Err(StepFault::MomentTooLarge);
         }
@@ -286,10 +296,14 @@ impl Device {
     pub fn run(
         &mut self,
         events: &[(u64, Event)],
-    ) -> Result<Vec<Result<Step, StepFault>>, AllocError> {
+    ) -> Result<Vec<Result<Step, StepFault>>, AllocError>
+        ensures answers { IfOk result (λ answers. answers.items ≡ verdicts (vec_len self.old.rows) self.old.moment events.now) }
+        ensures err { OnErr result (self.new ≡ self.old) }
+    {
         let mut answers = Vec::with_capacity(self.alloc, events.len())?;
         for (now, event) in events {
-            answers.push(self.step(*now, *event))?;
+            let answer = self.step(*now, *event);
+            answers.push(answer).unwrap();
         }
         Ok(answers)
     }

@@ -1,25 +1,23 @@
 // The bay controller's main part: it reads a scenario (a bay file, an Instruction List program and a
 // trace of contact changes and scans), steps the device through the trace, and writes a report.
 //
-// - `input`: all octets of a reader, up to a limit.
-// - `scenario`: the three parts of a scenario, and its lines.
-// - `trace`: what a line of the trace says.
-// - `check`: a program that can be read, with its names resolved to slots (`typed`).
-// - `outbox`: what is written goes through a buffer.
-// - `fault`: why a scenario is not loaded, and why an event is refused.
+// The way of the data: `input` (all octets of a reader), `scenario` (its three parts, and its lines),
+// `load` (a device from the texts, by `check`, which resolves names to the slots of `typed`), `trace`
+// (what a line says), `device` (an event's step, on the rows of `status`), `report` (what is printed),
+// `outbox` (what is written goes through a buffer), `replay` (all of it).
 #![tactic(auto)]
 
-pub mod check;
-pub mod device;
-pub mod fault;
+mod check;
+mod device;
+mod fault;
 pub mod input;
-pub mod load;
+mod load;
 pub mod outbox;
 pub mod replay;
-pub mod report;
-pub mod scenario;
-pub mod status;
+mod report;
+mod scenario;
+mod status;
 #[cfg(test)]
 mod tests;
-pub mod trace;
-pub mod typed;
+mod trace;
+mod typed;

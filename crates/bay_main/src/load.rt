@@ -1,7 +1,8 @@
 // A device from the texts of a bay file and a program.
-ghost use Rattle.std.specs.Prelude.{◌≡◌, All, IfOk};
+ghost use Rattle.std.specs.Prelude.{◌≡◌, length, vec_len, All, IfOk};
 ghost use Rattle.bay_tree.specs.declared.leaf.Kind.TheVariants as kind;
 ghost use Rattle.bay_tree.specs.Rows.{kinds_of};
+ghost use Rattle.bay_config.specs.Laws.{IsBay};
 ghost use Rattle.bay_main.specs.Kinds.{HasKind, AreStatusRows, AreSwitchRows};
 ghost use Rattle.bay_main.specs.declared.fault.LoadFault.TheVariants.{OutOfMemory};
 
@@ -17,7 +18,6 @@ use bay_config::read::read_bay;
 use bay_tree::fault::TreeFault;
 use bay_tree::leaf::Kind;
 use bay_tree::list::Text;
-use bay_tree::search::is_tree;
 use bay_tree::tree::{Handle, Tree};
 use il_text::fault::TextFault;
 use il_text::read::read_program;
@@ -138,7 +138,9 @@ fn all_switch_rows(alloc: Global, tree: &Tree, nodes: &[Text]) -> Result<Vec<Swi
 }
 
 /// The values that the slots begin with.
-fn initial_values(alloc: Global, slots: &[Slot]) -> Result<Vec<bool>, AllocError> {
+fn initial_values(alloc: Global, slots: &[Slot]) -> Result<Vec<bool>, AllocError>
+    ensures { IfOk result (λ values. vec_len values ≡ length slots.now) }
+{
     let mut values = Vec::new(alloc);
     for slot in slots {
         values.push(match slot {
@@ -150,11 +152,10 @@ fn initial_values(alloc: Global, slots: &[Slot]) -> Result<Vec<bool>, AllocError
 }
 
 /// The device of a bay and a checked program.
-fn device_of(alloc: Global, bay: Bay, program: TypedProgram) -> Result<Device, LoadFault> {
+fn device_of(alloc: Global, bay: Bay, program: TypedProgram) -> Result<Device, LoadFault>
+    requires { IsBay bay }
+{
     let nodes = node_names(alloc, &bay)?;
-    if !is_tree(bay.rows.as_slice()) {
-        return Err(LoadFault::from(TreeFault::NoSuchName));
-    }
     let Bay { rows, switches, .. } = bay;
     let tree = Tree::build(alloc, rows.into_vec())?;
     let rows = all_switch_rows(alloc, &tree, nodes.as_slice())?;

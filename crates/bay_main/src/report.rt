@@ -1,4 +1,8 @@
 // What is printed for a load and for each line of the trace.
+ghost use Rattle.std.specs.Prelude.{◌≡◌, ◌++◌, codes, IfOk, string_bytes};
+ghost use Rattle.std.specs.Fmt.{decimal};
+ghost use Rattle.bay_main.specs.Report.{numbered_refusal, refusal_of};
+
 use crate::device::{Device, Event};
 use crate::fault::LoadFault;
 use crate::trace::{TraceLine, read_trace_line};
@@ -11,17 +15,37 @@ pub struct Answer {
     pub is_last: bool,
 }
 
+/// The line of a refusal that has no line of the program.
+fn plain_refusal(alloc: Global, code: u8) -> Result<String, AllocError>
+    ensures { IfOk result (λ text. string_bytes text ≡ codes "load refused " ++ decimal code ++ codes "\n") }
+{
+    format!(in alloc; "load refused {code}\n")
+}
+
+/// The line of a refusal at a line of the program.
+fn line_refusal(alloc: Global, code: u8, line: usize) -> Result<String, AllocError>
+    ensures { IfOk result (λ text. string_bytes text ≡ codes "load refused " ++ (decimal code ++ (codes " line " ++ (decimal line ++ codes "\n")))) }
+{
+    format!(in alloc; "load refused {code} line {line}\n")
+}
+
+/// The line of a refusal, by its number and its line, which is 0 where there is none.
+fn numbered_refusal(alloc: Global, code: u8, line: usize) -> Result<String, AllocError>
+    ensures { IfOk result (λ text. string_bytes text ≡ numbered_refusal code line) }
+{
+    if line == 0 {
+        return plain_refusal(alloc, code);
+    }
+    line_refusal(alloc, code, line)
+}
+
 /// The line that says why a load is refused.
-pub fn refusal_text(alloc: Global, fault: LoadFault) -> Result<String, AllocError> {
+pub fn refusal_text(alloc: Global, fault: LoadFault) -> Result<String, AllocError>
+    ensures { IfOk result (λ text. string_bytes text ≡ refusal_of fault) }
+{
     match fault {
         LoadFault::OutOfMemory => String::from_str(alloc, "load refused memory\n"),
-        LoadFault::Refused { code, line } => {
-            if line == 0 {
-                format!(in alloc; "load refused {code}\n")
-            } else {
-                format!(in alloc; "load refused {code} line {line}\n")
-            }
-        }
+        LoadFault::Refused { code, line } => numbered_refusal(alloc, code, line),
     }
 }
 

@@ -3,7 +3,12 @@ ghost use Rattle.std.specs.Prelude.{◌≡◌, Some};
 ghost use Rattle.std.specs.Io.{ReadsAtMost, WritesAtMost};
 ghost use Rattle.std.specs.Io.KnownBytes.{Keeps, ReadConsumes, WriteAppends};
 
-use crate::replay::replay_run;
+use crate::device::{Event, Step};
+use crate::fault::{LoadFault, StepFault};
+use crate::input::Watched;
+use crate::load::load;
+use crate::replay::{replay, replay_run};
+use bay_tree::leaf::Dbpos;
 use std::alloc::{AllocError, Global};
 use std::io;
 use std::io::{ErrorKind, Read, Write};
@@ -403,5 +408,72 @@ fn failing_reads_and_writes(rt: HostRuntime) -> Result<(), Fail> {
         assert_eq!(rt; report.as_slice(), &whole[..room], "at room {room}");
         assert_eq!(rt; status, 255, "at room {room}");
     }
+    Ok(())
+}
+
+#[test]
+fn a_device_by_calls(rt: HostRuntime) -> Result<(), Fail> {
+    let logic = format!(in rt.alloc();
+        "{FRAME}LD QA1_OPEN\nST QB1_ENA_OPN\nST QB1_ENA_CLS\nEND_PROGRAM\n"
+    )?;
+    let mut device = load(rt.alloc(), BAY, logic.as_str())?;
+    assert_eq!(rt; device.switch_count(), 2);
+    assert_eq!(rt; device.switch("qb1"), Some(1));
+    assert_eq!(rt; device.switch("QB2"), None);
+    assert_eq!(rt; device.id(1).unwrap_or("none"), "QB1");
+    assert!(rt; device.id(2).is_none());
+    let open = Event::Contact {
+        switch: 0,
+        position: Dbpos::Off,
+    };
+    let unknown = Event::Contact {
+        switch: 2,
+        position: Dbpos::Off,
+    };
+    let answers = device.run(&[
+        (1000, open),
+        (1000, Event::Scan),
+        (999, open),
+        (1001, unknown),
+    ])?;
+    assert_eq!(rt;
+        answers.as_slice(),
+        [
+            Ok(Step { scanned: false }),
+            Ok(Step { scanned: true }),
+            Err(StepFault::TimeWentBack),
+            Err(StepFault::NoSuchPoint),
+        ]
+        .as_slice()
+    );
+    assert_eq!(rt; device.ena(0), Some((false, false)));
+    assert_eq!(rt; device.ena(1), Some((true, true)));
+    assert_eq!(rt; device.ena(2), None);
+    match load(rt.alloc(), BAY, "") {
+        Ok(_) => assert!(rt; false),
+        Err(fault) => assert_eq!(rt; fault, LoadFault::Refused { code: 61, line: 1 }),
+    }
+    Ok(())
+}
+
+#[test]
+fn reads_no_more_than_the_limit(rt: HostRuntime) -> Result<(), Fail> {
+    let long = vec![in rt.alloc(); 97u8; 16_777_221]?;
+    let reader = Dripping {
+        rest: long.as_slice(),
+        reads: 0,
+        fails_at: 0,
+    };
+    let mut writer = Narrow {
+        taken: Vec::new(rt.alloc()),
+        room: 1000,
+    };
+    let mut watched = Watched::new(reader);
+    match replay(rt.alloc(), &mut watched, &mut writer) {
+        Ok(status) => assert_eq!(rt; status, 3),
+        Err(_) => assert!(rt; false),
+    }
+    assert_eq!(rt; writer.taken.as_slice(), b"fault 121\n".as_slice());
+    assert_eq!(rt; watched.reads, 16_777_217);
     Ok(())
 }

@@ -1,6 +1,7 @@
 // A checked program: each name is resolved to a slot, which holds its value.
-ghost use Rattle.std.specs.Prelude.{◌≡◌, ◌<◌, ◌≤◌, length, vec_len, IsTrue, true};
-ghost use Rattle.std.specs.List.{list_all};
+ghost use Rattle.std.specs.Prelude.{◌≡◌, ℕ, ◌<◌, List, length, vec_len, All, Some, None, option_map, slice_get};
+ghost use Rattle.il_text.specs.Meaning.{truth, applied, acted, mean};
+ghost use Rattle.bay_main.specs.Slots.{AreApart, IsSourceWithin, IsWithin, source_value, action_named, items_named, variables_of};
 
 use il_text::program::Operator;
 
@@ -53,25 +54,29 @@ pub enum TypedInstruction {
     Combine { operator: Operator, source: Source },
 }
 
-/// A checked program.
-#[derive(Debug, Drop)]
+/// A checked program, whose instructions name its slots alone.
+#[derive(Drop)]
 pub struct TypedProgram {
     pub slots: Vec<Slot>,
     pub instructions: Vec<TypedInstruction>,
     /// The slots that the interlocking values take, switch by switch.
     pub outputs: Vec<SwitchOutputs>,
+    ghost within: { All (IsWithin (vec_len slots)) instructions.items },
 }
 
 /// The value of a slot.
-pub fn value_of(values: &[bool], slot: usize) -> bool {
-    match values.get(slot) {
-        Some(value) => *value,
-        None => false,
-    }
+pub fn value_of(values: &[bool], slot: usize) -> bool
+    requires { slot < length values.now }
+    ensures { slice_get values.now slot ≡ Some result }
+{
+    values[slot]
 }
 
 /// The value of a source.
-fn source_value(source: Source, values: &[bool]) -> bool {
+fn source_value(source: Source, values: &[bool]) -> bool
+    requires { IsSourceWithin (length values.now) source }
+    ensures { source_value values.now source ≡ Some result }
+{
     match source {
         Source::Literal(value) => value,
         Source::Slot(slot) => value_of(values, slot),
@@ -79,16 +84,12 @@ fn source_value(source: Source, values: &[bool]) -> bool {
 }
 
 /// What an operator makes of the current result and an operand.
-fn combined(operator: Operator, left: bool, right: bool) -> bool {
+fn combined(operator: Operator, left: bool, right: bool) -> bool
+    ensures { applied operator (truth left) (truth right) ≡ truth result }
+{
     match operator {
         Operator::And => left && right,
         Operator::Or => left || right,
-    }
-}
-
-fn store(values: &mut [bool], slot: usize, value: bool) {
-    if slot < values.len() {
-        values[slot] = value;
     }
 }
 
@@ -97,12 +98,18 @@ fn run_instruction(
     instruction: TypedInstruction,
     current: Option<bool>,
     values: &mut [bool],
-) -> Option<bool> {
+) -> Option<bool>
+    requires { IsWithin (length values.old) instruction }
+    // Whatever the slots are called, it acts as the instruction on their names.
+    ensures { (names : List (List ℕ)) → AreApart names → length names ≡ length values.old →
+        acted (action_named names instruction) (record { result = option_map truth current; variables = variables_of names values.old })
+        ≡ record { result = option_map truth result; variables = variables_of names values.new } }
+{
     match instruction {
         TypedInstruction::Load { negated, source } => Some(source_value(source, values) != negated),
         TypedInstruction::Store { slot } => {
             if let Some(value) = current {
-                store(values, slot, value);
+                values[slot] = value;
             }
             current
         }
@@ -114,7 +121,12 @@ fn run_instruction(
 }
 
 /// Runs the instructions once, from a current result that is not set.
-pub fn run_instructions(instructions: &[TypedInstruction], values: &mut [bool]) {
+pub fn run_instructions(instructions: &[TypedInstruction], values: &mut [bool])
+    requires { All (IsWithin (length values.old)) instructions.now }
+    // Whatever the slots are called, their values are then what the program on their names means.
+    ensures { (names : List (List ℕ)) → AreApart names → length names ≡ length values.old →
+        variables_of names values.new ≡ (mean (items_named names instructions.now) None (variables_of names values.old)).variables }
+{
     let mut current = None;
     for instruction in instructions {
         current = run_instruction(*instruction, current, values);
