@@ -1,6 +1,7 @@
 pub mod Code
 pub mod Device
 pub mod Kinds
+pub mod Load
 pub mod Report
 pub mod Scenario
 pub mod ScenarioView
