@@ -3,7 +3,7 @@ ghost use Rattle.std.specs.Prelude.{◌≡◌, ◌*◌, ◌^◌, ◌<◌, ◌≤
 ghost use Rattle.std.specs.Int.{w64};
 ghost use Rattle.bay_ber.specs.Content.{IsInteger, IsBits, IsTruth};
 ghost use Rattle.bay_ber.specs.Octets.{AreOctets};
-ghost use Rattle.bay_ber.specs.Reading.{Reading, Begins};
+ghost use Rattle.bay_ber.specs.Reading.{Reading, Begins, class_of, is_constructed, low_bits};
 ghost use Rattle.bay_ber.specs.Spelling.{identifier, Spells};
 ghost use Rattle.bay_ber.specs.Writing.{element, integer_octets, truth_octets, bit_octets, bit_string_octets};
 ghost use Rattle.bay_ber.specs.declared.tlv.Class.{Class};
@@ -14,8 +14,10 @@ pub fn one_spelling()
     ensures prefix { (octets : List ℕ) (r s : Reading) (a : Begins octets r) (b : Begins octets s) → a.front ≡ b.front }
 {}
 
-/// What is written is read back, whatever follows it: the value, and each content as the value that was written.
+/// What is written is read back, whatever follows it: each octet is the identifier of a class, a form and a number, and the
+/// value under it is read as such, and each content as the value that was written.
 pub fn written_is_read()
+    ensures octet { (octet : ℕ) → octet < 256 → octet ≡ identifier (class_of octet) (is_constructed octet) (low_bits octet) }
     ensures value { (class : Class) (constructed : Bool) (number : ℕ) (content rest : List ℕ) → number < 31 → length content < 2 ^ 32 → Begins (element (identifier class constructed number) content ++ rest) (record { class = class; constructed = constructed; number = number; content = content; rest = rest }) }
     ensures integer { (value : ℤ) → FitsSigned w64 value → IsInteger (integer_octets value) value }
     ensures bits { (octets : List ℕ) (count : ℕ) → count ≤ 8 * length octets → count < 2 ^ 35 → IsBits (bit_string_octets octets count) (bit_octets octets count) count }

@@ -50,7 +50,7 @@ const TAGS: [(&[u8], Class, bool, u8); 6] = [
 ];
 
 // The shortest and the longest identifier and length of so many octets.
-const LENGTHS: [(u32, &[u8], &[u8]); 9] = [
+const LENGTHS: [(u32, &[u8], &[u8]); 10] = [
     (0, &[0x04, 0x00], &[0x04, 0x84, 0, 0, 0, 0]),
     (1, &[0x04, 0x01], &[0x04, 0x84, 0, 0, 0, 1]),
     (127, &[0x04, 0x7F], &[0x04, 0x84, 0, 0, 0, 0x7F]),
@@ -66,6 +66,11 @@ const LENGTHS: [(u32, &[u8], &[u8]); 9] = [
         65_536,
         &[0x04, 0x83, 0x01, 0x00, 0x00],
         &[0x04, 0x84, 0, 1, 0, 0],
+    ),
+    (
+        16_777_215,
+        &[0x04, 0x83, 0xFF, 0xFF, 0xFF],
+        &[0x04, 0x84, 0, 0xFF, 0xFF, 0xFF],
     ),
     (
         16_777_216,
@@ -174,6 +179,11 @@ fn lengths(rt: HostRuntime) -> Result<(), Fail> {
         writer.octets(0x04, content.as_slice())?;
         let mut written = writer.finish();
         assert!(rt; written.as_slice().starts_with(shortest));
+        let cut = written
+            .as_slice()
+            .split_last()
+            .and_then(|(_, front)| read_tlv(front).err());
+        assert_eq!(rt; cut, Some(BerFault::Truncated));
         written.push(0x77)?;
         let tlv = read_tlv(written.as_slice())?;
         assert!(rt; tlv.content == content.as_slice());
@@ -203,6 +213,9 @@ fn integers(rt: HostRuntime) -> Result<(), Fail> {
 fn truth_values_and_bits(rt: HostRuntime) {
     for (octets, value) in TRUTHS.iter() {
         assert_eq!(rt; bool_of(octets).ok(), *value);
+    }
+    for octet in 1..=255 {
+        assert_eq!(rt; bool_of(&[octet]).ok(), Some(true));
     }
     for (octets, value) in BIT_STRINGS.iter() {
         let bits = bits_of(octets).ok().map(|bits| (bits.octets, bits.count));

@@ -50,6 +50,7 @@ fn append(
     ensures ok { OnOk result (out.new.items ≡ out.old.items ++ element identifier (first.now ++ middle.now ++ last.now)) }
     ensures err { OnErr result (Extends out.old.items out.new.items) }
 {
+    out.reserve(6 + first.len() + middle.len() + last.len())?;
     out.push(identifier)?;
     append_length(out, (first.len() + middle.len() + last.len()) as u32)?;
     out.extend_from_slice(first)?;
