@@ -1,0 +1,39 @@
+-- Faults noted one after another.
+use Rattle.std.proofs.Common.{◌≡◌, List, [], ◌∷◌, ◌++◌, Option, Some, None, refl, ap, ◌∙◌}
+use Rattle.il_check.specs.WellTyped.{better, best_of, first_fault}
+use Rattle.il_check.specs.Noted.{noted}
+use Rattle.il_check.specs.declared.fault.CheckFault.{CheckFault}
+
+best_of-append : (f : CheckFault) (xs ys : List CheckFault) → best_of f (xs ++ ys) ≡ best_of (best_of f xs) ys
+best_of-append f [] ys = refl
+best_of-append f (x ∷ xs) ys = best_of-append (better f x) xs ys
+
+pub noted-append : (found : Option CheckFault) (xs ys : List CheckFault) → noted found (xs ++ ys) ≡ noted (noted found xs) ys
+noted-append (Some f) xs ys = ap Some (best_of-append f xs ys)
+noted-append None [] ys = refl
+noted-append None (x ∷ xs) ys = ap Some (best_of-append x xs ys)
+
+pub noted-nil : (found : Option CheckFault) → noted found [] ≡ found
+noted-nil (Some f) = refl
+noted-nil None = refl
+
+-- two, and four, tests one after another
+pub noted-two : (found : Option CheckFault) (a b : List CheckFault) → noted found (a ++ b) ≡ noted (noted found a) b
+noted-two = noted-append
+
+pub noted-three : (found : Option CheckFault) (a b c : List CheckFault) → noted found (a ++ (b ++ c)) ≡ noted (noted (noted found a) b) c
+noted-three found a b c = noted-append found a (b ++ c) ∙ noted-append (noted found a) b c
+
+pub noted-four : (found : Option CheckFault) (a b c d : List CheckFault) → noted found (a ++ (b ++ (c ++ d))) ≡ noted (noted (noted (noted found a) b) c) d
+noted-four found a b c d = noted-append found a (b ++ (c ++ d)) ∙ noted-three (noted found a) b c d
+
+-- where no fault is answered, there is none
+pub first_fault-none : (faults : List CheckFault) → first_fault faults ≡ None → faults ≡ []
+first_fault-none [] none = refl
+first_fault-none (f ∷ faults) none = absurd (cc)
+
+pub append-none : (xs ys : List CheckFault) → xs ++ ys ≡ [] → (xs ≡ []) × (ys ≡ [])
+append-none [] ys none = (refl, none)
+append-none (x ∷ xs) ys none = absurd (cc)
+
+pub ruleset note_rules = (noted-three, noted-four)

@@ -1,0 +1,8 @@
+pub mod Code
+pub mod Gives
+pub mod Noted
+pub mod Places
+pub mod Slots
+pub mod Standing
+pub mod TypedView
+pub mod WellTyped

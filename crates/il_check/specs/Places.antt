@@ -1,0 +1,67 @@
+-- The places of declared names, and what instructions are by them.
+use Rattle.std.specs.Prelude.{ℕ, Bool, true, false, not, ◌&&◌, cond, is_none, List, [], ◌∷◌, ◌++◌, Option, None, Some, option_map, slice_index_or}
+use Rattle.std.specs.List.{position_from}
+use Rattle.std.specs.Str.{bytes_eq}
+use Rattle.il_text.specs.Names.{upper}
+use Rattle.il_text.specs.Listing.{Declared, Action, load, store, combine, Entry, action, block}
+use Rattle.il_text.specs.Listing as listing
+use Rattle.il_check.specs.WellTyped.{fault_if}
+use Rattle.il_check.specs.declared.typed.Source.{Source}
+use Rattle.il_check.specs.declared.typed.Source.TheVariants.{Literal, Slot}
+use Rattle.il_check.specs.declared.typed.TypedInstruction.{TypedInstruction}
+use Rattle.il_check.specs.declared.typed.TypedInstruction.TheVariants.{Load, Store, Combine}
+use Rattle.il_check.specs.declared.fault.CheckFault.{CheckFault}
+use Rattle.il_check.specs.declared.fault.CheckFault.TheVariants.{OutsideSubset, UnknownName, UnsetResult, ReadOnly}
+
+-- the place of the first declaration whose name in upper case is this
+abbrev pub place_in : List Declared → List ℕ → Option ℕ
+place_in declared name = position_from (λ d. bytes_eq (upper d.name) name) 0 declared
+
+-- the places after a name is given one, which stays where the name has a place
+abbrev pub with_place : (List ℕ → Option ℕ) → List ℕ → ℕ → List ℕ → Option ℕ
+with_place places name place other = cond (bytes_eq name other && is_none (places name)) (Some place) (places other)
+
+abbrev pub source_at : (List ℕ → Option ℕ) → listing.Source → Option Source
+source_at places (listing.constant value) = Some (Literal value)
+source_at places (listing.variable name) = option_map (λ place. Slot place) (places (upper name))
+
+-- the instruction on places, if its name has one
+abbrev pub instruction_at : (List ℕ → Option ℕ) → Action → Option TypedInstruction
+instruction_at places (load negated source) = option_map (λ s. Load negated s) (source_at places source)
+instruction_at places (store name) = option_map (λ place. Store place) (places (upper name))
+instruction_at places (combine operator source) = option_map (λ s. Combine operator s) (source_at places source)
+
+abbrev pub entry_at : (List ℕ → Option ℕ) → Entry → Option TypedInstruction
+entry_at places (action line a) = instruction_at places a
+entry_at places (block line operator items end) = None
+
+abbrev pub needs_result : Action → Bool
+needs_result (load negated source) = false
+needs_result (store name) = true
+needs_result (combine operator source) = true
+
+-- an instruction stores into a place that may only be read
+abbrev pub writes_read_only : List Bool → TypedInstruction → Bool
+writes_read_only writable (Load negated source) = false
+writes_read_only writable (Store place) = not (slice_index_or writable place true)
+writes_read_only writable (Combine operator source) = false
+
+abbrev pub may_not_write : List Bool → Option TypedInstruction → Bool
+may_not_write writable None = false
+may_not_write writable (Some t) = writes_read_only writable t
+
+-- the faults of an instruction, by what it is on places
+abbrev pub action_faults_at : List Bool → Bool → ℕ → Action → Option TypedInstruction → List CheckFault
+action_faults_at writable is_set line a typed =
+    fault_if (is_none typed) (UnknownName line)
+    ++ (fault_if (needs_result a && not is_set) (UnsetResult line)
+    ++ fault_if (may_not_write writable typed) (ReadOnly line))
+
+abbrev pub entry_faults_at : List Bool → Bool → Entry → Option TypedInstruction → List CheckFault
+entry_faults_at writable is_set (action line a) typed = action_faults_at writable is_set line a typed
+entry_faults_at writable is_set (block line operator items end) typed = fault_if true (OutsideSubset line)
+
+abbrev pub entries_faults_at : (List ℕ → Option ℕ) → List Bool → Bool → List Entry → List CheckFault
+entries_faults_at places writable is_set [] = []
+entries_faults_at places writable is_set (e ∷ es) =
+    entry_faults_at writable is_set e (entry_at places e) ++ entries_faults_at places writable true es

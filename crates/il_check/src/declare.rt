@@ -1,0 +1,229 @@
+// The declarations of a program (IEC 61131-3:2003, 2.4.3): which names there are, and what is wrong.
+ghost use Rattle.std.specs.Prelude.{◌≡◌, ℕ, List, [], ◌∷◌, ◌++◌, map, position, vec_len, is_some, option_copied, IfOk, OnOk, string_bytes};
+ghost use Rattle.std.specs.BTreeMap.{get_by_text};
+ghost use Rattle.il_text.specs.Names as names;
+ghost use Rattle.il_text.specs.Views.{declared_of};
+ghost use Rattle.il_check.specs.Noted.{noted, declaration_faults_at};
+ghost use Rattle.il_check.specs.Places.{with_place};
+ghost use Rattle.il_check.specs.Standing.{StandsFor};
+ghost use Rattle.il_check.specs.WellTyped as spec;
+
+use crate::fault::CheckFault;
+use crate::note::note_if;
+use bay_config::bay::{Point, PointKind};
+use bay_tree::list::Text;
+use il_text::name::same_name;
+use il_text::program::{Declaration, ElementaryType, Scope};
+use std::alloc::{AllocError, Global};
+use std::collections::BTreeMap;
+
+/// The most names that a program may declare.
+const MAX_NAMES: usize = 512;
+
+/// What is declared: for each declaration its name in upper case, its point, the value that it begins
+/// with and whether it may be written; the place of each name's first declaration; and the fault that is
+/// answered, if there is one.
+#[derive(Drop)]
+pub(crate) struct Declarations {
+    pub(crate) places: BTreeMap<String, usize>,
+    pub(crate) names: Vec<Text>,
+    pub(crate) points: Vec<Option<usize>>,
+    pub(crate) initial: Vec<bool>,
+    pub(crate) writable: Vec<bool>,
+    pub(crate) found: Option<CheckFault>,
+}
+
+/// A name in upper case.
+pub(crate) fn upper_case(alloc: Global, name: &str) -> Result<String, AllocError>
+    ensures { IfOk result (λ copy. string_bytes copy ≡ names.upper name.now) }
+{
+    let mut copy = String::from_str(alloc, name)?;
+    copy.make_ascii_uppercase();
+    Ok(copy)
+}
+
+/// The point with this name.
+fn point_of<'a>(points: &'a [Point], name: &str) -> Option<&'a Point>
+    ensures { option_copied result ≡ spec.point_of points.now name.now }
+{
+    points
+        .iter()
+        .find(|point| same_name(point.name.as_str(), name))
+}
+
+fn is_external(scope: Scope) -> bool
+    ensures { result ≡ spec.is_external scope }
+{
+    match scope {
+        Scope::Local => false,
+        Scope::External => true,
+    }
+}
+
+/// Whether a declared type is a point's.
+fn is_kind(declared: ElementaryType, kind: PointKind) -> bool
+    ensures { result ≡ spec.is_kind declared kind }
+{
+    match (declared, kind) {
+        (ElementaryType::Bool, PointKind::Bool) => true,
+        (ElementaryType::Bool, PointKind::Int) => false,
+    }
+}
+
+fn has_kind(declared: ElementaryType, point: Option<&Point>) -> bool
+    ensures { result ≡ spec.has_kind declared (option_copied point.entry) }
+{
+    match point {
+        None => true,
+        Some(point) => is_kind(declared, point.kind),
+    }
+}
+
+/// The place of the point with this name.
+fn point_place(points: &[Point], name: &str) -> Option<usize>
+    ensures { result ≡ position (λ p. names.same_name p.name name.now) points.now }
+{
+    points
+        .iter()
+        .position(|point| same_name(point.name.as_str(), name))
+}
+
+/// The place of the point that a declaration stands for.
+fn place_of_point(points: &[Point], declaration: &Declaration<'_>) -> Option<usize>
+    ensures { result ≡ spec.place_of_point points.now (declared_of declaration.now) }
+{
+    match declaration.scope {
+        Scope::Local => None,
+        Scope::External => point_place(points, declaration.name),
+    }
+}
+
+/// The value that a variable begins with.
+fn initial_value(declaration: &Declaration<'_>) -> bool
+    ensures { result ≡ spec.initial_value (declared_of declaration.now) }
+{
+    match declaration.scope {
+        Scope::Local => declaration.initial.unwrap_or(false),
+        Scope::External => false,
+    }
+}
+
+fn is_read_only(point: Option<&Point>) -> bool
+    ensures { result ≡ spec.is_read_only (option_copied point.entry) }
+{
+    match point {
+        None => false,
+        Some(point) => !point.writable,
+    }
+}
+
+/// Whether a program may write the variable.
+fn can_write(points: &[Point], declaration: &Declaration<'_>) -> bool
+    ensures { result ≡ spec.can_write points.now (Some (declared_of declaration.now)) }
+{
+    let is_read = is_read_only(point_of(points, declaration.name));
+    !(is_external(declaration.scope) && is_read)
+}
+
+/// The fault that is answered after a declaration behind `count` others.
+#[tactic(auto, using(crate::proofs::NotedLemmas::note_rules))]
+fn declaration_fault(
+    found: Option<CheckFault>,
+    points: &[Point],
+    is_known: bool,
+    count: usize,
+    declaration: &Declaration<'_>,
+) -> Option<CheckFault>
+    ensures { result ≡ noted found (declaration_faults_at points.now is_known count (declared_of declaration.now)) }
+{
+    let line = declaration.line;
+    let is_external = is_external(declaration.scope);
+    let point = point_of(points, declaration.name);
+    let is_missing = point.is_none();
+    let is_typed = has_kind(declaration.kind, point);
+    let found = note_if(
+        found,
+        is_external && is_missing,
+        CheckFault::UnknownName { line },
+    );
+    let found = note_if(found, is_known, CheckFault::DuplicateName { line });
+    let found = note_if(
+        found,
+        is_external && !is_typed,
+        CheckFault::TypeMismatch { line },
+    );
+    note_if(found, count >= MAX_NAMES, CheckFault::TooMany { line })
+}
+
+/// Gives a name its place, unless it has one. Whether it had one.
+fn add_place(
+    places: &mut BTreeMap<String, usize>,
+    name: String,
+    place: usize,
+) -> Result<bool, AllocError>
+    ensures known { IfOk result (λ known. known ≡ is_some (get_by_text places.old (string_bytes name))) }
+    ensures places { OnOk result ((other : List ℕ) → get_by_text places.new other ≡ with_place (λ q. get_by_text places.old q) (string_bytes name) place other) }
+{
+    if places.contains_key(name.as_str()) {
+        return Ok(true);
+    }
+    places.insert(name, place)?;
+    Ok(false)
+}
+
+impl Declarations {
+    fn new(alloc: Global) -> Self
+        ensures nothing { (points : List Point) → StandsFor points [] result }
+        ensures no_fault { result.found ≡ None }
+    {
+        Declarations {
+            places: BTreeMap::new(alloc),
+            names: Vec::new(alloc),
+            points: Vec::new(alloc),
+            initial: Vec::new(alloc),
+            writable: Vec::new(alloc),
+            found: None,
+        }
+    }
+    /// Takes one declaration.
+    fn declare(
+        &mut self,
+        alloc: Global,
+        points: &[Point],
+        declaration: &Declaration<'_>,
+    ) -> Result<(), AllocError>
+        ensures names { OnOk result (self.new.names.items ≡ self.old.names.items ++ names.upper declaration.now.name.now ∷ []) }
+        ensures points { OnOk result (self.new.points.items ≡ self.old.points.items ++ spec.place_of_point points.now (declared_of declaration.now) ∷ []) }
+        ensures initial { OnOk result (self.new.initial.items ≡ self.old.initial.items ++ spec.initial_value (declared_of declaration.now) ∷ []) }
+        ensures writable { OnOk result (self.new.writable.items ≡ self.old.writable.items ++ spec.can_write points.now (Some (declared_of declaration.now)) ∷ []) }
+        ensures places { OnOk result ((other : List ℕ) → get_by_text self.new.places other ≡ with_place (λ q. get_by_text self.old.places q) (names.upper declaration.now.name.now) (vec_len self.old.names) other) }
+        ensures found { OnOk result (self.new.found ≡ noted self.old.found (declaration_faults_at points.now (is_some (get_by_text self.old.places (names.upper declaration.now.name.now))) (vec_len self.old.names) (declared_of declaration.now))) }
+    {
+        let name = upper_case(alloc, declaration.name)?;
+        let copy = Text::from_str(alloc, name.as_str())?;
+        let place = self.names.len();
+        let is_known = add_place(&mut self.places, name, place)?;
+        self.found = declaration_fault(self.found, points, is_known, place, declaration);
+        self.names.push(copy)?;
+        self.points.push(place_of_point(points, declaration))?;
+        self.initial.push(initial_value(declaration))?;
+        self.writable.push(can_write(points, declaration))?;
+        Ok(())
+    }
+}
+
+/// All declarations of a program.
+pub(crate) fn declare_all(
+    alloc: Global,
+    points: &[Point],
+    declarations: &[Declaration<'_>],
+) -> Result<Declarations, AllocError>
+    ensures stands { IfOk result (λ d. StandsFor points.now (map declared_of declarations.now) d) }
+    ensures found { IfOk result (λ d. d.found ≡ spec.first_fault (spec.declarations_faults points.now [] (map declared_of declarations.now))) }
+{
+    let mut declared = Declarations::new(alloc);
+    for declaration in declarations {
+        declared.declare(alloc, points, declaration)?;
+    }
+    Ok(declared)
+}

@@ -1,0 +1,187 @@
+// Instructions on the places of their names, and what is wrong with them (IEC 61131-3:2003, 3.2).
+ghost use Rattle.std.specs.Prelude.{◌≡◌, ◌++◌, map, false, IfOk, OnOk, option_to_list};
+ghost use Rattle.std.specs.BTreeMap.{get_by_text};
+ghost use Rattle.std.specs.List.{filter_map};
+ghost use Rattle.il_text.specs.Names.{upper};
+ghost use Rattle.il_text.specs.Views.{source_of, action_of, entry_of};
+ghost use Rattle.il_check.specs.Noted.{noted};
+ghost use Rattle.il_check.specs.Places as spec;
+
+use crate::declare::{Declarations, upper_case};
+use crate::fault::CheckFault;
+use crate::note::note_if;
+use crate::typed::{Source, TypedInstruction};
+use il_text::program::{Instruction, Item, Operand};
+use std::alloc::{AllocError, Global};
+
+/// The instructions of a program, and the fault that is answered, if there is one.
+#[derive(Drop)]
+pub(crate) struct Resolved {
+    pub(crate) instructions: Vec<TypedInstruction>,
+    pub(crate) found: Option<CheckFault>,
+}
+
+/// Whether an instruction uses the current result.
+fn needs_result(instruction: Instruction<'_>) -> bool
+    ensures { result ≡ spec.needs_result (action_of instruction.entry) }
+{
+    match instruction {
+        Instruction::Load { .. } => false,
+        Instruction::Store { .. } | Instruction::Combine { .. } => true,
+    }
+}
+
+/// Whether an instruction stores into a place that may only be read.
+fn may_not_write(writable: &[bool], typed: Option<TypedInstruction>) -> bool
+    ensures { result ≡ spec.may_not_write writable.now typed }
+{
+    match typed {
+        Some(TypedInstruction::Store { slot }) => match writable.get(slot) {
+            Some(is_writable) => !*is_writable,
+            None => false,
+        },
+        Some(TypedInstruction::Load { .. } | TypedInstruction::Combine { .. }) | None => false,
+    }
+}
+
+/// The fault that is answered after an instruction.
+#[tactic(auto, using(crate::proofs::NotedLemmas::note_rules))]
+fn instruction_fault(
+    found: Option<CheckFault>,
+    writable: &[bool],
+    is_set: bool,
+    line: usize,
+    instruction: Instruction<'_>,
+    typed: Option<TypedInstruction>,
+) -> Option<CheckFault>
+    ensures { result ≡ noted found (spec.action_faults_at writable.now is_set line (action_of instruction.entry) typed) }
+{
+    let is_unset = needs_result(instruction) && !is_set;
+    let is_read_only = may_not_write(writable, typed);
+    let found = note_if(found, typed.is_none(), CheckFault::UnknownName { line });
+    let found = note_if(found, is_unset, CheckFault::UnsetResult { line });
+    note_if(found, is_read_only, CheckFault::ReadOnly { line })
+}
+
+/// The fault that is answered after an item.
+#[tactic(auto, using(crate::proofs::EntryLemmas::entry_rules))]
+fn item_fault(
+    found: Option<CheckFault>,
+    writable: &[bool],
+    is_set: bool,
+    item: &Item<'_>,
+    typed: Option<TypedInstruction>,
+) -> Option<CheckFault>
+    ensures { result ≡ noted found (spec.entry_faults_at writable.now is_set (entry_of item.now) typed) }
+{
+    match item {
+        Item::Instruction { line, instruction } => {
+            instruction_fault(found, writable, is_set, *line, *instruction, typed)
+        }
+        Item::Block { line, .. } => note_if(found, true, CheckFault::OutsideSubset { line: *line }),
+    }
+}
+
+impl Declarations {
+    /// The place of a name.
+    fn place(&self, alloc: Global, name: &str) -> Result<Option<usize>, AllocError>
+        ensures { IfOk result (λ place. place ≡ get_by_text self.now.places (upper name.now)) }
+    {
+        let name = upper_case(alloc, name)?;
+        Ok(self.places.get(name.as_str()).copied())
+    }
+
+    fn source(&self, alloc: Global, operand: Operand<'_>) -> Result<Option<Source>, AllocError>
+        ensures { IfOk result (λ source. source ≡ spec.source_at (λ q. get_by_text self.now.places q) (source_of operand.entry)) }
+    {
+        match operand {
+            Operand::Literal(value) => Ok(Some(Source::Literal(value))),
+            Operand::Name(name) => match self.place(alloc, name)? {
+                Some(slot) => Ok(Some(Source::Slot(slot))),
+                None => Ok(None),
+            },
+        }
+    }
+
+    /// The instruction on places, if its name has one.
+    fn instruction(
+        &self,
+        alloc: Global,
+        instruction: Instruction<'_>,
+    ) -> Result<Option<TypedInstruction>, AllocError>
+        ensures { IfOk result (λ typed. typed ≡ spec.instruction_at (λ q. get_by_text self.now.places q) (action_of instruction.entry)) }
+    {
+        match instruction {
+            Instruction::Load { negated, operand } => match self.source(alloc, operand)? {
+                Some(source) => Ok(Some(TypedInstruction::Load { negated, source })),
+                None => Ok(None),
+            },
+            Instruction::Store { target } => match self.place(alloc, target)? {
+                Some(slot) => Ok(Some(TypedInstruction::Store { slot })),
+                None => Ok(None),
+            },
+            Instruction::Combine { operator, operand } => match self.source(alloc, operand)? {
+                Some(source) => Ok(Some(TypedInstruction::Combine { operator, source })),
+                None => Ok(None),
+            },
+        }
+    }
+
+    #[tactic(auto, using(crate::proofs::EntryLemmas::entry_rules))]
+    fn item(&self, alloc: Global, item: &Item<'_>) -> Result<Option<TypedInstruction>, AllocError>
+        ensures { IfOk result (λ typed. typed ≡ spec.entry_at (λ q. get_by_text self.now.places q) (entry_of item.now)) }
+    {
+        match item {
+            Item::Instruction { instruction, .. } => self.instruction(alloc, *instruction),
+            Item::Block { .. } => Ok(None),
+        }
+    }
+}
+
+impl Resolved {
+    /// Takes one item.
+    fn take_item(
+        &mut self,
+        alloc: Global,
+        declared: &Declarations,
+        is_set: bool,
+        item: &Item<'_>,
+    ) -> Result<(), AllocError>
+        ensures instructions { OnOk result (self.new.instructions.items ≡ self.old.instructions.items ++ option_to_list (spec.entry_at (λ q. get_by_text declared.now.places q) (entry_of item.now))) }
+        ensures found { OnOk result (self.new.found ≡ noted self.old.found (spec.entry_faults_at declared.now.writable.items is_set (entry_of item.now) (spec.entry_at (λ q. get_by_text declared.now.places q) (entry_of item.now)))) }
+    {
+        let typed = declared.item(alloc, item)?;
+        self.found = item_fault(
+            self.found,
+            declared.writable.as_slice(),
+            is_set,
+            item,
+            typed,
+        );
+        if let Some(instruction) = typed {
+            self.instructions.push(instruction)?;
+        }
+        Ok(())
+    }
+}
+
+/// All items of a program.
+pub(crate) fn resolve_all(
+    alloc: Global,
+    declared: &Declarations,
+    items: &[Item<'_>],
+) -> Result<Resolved, AllocError>
+    ensures instructions { IfOk result (λ r. r.instructions.items ≡ filter_map (spec.entry_at (λ q. get_by_text declared.now.places q)) (map entry_of items.now)) }
+    ensures found { IfOk result (λ r. r.found ≡ noted declared.now.found (spec.entries_faults_at (λ q. get_by_text declared.now.places q) declared.now.writable.items false (map entry_of items.now))) }
+{
+    let mut resolved = Resolved {
+        instructions: Vec::new(alloc),
+        found: declared.found,
+    };
+    let mut is_set = false;
+    for item in items {
+        resolved.take_item(alloc, declared, is_set, item)?;
+        is_set = true;
+    }
+    Ok(resolved)
+}
