@@ -185,6 +185,7 @@ impl Declarations {
             found: None,
         }
     }
+
     /// Takes one declaration.
     fn declare(
         &mut self,

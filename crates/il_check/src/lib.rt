@@ -14,4 +14,6 @@ mod declare;
 pub mod fault;
 mod note;
 mod resolve;
+#[cfg(test)]
+mod tests;
 pub mod typed;
