@@ -41,11 +41,11 @@ length-bytes_high_first : (k n : ℕ) → length (bytes_high_first k n) ≡ k
 length-bytes_high_first zero n = refl
 length-bytes_high_first (suc k) n = ap suc (length-bytes_high_first k n)
 
-length-short : (n : ℕ) → n < 128 → length (length_octets n) ≡ 1
+pub length-short : (n : ℕ) → n < 128 → length (length_octets n) ≡ 1
 unfolding length_octets
 length-short n lt = rw (lt-ltb n 128 lt) refl
 
-length-long : (n : ℕ) → 128 ≤ n → length (length_octets n) ≡ suc (octets_needed n)
+pub length-long : (n : ℕ) → 128 ≤ n → length (length_octets n) ≡ suc (octets_needed n)
 length-long n ge = rw (long_is n (octets_needed n) refl ge) (ap suc (length-bytes_high_first (octets_needed n) n))
 
 length_shortest : (len : List ℕ) (n : ℕ) → IsBytes len → IsLength len n → length (length_octets n) ≤ length len

@@ -133,7 +133,7 @@ length_either : (b : Bool) (first second : ℕ) (octets tight : List ℕ) → (0
 length_either true first second octets tight h = (h.0, omega (arith, h.1))
 length_either false first second octets tight h = (omega arith, omega arith)
 
-length-without_needless : (octets : List ℕ) → 0 < length octets → (0 < length (without_needless octets)) × (length (without_needless octets) ≤ length octets)
+pub length-without_needless : (octets : List ℕ) → 0 < length octets → (0 < length (without_needless octets)) × (length (without_needless octets) ≤ length octets)
 length-without_needless [] some = absurd (omega arith)
 length-without_needless (first ∷ []) some = (omega arith, omega arith)
 length-without_needless (first ∷ second ∷ octets) some = length_either (is_needless first second) first second octets (without_needless (second ∷ octets)) (length-without_needless (second ∷ octets) (omega arith))

@@ -1,0 +1,33 @@
+-- How long written values are.
+use Rattle.std.proofs.Common.{ℕ, ◌+◌, ◌*◌, ◌^◌, ◌<◌, ◌≤◌, ℤ, List, length, arith, inl, inr}
+use Rattle.std.specs.Int.{w64, to_be_bytes, cast_unsigned}
+use Rattle.std.proofs.lemmas.Bool.{cases_lt}
+use Rattle.std.proofs.lemmas.List.{length-append}
+use Rattle.bay_ber.specs.Writing.{octets_needed, length_octets, element, integer_octets, bit_octets}
+use Rattle.bay_ber.proofs.ShortestLemmas.{length-short, length-long}
+use Rattle.bay_ber.proofs.WriteLemmas.{octets_needed-1, octets_needed-2, octets_needed-3, octets_needed-4, length-without_needless, bit_string_is}
+
+few_needed : (n : ℕ) → octets_needed n ≤ 4
+few_needed n =
+    elim (cases_lt n 256) [
+      | inl a ↦ omega (arith, octets_needed-1 n a)
+      | inr a ↦ elim (cases_lt n 65536) [
+        | inl b ↦ omega (arith, octets_needed-2 n a b)
+        | inr b ↦ elim (cases_lt n 16777216) [ inl d ↦ omega (arith, octets_needed-3 n b d) | inr d ↦ omega (arith, octets_needed-4 n d) ]
+      ]
+    ]
+
+length-length_octets : (n : ℕ) → length (length_octets n) ≤ 5
+length-length_octets n = elim (cases_lt n 128) [ inl small ↦ omega (arith, length-short n small) | inr ge ↦ omega (arith, length-long n ge, few_needed n) ]
+
+-- an identifier, at most five octets of length, and the content
+pub length-element : (identifier : ℕ) (content : List ℕ) → length (element identifier content) ≤ length content + 6
+unfolding element
+length-element identifier content = omega (arith, length-append (length_octets (length content)) content, length-length_octets (length content))
+
+pub length-integer_octets : (value : ℤ) → length (integer_octets value) ≤ 8
+length-integer_octets value = let size = length-without_needless (to_be_bytes w64 (cast_unsigned w64 value)) (omega arith) in size.1
+
+-- no octet without a bit
+pub length-bit_octets : (octets : List ℕ) (count : ℕ) → count ≤ 8 * length octets → count < 2 ^ 35 → 8 * length (bit_octets octets count) < count + 8
+length-bit_octets octets count enough short = let is = bit_string_is octets count enough short in omega (arith, is.1.filled, is.1.few)
