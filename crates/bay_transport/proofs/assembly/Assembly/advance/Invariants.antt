@@ -1,0 +1,14 @@
+use Rattle.std.proofs.Common.{◌≡◌, ◌-◌, ◌≤◌, [], length, take}
+use Rattle.bay_transport.specs.Doings.{run}
+use Rattle.bay_transport.specs.Assembly.{left_of, IsSound}
+use Rattle.bay_transport.proofs.assembly.Assembly.advance.Given as goal
+
+abbrev pub invariant-loop-used : goal.invariant-loop-used
+invariant-loop-used l =
+    (l.used ≤ length l.piece)
+    × IsSound l.self
+    × (l.self.number ≡ l.initial.self.number)
+    × (run l.initial.self.number (left_of l.initial.self) (take l.used l.piece) ≡ record { doings = []; left = left_of l.self })
+
+abbrev pub decreases-loop-used : goal.decreases-loop-used
+decreases-loop-used l = length l.piece - l.used

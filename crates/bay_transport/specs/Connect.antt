@@ -1,0 +1,93 @@
+-- The request for a connection and its answer (X.224 13.3 and 13.4), in class 0.
+use Rattle.std.specs.Prelude.{ℕ, zero, suc, ◌+◌, ◌/◌, ◌%◌, ◌^◌, ◌==◌, min, Bool, List, [], ◌∷◌, ◌++◌, length, take, Option, Some, None, Result, Ok, Err, nat_lt, if◌then◌else◌}
+use Rattle.bay_transport.specs.declared.fault.TransportFault.{TransportFault}
+use Rattle.bay_transport.specs.declared.fault.TransportFault.TheVariants.{BadCotp, ClassRefused}
+
+-- a parameter of a TPDU: its code and its value
+pub record Parameter : Type 0 where
+  pub code : ℕ
+  pub value : List ℕ
+
+-- how parameters are spelled: the code, the number of octets of the value, and the value (X.224 13.2.3)
+abbrev pub spelled : List Parameter → List ℕ
+spelled [] = []
+spelled (p ∷ ps) = p.code ∷ length p.value ∷ (p.value ++ spelled ps)
+
+abbrev pub length_octet : List ℕ → ℕ
+length_octet [] = 0
+length_octet (octets ∷ behind) = octets
+
+abbrev pub with_parameter : ℕ → List ℕ → Option (List Parameter) → Option (List Parameter)
+with_parameter code behind None = None
+with_parameter code [] (Some later) = None
+with_parameter code (octets ∷ behind) (Some later) = Some (record { code = code; value = take octets behind } ∷ later)
+
+-- the parameters that the octets behind so many others spell, if they spell any
+abbrev pub parameters_behind : ℕ → List ℕ → Option (List Parameter)
+parameters_behind zero [] = Some []
+parameters_behind (suc skipped) [] = None
+parameters_behind zero (code ∷ octets) = with_parameter code octets (parameters_behind (suc (length_octet octets)) octets)
+parameters_behind (suc skipped) (x ∷ octets) = parameters_behind skipped octets
+
+abbrev pub parameters_of : List ℕ → Option (List Parameter)
+parameters_of octets = parameters_behind 0 octets
+
+abbrev pub or_else : Option (List ℕ) → Option (List ℕ) → Option (List ℕ)
+or_else (Some x) other = Some x
+or_else None other = other
+
+-- the value of the last parameter with the code
+abbrev pub last_value : ℕ → List Parameter → Option (List ℕ)
+last_value code [] = None
+last_value code (p ∷ ps) = or_else (last_value code ps) (if p.code == code then Some p.value else None)
+
+-- The size of a TPDU in octets is 2 to the power of the parameter C0, which is 7 or more, and at most 2 ^ 13 (X.224
+-- 13.3.4); without the parameter it is 65,531, what a frame holds. A pair is the power, if there is one, and the size.
+abbrev pub size_of : Option (List ℕ) → Option (Option ℕ × ℕ)
+size_of None = Some (None, 65531)
+size_of (Some []) = None
+size_of (Some (power ∷ [])) = if nat_lt power 7 then None else Some (Some (min power 13), 2 ^ min power 13)
+size_of (Some (power ∷ more ∷ octets)) = None
+
+-- the frame of a TPDU
+abbrev pub framed : List ℕ → List ℕ
+framed tpdu = 3 ∷ 0 ∷ ((length tpdu + 4) / 256) ∷ ((length tpdu + 4) % 256) ∷ tpdu
+
+-- the spelling of one parameter, where it is there
+abbrev pub where_there : ℕ → Option (List ℕ) → List ℕ
+where_there code None = []
+where_there code (Some value) = code ∷ length value ∷ value
+
+abbrev pub size_value : Option ℕ → Option (List ℕ)
+size_value None = None
+size_value (Some power) = Some (power ∷ [])
+
+-- the parameters of the answer: the size, the called and the calling selector, each where it came
+abbrev pub answered : Option ℕ → Option (List ℕ) → Option (List ℕ) → List ℕ
+answered power called calling = where_there 0xC0 (size_value power) ++ where_there 0xC2 called ++ where_there 0xC1 calling
+
+-- The confirmation: its length indicator, D0, the reference of the one who asked, the reference of the association, class
+-- 0, and the parameters (X.224 13.4).
+abbrev pub confirm : ℕ → ℕ → ℕ → List ℕ → List ℕ
+confirm number high low parameters = framed ((length parameters + 6) ∷ 0xD0 ∷ high ∷ low ∷ (number / 256) ∷ (number % 256) ∷ 0 ∷ parameters)
+
+-- a connection: the size of its TPDUs in octets, and the frame that answers the request
+pub record Connection : Type 0 where
+  pub size : ℕ
+  pub reply : List ℕ
+
+abbrev pub with_size : ℕ → ℕ → ℕ → List Parameter → Option (Option ℕ × ℕ) → Result Connection TransportFault
+with_size number high low ps None = Err BadCotp
+with_size number high low ps (Some size) = Ok (record { size = size.1; reply = confirm number high low (answered size.0 (last_value 0xC2 ps) (last_value 0xC1 ps)) })
+
+abbrev pub with_parameters : ℕ → ℕ → ℕ → Option (List Parameter) → Result Connection TransportFault
+with_parameters number high low None = Err BadCotp
+with_parameters number high low (Some ps) = with_size number high low ps (size_of (last_value 0xC0 ps))
+
+-- What a request comes to on the association of this number: `indicator` is its length indicator, and the octets stand
+-- behind its code: two references of two octets, the class with the options, and the parameters. The length indicator counts
+-- them all and the code, a second request is refused, and then a class other than 0.
+abbrev pub connect : ℕ → Bool → ℕ → List ℕ → Result Connection TransportFault
+connect number again indicator (to_high ∷ to_low ∷ from_high ∷ from_low ∷ class ∷ octets) =
+    if indicator == length octets + 6 then (if again then Err BadCotp else (if class / 16 == 0 then with_parameters number from_high from_low (parameters_of octets) else Err ClassRefused)) else Err BadCotp
+connect number again indicator octets = Err BadCotp

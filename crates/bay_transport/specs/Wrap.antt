@@ -1,0 +1,32 @@
+-- The data TPDUs that a TSDU is sent in (X.224 13.7).
+use Rattle.std.specs.Prelude.{ℕ, ◌≡◌, Some, zero, suc, ◌+◌, ◌-◌, ◌/◌, ◌≤◌, Bool, true, false, List, [], ◌∷◌, ◌++◌, length, take, drop, if◌then◌else◌}
+use Rattle.bay_transport.specs.Frame.{cut}
+use Rattle.bay_transport.specs.Connect.{framed}
+use Rattle.bay_transport.specs.Doings.{Delivers, Going, run}
+
+-- a data TPDU in its frame: its third octet has bit 8 on the last of a TSDU
+abbrev pub data_frame : Bool → List ℕ → List ℕ
+data_frame is_last octets = framed (2 ∷ 0xF0 ∷ (if is_last then 0x80 else 0x00) ∷ octets)
+
+-- so many data TPDUs that are full, and then the last
+abbrev pub data_frames : ℕ → ℕ → List ℕ → List ℕ
+data_frames room zero octets = data_frame true octets
+data_frames room (suc full) octets = data_frame false (take room octets) ++ data_frames room full (drop room octets)
+
+-- how many data TPDUs come before the last, where each has room for so many octets
+abbrev pub full_before : ℕ → List ℕ → ℕ
+full_before room octets = (length octets - 1) / room
+
+-- A TPDU has three octets before its data.
+abbrev pub wrapped : ℕ → List ℕ → List ℕ
+wrapped size octets = data_frames (size - 3) (full_before (size - 3) octets) octets
+
+-- each frame holds a TPDU of at most this size, behind four octets
+abbrev pub AreWithin : ℕ → List (List ℕ) → Type 0
+AreWithin size [] = Unit {0}
+AreWithin size (frame ∷ frames) = (length frame ≤ size + 4) × AreWithin size frames
+
+-- The octets are whole frames whose one doing is the TSDU, at any side that agreed this size and has no unfinished group.
+pub record Carries (size : ℕ) (tsdu octets : List ℕ) : Type 0 where
+  pub does : (number : ℕ) → run number (Going (record { size = Some size; group = [] }) []) octets ≡ record { doings = Delivers tsdu ∷ []; left = Going (record { size = Some size; group = [] }) [] }
+  pub within : AreWithin size (cut octets).frames

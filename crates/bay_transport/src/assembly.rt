@@ -1,0 +1,206 @@
+// Octets of a stream, assembled to frames, and the data of frames to TSDUs.
+ghost use Rattle.std.specs.Prelude.{◌≡◌, ◌+◌, ◌-◌, ◌<◌, ◌≤◌, Ok, Err, [], ◌∷◌, length, take, drop, ◌++◌, IfOk, IfErr, OnOk, IfSome, is_some};
+ghost use Rattle.bay_transport.specs.Frame.{wanted};
+ghost use Rattle.bay_transport.specs.Connect.{connect};
+ghost use Rattle.bay_transport.specs.Doings.{Fails, Refuses, event_of, data_event, connected, alone, run};
+ghost use Rattle.bay_transport.specs.Assembly.{link_of, rest_of, left_of, body_of, IsSound, HoldsFrame, run_for, FailsWhere, Takes, Reaches};
+
+use crate::fault::TransportFault;
+use crate::frame::{Front, Tpdu, front_of, tpdu_of, wanted};
+use crate::request::answer;
+use std::alloc::{AllocError, Global};
+use std::mem;
+
+// The number of octets before the data of a data TPDU's frame.
+const DATA_AT: usize = 7;
+// The longest TSDU, in octets.
+const TSDU_MAX: usize = 70_000;
+
+/// What a TPDU completes.
+#[derive(Clone, Copy)]
+pub enum Kind {
+    /// Nothing yet.
+    More,
+    /// A request for a connection.
+    Answer,
+    /// A TSDU.
+    Tsdu,
+    /// The connection.
+    Ended,
+}
+
+/// The octets of an unfinished group of data TPDUs and of an unfinished frame, and what the last TPDU completed.
+#[derive(Drop)]
+pub struct Assembly {
+    pub(crate) number: u16,
+    // The size of a TPDU in octets, once it is agreed.
+    pub(crate) size: Option<usize>,
+    // The joined data of the group, and then the frame.
+    buffer: Vec<u8>,
+    // How many octets of the buffer are of the group.
+    group: usize,
+    // The answer or the TSDU that was completed last.
+    pub(crate) shown: Vec<u8>,
+}
+
+// Takes octets out of the middle.
+fn cut_out(octets: &mut Vec<u8>, at: usize, count: usize)
+    requires { at + count ≤ length octets.old.items }
+    ensures { octets.new.items ≡ take at octets.old.items ++ drop (at + count) octets.old.items }
+{
+    let left = octets.len() - count;
+    octets.copy_within(at + count.., at);
+    octets.truncate(left);
+}
+
+impl Assembly {
+    pub(crate) fn new(alloc: Global, number: u16) -> Assembly
+        ensures sound { IsSound result }
+        ensures number { result.number ≡ number }
+        ensures size { result.size ≡ None }
+        ensures empty { result.buffer.items ≡ [] }
+    {
+        Assembly {
+            number,
+            size: None,
+            buffer: Vec::new(alloc),
+            group: 0,
+            shown: Vec::new(alloc),
+        }
+    }
+
+    // Forgets what came.
+    pub(crate) fn clear(&mut self)
+        ensures sound { IsSound self.new }
+        ensures number { self.new.number ≡ self.old.number }
+    {
+        self.size = None;
+        self.group = 0;
+        self.buffer.clear();
+        self.shown.clear();
+    }
+
+    // A request for a connection, behind its length indicator and code.
+    fn connect(&mut self, indicator: u8) -> Result<Kind, TransportFault>
+        requires { HoldsFrame self.old }
+        ensures sound { OnOk result (IsSound self.new) }
+        ensures number { self.new.number ≡ self.old.number }
+        ensures ok { IfOk result (λ kind. alone (connected (connect self.old.number (is_some self.old.size) indicator (body_of self.old))) (link_of self.old) ≡ run_for kind self.new) }
+        ensures err { IfErr result (λ fault. FailsWhere fault (connect self.old.number (is_some self.old.size) indicator (body_of self.old) ≡ Err fault)) }
+    {
+        let body = &self.buffer[self.group + 6..];
+        let size = answer(
+            &mut self.shown,
+            self.number,
+            self.size.is_some(),
+            indicator,
+            body,
+        )?;
+        self.size = Some(size);
+        self.buffer.truncate(self.group);
+        Ok(Kind::Answer)
+    }
+
+    // A data TPDU, behind its length indicator and code.
+    fn join(&mut self, indicator: u8) -> Result<Kind, TransportFault>
+        requires { HoldsFrame self.old }
+        ensures sound { OnOk result (IsSound self.new) }
+        ensures number { self.new.number ≡ self.old.number }
+        ensures ok { IfOk result (λ kind. alone (data_event (link_of self.old) indicator (body_of self.old)) (link_of self.old) ≡ run_for kind self.new) }
+        ensures err { IfErr result (λ fault. FailsWhere fault (data_event (link_of self.old) indicator (body_of self.old) ≡ Refuses fault)) }
+    {
+        if indicator != 2 || self.size.is_none() {
+            return Err(TransportFault::BadCotp);
+        }
+        if self.buffer.len() - DATA_AT > TSDU_MAX {
+            return Err(TransportFault::TsduTooLong);
+        }
+        let is_last = (self.buffer[self.group + 6] >> 7) & 1 == 1;
+        cut_out(&mut self.buffer, self.group, DATA_AT);
+        if !is_last {
+            self.group = self.buffer.len();
+            return Ok(Kind::More);
+        }
+        mem::swap(&mut self.buffer, &mut self.shown);
+        self.buffer.clear();
+        self.group = 0;
+        Ok(Kind::Tsdu)
+    }
+
+    // The frame that stands in the buffer.
+    fn on_frame(&mut self) -> Result<Kind, TransportFault>
+        requires { HoldsFrame self.old }
+        ensures sound { OnOk result (IsSound self.new) }
+        ensures number { self.new.number ≡ self.old.number }
+        ensures ok { IfOk result (λ kind. alone (event_of self.old.number (link_of self.old) (rest_of self.old)) (link_of self.old) ≡ run_for kind self.new) }
+        ensures err { IfErr result (λ fault. FailsWhere fault (event_of self.old.number (link_of self.old) (rest_of self.old) ≡ Refuses fault)) }
+    {
+        let indicator = self.buffer[self.group + 4];
+        match tpdu_of(self.buffer[self.group + 5]) {
+            Tpdu::Request => self.connect(indicator),
+            Tpdu::Data => self.join(indicator),
+            Tpdu::Release => {
+                self.clear();
+                Ok(Kind::Ended)
+            }
+            Tpdu::Unknown => Err(TransportFault::BadCotp),
+        }
+    }
+
+    // Takes octets of the piece, at most to the end of the frame, and says how many.
+    fn extend(&mut self, piece: &[u8]) -> Result<usize, AllocError>
+        requires { IsSound self.old }
+        ensures within { IfOk result (λ taken. taken ≤ length piece.now) }
+        ensures moves { IfOk result (λ taken. 0 < length piece.now → 0 < taken) }
+        ensures few { IfOk result (λ taken. taken ≤ wanted (rest_of self.old)) }
+        ensures rest { IfOk result (λ taken. rest_of self.new ≡ rest_of self.old ++ take taken piece.now) }
+        ensures link { link_of self.new ≡ link_of self.old }
+        ensures number { self.new.number ≡ self.old.number }
+        ensures group { self.new.group ≡ self.old.group }
+        ensures bounds { self.new.group ≤ length self.new.buffer.items }
+        ensures shown { self.new.shown.items ≡ self.old.shown.items }
+    {
+        let taken = wanted(&self.buffer[self.group..]).min(piece.len());
+        self.buffer.extend_from_slice(&piece[..taken])?;
+        Ok(taken)
+    }
+
+    // Takes octets of the piece, at most to the end of the frame, and does the frame that they end.
+    fn step(&mut self, piece: &[u8]) -> Result<(usize, Kind), TransportFault>
+        requires { IsSound self.old }
+        ensures sound { OnOk result (IsSound self.new) }
+        ensures number { self.new.number ≡ self.old.number }
+        ensures ok { IfOk result (λ taken. Takes self.old piece.now taken.0 taken.1 self.new) }
+        ensures err { IfErr result (λ fault. FailsWhere fault ((run self.old.number (left_of self.old) piece.now).doings ≡ Fails fault ∷ [])) }
+    {
+        let taken = self.extend(piece)?;
+        match front_of(&self.buffer[self.group..]) {
+            Front::Begun => Ok((taken, Kind::More)),
+            Front::NoFrame => Err(TransportFault::BadTpkt),
+            Front::Whole(_) => match self.on_frame() {
+                Ok(kind) => Ok((taken, kind)),
+                Err(fault) => Err(fault),
+            },
+        }
+    }
+
+    /// Takes octets of the piece up to the end of the TPDU that completes something, or all of them.
+    pub(crate) fn advance(&mut self, piece: &[u8]) -> Result<(usize, Kind), TransportFault>
+        requires { IsSound self.old }
+        ensures sound { OnOk result (IsSound self.new) }
+        ensures number { self.new.number ≡ self.old.number }
+        ensures ok { IfOk result (λ taken. Reaches self.old piece.now taken.0 taken.1 self.new) }
+        ensures err { IfErr result (λ fault. FailsWhere fault ((run self.old.number (left_of self.old) piece.now).doings ≡ Fails fault ∷ [])) }
+    {
+        let mut used = 0;
+        while used < piece.len() {
+            let (taken, kind) = self.step(&piece[used..])?;
+            used += taken;
+            match kind {
+                Kind::More => {}
+                kind => return Ok((used, kind)),
+            }
+        }
+        Ok((used, Kind::More))
+    }
+}

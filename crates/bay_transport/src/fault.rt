@@ -1,0 +1,54 @@
+// Why a stream is refused.
+ghost use Rattle.std.specs.Prelude.{◌≡◌};
+ghost use Rattle.bay_transport.specs.declared.fault.TransportFault.TheVariants.{OutOfMemory};
+ghost use Rattle.bay_transport.specs.Code.{code_of};
+
+use std::alloc::AllocError;
+use thiserror::Error;
+
+/// Why octets are refused. After any of these the transport refuses every later piece with `Failed`.
+#[derive(Clone, Copy, Debug, PartialEq, Eq, Error)]
+pub enum TransportFault {
+    /// A frame does not begin with 03, or its length is below 7 (RFC 1006 6).
+    #[error("the octets are no TPKT")]
+    BadTpkt,
+    /// A TPDU is not spelled, or is not one that may come now (X.224 13).
+    #[error("the TPDU is not spelled, or may not come now")]
+    BadCotp,
+    /// A connection of another class than 0 is requested (X.224 13.3.3).
+    #[error("the class of the connection is not 0")]
+    ClassRefused,
+    /// The data of the data TPDUs of one TSDU are more than 70,000 octets.
+    #[error("the TSDU is too long")]
+    TsduTooLong,
+    /// An earlier piece was refused.
+    #[error("the transport has failed")]
+    Failed,
+    /// There is no room for the octets that have to be kept.
+    #[error("out of memory")]
+    OutOfMemory,
+}
+
+impl TransportFault {
+    /// The fault's number: 10 to 14 in the order of the faults, and 0 for want of memory.
+    pub fn code(self) -> u8
+        ensures { result ≡ code_of self }
+    {
+        match self {
+            TransportFault::BadTpkt => 10,
+            TransportFault::BadCotp => 11,
+            TransportFault::ClassRefused => 12,
+            TransportFault::TsduTooLong => 13,
+            TransportFault::Failed => 14,
+            TransportFault::OutOfMemory => 0,
+        }
+    }
+}
+
+impl From<AllocError> for TransportFault {
+    ghost from_gives = { λ _ e. e ≡ OutOfMemory };
+
+    fn from(_error: AllocError) -> TransportFault {
+        TransportFault::OutOfMemory
+    }
+}

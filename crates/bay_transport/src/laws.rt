@@ -1,0 +1,31 @@
+// Laws of the definitions. Each function does nothing, and its contract is the law.
+ghost use Rattle.std.specs.Prelude.{◌≡◌, ◌++◌, ◌∷◌, [], ◌↔◌, List, ℕ, Some, take, drop};
+ghost use Rattle.bay_transport.specs.Frame.{Cut, IsCut, cut};
+ghost use Rattle.bay_transport.specs.Connect.{Parameter, spelled, parameters_of};
+ghost use Rattle.bay_transport.specs.Doings.{Doing, Left, Stream, run, and_then, doings, after};
+ghost use Rattle.bay_transport.specs.Feeding.{Completes};
+
+/// A list of octets is whole frames followed by a rest that begins with no whole frame, in one way (RFC 1006 6).
+pub fn one_cutting()
+    ensures cut { (octets : List ℕ) → IsCut octets (cut octets) }
+    ensures only { (octets : List ℕ) (first second : Cut) → IsCut octets first → IsCut octets second → first ≡ second }
+{}
+
+/// What octets come to does not hang on how they are cut into pieces: the doings of a list and a piece are the list's, and
+/// then the piece's from what the list leaves.
+pub fn any_cutting()
+    ensures run { (number : ℕ) (left : Left) (octets piece : List ℕ) → run number left (octets ++ piece) ≡ and_then number (run number left octets) piece }
+    ensures doings { (s : Stream) (octets piece : List ℕ) → doings s (octets ++ piece) ≡ doings s octets ++ doings (after s octets) piece }
+    ensures after { (s : Stream) (octets piece : List ℕ) → after s (octets ++ piece) ≡ after (after s octets) piece }
+{}
+
+/// The octets of a piece that a feeding did not take do the rest of the piece's doings, from what is left then.
+pub fn feeding_goes_on()
+    ensures doings { (s : Stream) (piece : List ℕ) (used : ℕ) (doing : Doing) → Completes s piece used doing → doings s piece ≡ doing ∷ doings (after s (take used piece)) (drop used piece) }
+    ensures after { (s : Stream) (piece : List ℕ) (used : ℕ) → after s piece ≡ after (after s (take used piece)) (drop used piece) }
+{}
+
+/// Octets are parameters in one way: just those that spell them (X.224 13.2.3).
+pub fn one_reading()
+    ensures { (octets : List ℕ) (ps : List Parameter) → (parameters_of octets ≡ Some ps) ↔ (octets ≡ spelled ps) }
+{}
