@@ -1,10 +1,8 @@
 -- Lemmas on the kinds of a tree's values.
-use Rattle.std.proofs.Common.{All, ◌≡◌, ℕ, zero, suc, ◌+◌, ◌<◌, Option, Some, None, option_map, List, [], ◌∷◌, length, map, get_or, slice_index_or, refl, ap, sym, ◌∙◌, arith}
+use Rattle.std.proofs.Common.{All, ◌≡◌, ℕ, zero, suc, ◌<◌, Some, List, [], ◌∷◌, length, arith}
 use Rattle.bay_tree.specs.declared.row.Row.{Row}
-use Rattle.bay_tree.specs.declared.leaf.Leaf.{Leaf}
 use Rattle.bay_tree.specs.declared.leaf.Kind.{Kind}
-use Rattle.bay_tree.specs.Kinds.{kind_of}
-use Rattle.bay_tree.specs.Rows.{kinds_of, kind_at, leaf_at}
+use Rattle.bay_tree.specs.Rows.{kinds_of, kind_at}
 use Rattle.bay_main.specs.Kinds.{HasKind}
 
 pub kind_at-from : (rows : List Row) (place : ℕ) (k : Kind) → HasKind (kinds_of rows) place k → kind_at rows place ≡ Some k

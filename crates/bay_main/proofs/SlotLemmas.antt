@@ -1,21 +1,20 @@
 -- Lemmas on values by the names of their slots.
-use Rattle.std.proofs.Common.{◌≡◌, ℕ, zero, suc, ◌+◌, ◌<◌, Bool, true, false, cond, List, [], ◌∷◌, length, Option, Some, None, option_map, slice_get, slice_set, slice_index_or, refl, ap, sym, ◌∙◌, arith}
-use Rattle.std.proofs.lemmas.Grind.{common_steps}
+use Rattle.std.proofs.Common.{◌≡◌, ℕ, zero, suc, ◌+◌, ◌<◌, Bool, true, false, cond, List, [], ◌∷◌, length, Option, Some, option_map, slice_get, slice_set, slice_index_or, refl, ap, sym, ◌∙◌, arith}
 use Rattle.std.specs.Str.{bytes_eq}
 use Rattle.il_text.specs.Names.{upper, same_name}
 use Rattle.std.proofs.lemmas.Bool.Decides.{nat_tests}
-use Rattle.std.proofs.Common.{not, ◌++◌, map, drop, ◌≤◌}
+use Rattle.std.proofs.Common.{not, drop}
 use Rattle.std.proofs.Math.Seq.{drop-cons}
 use Rattle.std.proofs.Common.{add-one}
 use mathlib.Core.Bool.{beq}
 use Rattle.il_text.specs.declared.program.Operator.{Operator}
-use Rattle.il_text.specs.Listing as listing
-use Rattle.il_text.specs.Meaning.{Value, truth, Variables, State, value_of, with_value, read, negated, applied, combined, acted, mean_from, mean}
-use Rattle.bay_main.specs.declared.typed.Source.{Source}
-use Rattle.bay_main.specs.declared.typed.Source.TheVariants.{Literal, Slot}
-use Rattle.bay_main.specs.declared.typed.TypedInstruction.{TypedInstruction}
-use Rattle.bay_main.specs.declared.typed.TypedInstruction.TheVariants.{Load, Store, Combine}
-use Rattle.bay_main.specs.Slots.{name_at, AreApart, IsSourceWithin, source_value, source_named, action_named, items_named, variables_of}
+use Rattle.il_text.specs.Meaning.{Value, truth, Variables, State, value_of, with_value, read, negated, applied, combined, acted, mean_from}
+use Rattle.il_check.specs.declared.typed.Source.{Source}
+use Rattle.il_check.specs.declared.typed.Source.TheVariants.{Literal, Slot}
+use Rattle.il_check.specs.declared.typed.TypedInstruction.{TypedInstruction}
+use Rattle.il_check.specs.declared.typed.TypedInstruction.TheVariants.{Load, Store, Combine}
+use Rattle.il_check.specs.Slots.{name_at, AreApart, IsSourceWithin, source_named, action_named, items_named}
+use Rattle.bay_main.specs.Slots.{source_value, variables_of}
 
 bytes_eq-same : (bs : List ℕ) → bytes_eq bs bs ≡ true
 bytes_eq-same [] = refl

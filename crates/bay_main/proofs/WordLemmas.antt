@@ -1,17 +1,16 @@
 -- Lemmas on the words and numbers of a line.
-use Rattle.std.proofs.Common.{◌≡◌, ◌≢◌, ℕ, suc, ◌+◌, ◌<◌, ◌^◌, ◌&&◌, Bool, true, false, cond, eqb, nat_lt, List, [], ◌∷◌, length, get_or, Option, None, Some, Result, Ok, Err, MatchOption, Bor, refl, ap, sym, ◌∙◌, arith}
+use Rattle.std.proofs.Common.{◌≡◌, ◌≢◌, ℕ, suc, ◌<◌, ◌^◌, ◌&&◌, Bool, true, false, cond, eqb, nat_lt, List, [], ◌∷◌, length, get_or, None, refl, ap, sym, ◌∙◌, arith}
 use Rattle.std.proofs.lemmas.Bool.Decides.{nat_tests}
-use Rattle.std.proofs.lemmas.List.Splits.{slice_split-cons_no, slice_split_first}
-use Rattle.std.proofs.lemmas.Str.Pattern.{IsSplitOnceResult, split_parts, split_once_first}
+use Rattle.std.proofs.lemmas.List.Splits.{slice_split-cons_no}
 use Rattle.std.proofs.lemmas.Str.Parse.{IsNumeralModel, numerals_by_value, tells_all_ascii_digits}
-use Rattle.std.specs.List.{slice_split, list_all, before_first, after_first, onto_first}
+use Rattle.std.specs.List.{slice_split, list_all, onto_first}
 use Rattle.std.specs.Char.{is_ascii_digit}
 use Rattle.std.specs.Str.{all_ascii_digits}
 use Rattle.std.specs.Str.Parse.{digits_value}
 use Rattle.std.specs.Str.{bytes_eq, is_utf8, IsUtf8}
 use Rattle.std.proofs.lemmas.Str.{IsUtf8-from_is_utf8, is_utf8-from_IsUtf8}
 use Rattle.std.proofs.Common.{codes}
-use Rattle.bay_main.specs.Trace.{LineData, is_space, rest_words, number_of, contact_of, event_of, words_line, trace_line_of}
+use Rattle.bay_main.specs.Trace.{is_space, number_of, contact_of, event_of, words_line, trace_line_of}
 
 not_space : (b : ℕ) → b ≢ 32 → is_space b ≡ false
 not_space b h = grind (arith, nat_tests)
@@ -62,7 +61,7 @@ event_of-more word bs m =
     let h = some_word bs in
     ap (λ ws. event_of word ws m) h.2 ∙ ap (λ ws. cond (bytes_eq word (codes "contact")) (contact_of ws m) None) (sym h.2)
 
-is_utf8_false : (bs : List ℕ) → ¬ (IsUtf8 bs) → is_utf8 bs ≡ false
+pub is_utf8_false : (bs : List ℕ) → ¬ (IsUtf8 bs) → is_utf8 bs ≡ false
 is_utf8_false bs bad = by_test (is_utf8 bs) refl
   where
     by_test : (v : Bool) → is_utf8 bs ≡ v → v ≡ false

@@ -1,7 +1,12 @@
+pub mod Bound
 pub mod Code
 pub mod Device
+pub mod DeviceView
 pub mod Kinds
 pub mod Load
+pub mod Nodes
+pub mod NodesOf
+pub mod Places
 pub mod Report
 pub mod Scenario
 pub mod ScenarioView
@@ -9,4 +14,3 @@ pub mod Sent
 pub mod Slots
 pub mod Trace
 pub mod TraceView
-pub mod WellTyped

@@ -1,68 +1,94 @@
--- The device that a bay file and a program load to, or why they are refused; and the report of a whole scenario.
-use Rattle.std.specs.Prelude.{◌≡◌, ℕ, ◌<◌, ◌≤◌, ◌⊎◌, Bool, true, false, cond, List, map, length, codes, unwrap_or, Option, None, Some, IfSome, Result, Ok, Err}
+-- The device that a bay file and a program load to, or why they are refused.
+use Rattle.std.specs.Prelude.{◌≡◌, ℕ, ◌/◌, ◌%◌, ◌==◌, ◌⊎◌, false, cond, List, [], ◌∷◌, Option, None, option_map, Result, Ok, Err}
 use Rattle.std.specs.Str.{is_utf8}
 use Rattle.bay_config.specs.Bay.{bay_of}
 use Rattle.bay_config.specs.Code as bay_code
 use Rattle.bay_config.specs.declared.bay.Bay.{Bay}
 use Rattle.bay_config.specs.declared.fault.BayFault.{BayFault}
+use Rattle.bay_config.specs.declared.fault.BayFault.TheVariants as bay_fault
+use Rattle.il_check.specs.Code as check_code
+use Rattle.il_check.specs.WellTyped.{Checked, checked_of}
+use Rattle.il_check.specs.declared.fault.CheckFault.{CheckFault}
+use Rattle.il_check.specs.declared.fault.CheckFault.TheVariants as check_fault
 use Rattle.il_text.specs.Code as text_code
-use Rattle.il_text.specs.Listing.{Declared, Listing}
-use Rattle.il_text.specs.Meaning.{truth, Variables}
-use Rattle.il_text.specs.Names.{upper}
+use Rattle.il_text.specs.Listing.{Listing}
 use Rattle.il_text.specs.Reading.{program_of}
 use Rattle.il_text.specs.declared.fault.TextFault.{TextFault}
-use Rattle.bay_main.specs.Code.{check_code_of}
-use Rattle.bay_main.specs.Device.{State}
-use Rattle.bay_main.specs.Report.{PartsReport}
-use Rattle.bay_main.specs.Scenario.{scenario_of}
-use Rattle.bay_main.specs.WellTyped.{LineFault, faults_of, first_fault}
+use Rattle.il_text.specs.declared.fault.TextFault.TheVariants as text_fault
+use Rattle.bay_main.specs.Device.{Variable, State}
+use Rattle.bay_main.specs.Slots.{variables_of}
 use Rattle.bay_main.specs.declared.fault.LoadFault.{LoadFault}
-use Rattle.bay_main.specs.declared.fault.LoadFault.TheVariants.{Refused}
-use Rattle.bay_main.specs.declared.input.TheConstants.{SCENARIO_LIMIT}
+use Rattle.bay_main.specs.declared.fault.LoadFault.TheVariants.{Refused, OutOfMemory}
+use Rattle.bay_main.specs.declared.typed.SwitchPoint.{SwitchPoint}
+use Rattle.bay_main.specs.declared.typed.SwitchPoint.TheVariants.{Position, Open, Closed, EnableOpen, EnableClose}
 
--- each variable has its initial value, and FALSE where it has none
-abbrev pub initial_variables : List Declared → Variables
-initial_variables declared = map (λ d. (upper d.name, truth (unwrap_or d.initial false))) declared
+-- the points of a switch, in the order in which a bay lists them
+abbrev pub nth_point : ℕ → SwitchPoint
+nth_point n = cond (n == 0) Position (cond (n == 1) Open (cond (n == 2) Closed (cond (n == 3) EnableOpen EnableClose)))
+
+-- the switch and its point at a place of a bay's points, which stand switch by switch
+abbrev pub point_at : ℕ → ℕ × SwitchPoint
+point_at place = (place / 5, nth_point (place % 5))
+
+-- the variables of a checked program, and the points that they stand for
+abbrev pub declared_from : List (List ℕ) → List (Option ℕ) → List Variable
+declared_from [] points = []
+declared_from (name ∷ names) [] = []
+declared_from (name ∷ names) (p ∷ points) = record { name = name; point = option_map point_at p } ∷ declared_from names points
 
 -- a device before its first event
-abbrev pub initial_device : Bay → Listing → State
+abbrev pub initial_device : Bay → Checked → State
 initial_device bay program = record {
   switches = bay.switches;
-  declared = program.declarations;
+  declared = declared_from program.names program.points;
   items = program.items;
   rows = bay.rows;
-  variables = initial_variables program.declarations;
+  variables = variables_of program.names program.initial;
   moment = 0;
   last_scan = None;
   is_stale = false;
 }
 
--- the first fault of the checks refuses a program
-abbrev pub unless_fault : Option LineFault → State → Result State LoadFault
-unless_fault None device = Ok device
-unless_fault (Some f) device = Err (Refused (check_code_of f.fault) f.line)
+-- why a bay file, a program's text and a program are refused
+abbrev pub bay_refusal : BayFault → LoadFault
+bay_refusal bay_fault.OutOfMemory = OutOfMemory
+bay_refusal fault = Refused (bay_code.code_of fault) 0
 
-abbrev pub checked : Bay → Result Listing TextFault → Result State LoadFault
-checked bay (Ok program) = unless_fault (first_fault (faults_of bay.points program)) (initial_device bay program)
-checked bay (Err fault) = Err (Refused (text_code.code_of fault) (text_code.line_of fault))
+abbrev pub text_refusal : TextFault → LoadFault
+text_refusal text_fault.OutOfMemory = OutOfMemory
+text_refusal fault = Refused (text_code.code_of fault) (text_code.line_of fault)
+
+abbrev pub check_refusal : CheckFault → LoadFault
+check_refusal check_fault.OutOfMemory = OutOfMemory
+check_refusal fault = Refused (check_code.code_of fault) (check_code.line_of fault)
+
+-- the device of a bay and what the checks made of its program
+abbrev pub of_checked : Bay → Result Checked CheckFault → Result State LoadFault
+of_checked bay (Ok program) = Ok (initial_device bay program)
+of_checked bay (Err fault) = Err (check_refusal fault)
+
+abbrev pub of_program : Bay → Result Listing TextFault → Result State LoadFault
+of_program bay (Ok program) = of_checked bay (checked_of bay.points program)
+of_program bay (Err fault) = Err (text_refusal fault)
+
+-- a fault of the bay file comes before one of the program's text, and that before one of its checks
+abbrev pub of_bay : Result Bay BayFault → Result Listing TextFault → Result State LoadFault
+of_bay (Ok bay) program = of_program bay program
+of_bay (Err fault) program = Err (bay_refusal fault)
 
 -- a program that is not in UTF-8 is a bad token at its first line
-abbrev pub with_program : Result Bay BayFault → List ℕ → Result State LoadFault
-with_program (Ok bay) logic = cond (is_utf8 logic) (checked bay (program_of logic)) (Err (Refused 60 1))
-with_program (Err fault) logic = Err (Refused (bay_code.code_of fault) 0)
+abbrev pub text_of : List ℕ → Result Listing TextFault
+text_of logic = cond (is_utf8 logic) (program_of logic) (Err (text_fault.BadToken 1))
 
--- a fault of the bay file comes before one of the program; a bay file that is not in UTF-8 is no TOML
+-- a bay file that is not in UTF-8 is no TOML
+abbrev pub file_of : List ℕ → Result Bay BayFault
+file_of bay = cond (is_utf8 bay) (bay_of bay) (Err bay_fault.BadToml)
+
+-- the device of the octets of a bay file and of a program, or their first refusal
 abbrev pub load_of : List ℕ → List ℕ → Result State LoadFault
-load_of bay logic = cond (is_utf8 bay) (with_program (bay_of bay) logic) (Err (Refused 50 0))
+load_of bay logic = of_bay (file_of bay) (text_of logic)
 
--- the text and the status of a scenario
-abbrev pub IsReport : List ℕ → List ℕ → ℕ → Type 0
-IsReport scenario text status = PartsReport load_of (scenario_of scenario) text status
-
--- the text and the status for what a reader had: the report of it; a fault where a read failed or there was
--- too much; or that memory ran out
-abbrev pub IsReplay : Option (List ℕ) → Bool → List ℕ → ℕ → Type 0
-IsReplay input has_failed text status =
-    ((scenario : List ℕ) × IfSome input (λ octets. scenario ≡ octets) × (length scenario ≤ SCENARIO_LIMIT) × IsReport scenario text status)
-    ⊎ (((text ≡ codes "fault 121\n") × (status ≡ 3) × ((has_failed ≡ true) ⊎ IfSome input (λ octets. SCENARIO_LIMIT < length octets)))
-    ⊎ ((text ≡ codes "fault memory\n") × (status ≡ 3)))
+-- the result is what is held, seen so, unless memory ran out
+abbrev pub Loads : {A B : Type 0} → (A → B) → Result A LoadFault → Result B LoadFault → Type 0
+Loads view (Ok x) held = held ≡ Ok (view x)
+Loads view (Err e) held = (e ≡ OutOfMemory) ⊎ (held ≡ Err e)

@@ -1,12 +1,14 @@
 -- What is printed for a scenario, and with which status.
-use Rattle.std.specs.Prelude.{◌≡◌, ℕ, ◌+◌, ◌==◌, Bool, true, false, cond, List, [], ◌∷◌, ◌++◌, length, map, position, codes, unwrap_or, Option, None, Some, Result, Ok, Err, ◌⊎◌, MatchBool}
-use Rattle.std.specs.List.{concat, enumerate_from}
+use Rattle.std.specs.Prelude.{◌≡◌, ℕ, ◌+◌, ◌==◌, ◌≤◌, ◌<◌, Bool, true, false, cond, nat_lt, List, [], ◌∷◌, ◌++◌, length, position, codes, unwrap_or, Option, None, Some, IfSome, Result, Ok, Err, ◌⊎◌, MatchBool}
 use Rattle.std.specs.Fmt.{decimal}
+use Rattle.std.specs.Io.KnownBytes.{Appends}
 use Rattle.bay_config.specs.declared.bay.Switch.{Switch}
 use Rattle.il_text.specs.Names.{same_name}
 use Rattle.bay_main.specs.Code.{step_code_of}
-use Rattle.bay_main.specs.Device.{State, step_of, leaf_of, is_truth}
-use Rattle.bay_main.specs.Scenario.{ScenarioParts, lines_of}
+use Rattle.bay_main.specs.Device.{State, answer_of, stepped, leaf_of, is_truth, value_name, interlocking_of}
+use Rattle.bay_main.specs.Load.{load_of}
+use Rattle.bay_main.specs.Scenario.{ScenarioParts, scenario_of, lines_of}
+use Rattle.bay_main.specs.Sent.{SendsPart}
 use Rattle.bay_main.specs.Trace.{LineData, blank, contact, scan, trace_line_of}
 use Rattle.bay_main.specs.declared.device.Event.{Event}
 use Rattle.bay_main.specs.declared.device.Event.TheVariants.{Contact, Scan}
@@ -14,6 +16,7 @@ use Rattle.bay_main.specs.declared.device.Step.{Step}
 use Rattle.bay_main.specs.declared.fault.LoadFault.{LoadFault}
 use Rattle.bay_main.specs.declared.fault.LoadFault.TheVariants.{Refused, OutOfMemory}
 use Rattle.bay_main.specs.declared.fault.StepFault.{StepFault}
+use Rattle.bay_main.specs.declared.input.TheConstants.{SCENARIO_LIMIT}
 
 -- a refusal at a line of the program, or one that has none
 abbrev pub numbered_refusal : ℕ → ℕ → List ℕ
@@ -26,44 +29,65 @@ abbrev pub refusal_of : LoadFault → List ℕ
 refusal_of OutOfMemory = codes "load refused memory\n"
 refusal_of (Refused code line) = numbered_refusal code line
 
+-- TRUE is 1
+abbrev pub digit_of : Bool → List ℕ
+digit_of b = cond b (codes "1") (codes "0")
+
+-- a switch's id, and whether it may be opened and closed
+abbrev pub switch_text : List ℕ → Bool → Bool → List ℕ
+switch_text id opens closes = codes " " ++ (id ++ (codes "=" ++ (digit_of opens ++ digit_of closes)))
+
+-- an interlocking value of the switch at a place
+abbrev pub enabled : State → ℕ → List ℕ → Bool
+enabled s k object = is_truth true (leaf_of (value_name (interlocking_of k) object) s.rows)
+
+-- both of them, of a switch that is there
+abbrev pub enabled_of : State → ℕ → Option (Bool × Bool)
+enabled_of s k = cond (nat_lt k (length s.switches)) (Some (enabled s k (codes "$ST$EnaOpn"), enabled s k (codes "$ST$EnaCls"))) None
+
+-- the texts of switches, from place k on
+abbrev pub switches_text : State → ℕ → List Switch → List ℕ
+switches_text s k [] = []
+switches_text s k (switch ∷ switches) =
+    switch_text switch.id (enabled s k (codes "$ST$EnaOpn")) (enabled s k (codes "$ST$EnaCls")) ++ switches_text s (k + 1) switches
+
+-- the line of a scan
+abbrev pub scan_text : ℕ → State → List ℕ
+scan_text now s = (decimal now ++ codes " scan") ++ (switches_text s 0 s.switches ++ codes "\n")
+
+-- the line of a refused event
+abbrev pub refused_text : ℕ → StepFault → List ℕ
+refused_text now fault = decimal now ++ (codes " refused " ++ (decimal (step_code_of fault) ++ codes "\n"))
+
+-- the line of an event, by its answer and the device after it
+abbrev pub step_text : ℕ → Result Step StepFault → State → List ℕ
+step_text now (Err fault) s = refused_text now fault
+step_text now (Ok step) s = cond step.scanned (scan_text now s) []
+
 -- what is printed for a line of the trace, whether the replay ends there, and the device after it
-pub record Answer : Type 0 where
+pub record LineAnswer : Type 0 where
   pub text : List ℕ
   pub is_last : Bool
   pub after : State
 
--- TRUE is 1
-abbrev pub digit_of : List ℕ → State → List ℕ
-digit_of name s = cond (is_truth true (leaf_of name s.rows)) (codes "1") (codes "0")
-
--- a switch's id, and whether it may be opened and closed
-abbrev pub switch_text : State → ℕ × Switch → List ℕ
-switch_text s p =
-    let node = codes "CILO" ++ decimal p.0 ++ codes "$ST$" in
-    codes " " ++ p.1.id ++ codes "=" ++ digit_of (node ++ codes "EnaOpn$stVal") s ++ digit_of (node ++ codes "EnaCls$stVal") s
-
-abbrev pub scan_text : ℕ → State → List ℕ
-scan_text now s = decimal now ++ codes " scan" ++ concat (map (switch_text s) (enumerate_from 1 s.switches)) ++ codes "\n"
-
-abbrev pub step_text : ℕ → Result Step StepFault → State → List ℕ
-step_text now (Err fault) s = decimal now ++ codes " refused " ++ decimal (step_code_of fault) ++ codes "\n"
-step_text now (Ok step) s = cond step.scanned (scan_text now s) []
-
-abbrev pub event_line_answer : ℕ → Event → State → Answer
-event_line_answer now event s =
-    let done = step_of now event s in
-    record { text = step_text now done.0 done.1; is_last = false; after = done.1 }
+abbrev pub event_answer : ℕ → Event → State → LineAnswer
+event_answer now event s =
+    let after = stepped now event s in
+    record { text = step_text now (answer_of now event s) after; is_last = false; after = after }
 
 -- the place of the switch with an id, or a place at which there is none
 abbrev pub switch_place : State → List ℕ → ℕ
 switch_place s id = unwrap_or (position (λ switch. same_name switch.id id) s.switches) (length s.switches)
 
+abbrev pub unreadable_text : ℕ → List ℕ
+unreadable_text k = codes "fault 120 line " ++ (decimal k ++ codes "\n")
+
 -- the answer to a line, which is line k of the trace
-abbrev pub line_answer : ℕ → Option LineData → State → Answer
-line_answer k None s = record { text = codes "fault 120 line " ++ decimal k ++ codes "\n"; is_last = true; after = s }
+abbrev pub line_answer : ℕ → Option LineData → State → LineAnswer
+line_answer k None s = record { text = unreadable_text k; is_last = true; after = s }
 line_answer k (Some blank) s = record { text = []; is_last = false; after = s }
-line_answer k (Some (contact moment id position)) s = event_line_answer moment (Contact (switch_place s id) position) s
-line_answer k (Some (scan moment)) s = event_line_answer moment Scan s
+line_answer k (Some (contact moment id position)) s = event_answer moment (Contact (switch_place s id) position) s
+line_answer k (Some (scan moment)) s = event_answer moment Scan s
 
 abbrev pub ran_out : List ℕ → ℕ → Type 0
 ran_out text status = (text ≡ codes "fault memory\n") × (status ≡ 3)
@@ -77,12 +101,53 @@ TraceReport s k (line ∷ lines) text status =
     MatchBool answer.is_last ((text ≡ answer.text) × (status ≡ 3)) ((rest : List ℕ) × (text ≡ answer.text ++ rest) × TraceReport answer.after (k + 1) lines rest status)
     ⊎ ran_out text status
 
+-- the text and the status of a device's trace
+abbrev pub DeviceReport : State → List (List ℕ) → List ℕ → ℕ → Type 0
+DeviceReport s lines text status = (rest : List ℕ) × (text ≡ codes "loaded\n" ++ rest) × TraceReport s 1 lines rest status
+
+-- the text and the status of a refused load
+abbrev pub Refuses : LoadFault → List ℕ → ℕ → Type 0
+Refuses fault text status = (text ≡ refusal_of fault) × (status ≡ 1)
+
+-- for want of memory a refusal is told as one of memory
+abbrev pub MayRefuse : LoadFault → List ℕ → ℕ → Type 0
+MayRefuse fault text status = Refuses fault text status ⊎ Refuses OutOfMemory text status
+
 -- the text and the status after a load
 abbrev pub LoadReport : Result State LoadFault → List ℕ → List ℕ → ℕ → Type 0
-LoadReport (Err fault) trace text status = (text ≡ refusal_of fault) × (status ≡ 1)
-LoadReport (Ok device) trace text status = (rest : List ℕ) × (text ≡ codes "loaded\n" ++ rest) × TraceReport device 1 (lines_of trace) rest status
+LoadReport (Err fault) trace text status = Refuses fault text status
+LoadReport (Ok device) trace text status = DeviceReport device (lines_of trace) text status
 
--- the text and the status of a scenario, where `load` says what its bay file and its program make
-abbrev pub PartsReport : (List ℕ → List ℕ → Result State LoadFault) → Option ScenarioParts → List ℕ → ℕ → Type 0
-PartsReport load None text status = (text ≡ codes "fault 120 line 0\n") × (status ≡ 3)
-PartsReport load (Some parts) text status = LoadReport (load parts.bay parts.logic) parts.trace text status ⊎ LoadReport (Err OutOfMemory) parts.trace text status
+-- the text and the status of a bay file, a program and a trace; their load may want memory
+abbrev pub LoadsReport : ScenarioParts → List ℕ → ℕ → Type 0
+LoadsReport parts text status = LoadReport (load_of parts.bay parts.logic) parts.trace text status ⊎ Refuses OutOfMemory text status
+
+-- the text and the status of a scenario's parts
+abbrev pub PartsReport : Option ScenarioParts → List ℕ → ℕ → Type 0
+PartsReport None text status = (text ≡ codes "fault 120 line 0\n") × (status ≡ 3)
+PartsReport (Some parts) text status = LoadsReport parts text status
+
+-- the text and the status of a scenario
+abbrev pub IsReport : List ℕ → List ℕ → ℕ → Type 0
+IsReport scenario text status = PartsReport (scenario_of scenario) text status
+
+-- the text and the status for what a reader had: the report of it; a fault where a read failed or there was
+-- too much; or that memory ran out
+abbrev pub IsReplay : Option (List ℕ) → Bool → List ℕ → ℕ → Type 0
+IsReplay input has_failed text status =
+    ((scenario : List ℕ) × IfSome input (λ octets. scenario ≡ octets) × (length scenario ≤ SCENARIO_LIMIT) × IsReport scenario text status)
+    ⊎ (((text ≡ codes "fault 121\n") × (status ≡ 3) × ((has_failed ≡ true) ⊎ IfSome input (λ octets. SCENARIO_LIMIT < length octets)))
+    ⊎ ran_out text status)
+
+-- the writer took a whole text of those that may be printed
+pub record Reports (May : List ℕ → ℕ → Type 0) (old new : Option (List ℕ)) (status : ℕ) : Type 0 where
+  pub text : List ℕ
+  pub told : May text status
+  pub appended : Appends old new text
+
+-- the writer took a front of such a text
+pub record ReportsPart (May : List ℕ → ℕ → Type 0) (old new : Option (List ℕ)) : Type 0 where
+  pub text : List ℕ
+  pub status : ℕ
+  pub told : May text status
+  pub part : SendsPart old new text

@@ -1,56 +1,14 @@
--- A program on slots, as the program on names that it stands for, whatever the slots are called.
-use Rattle.std.specs.Prelude.{◌≡◌, ℕ, ◌+◌, ◌<◌, ◌≤◌, Bool, false, List, [], ◌∷◌, length, map, slice_get, slice_index_or, Option, Some}
-use Rattle.il_text.specs.Names.{same_name}
-use Rattle.il_text.specs.Listing as listing
-use Rattle.il_text.specs.Meaning.{Value, truth, Variables}
-use Rattle.bay_main.specs.declared.typed.Source.{Source}
-use Rattle.bay_main.specs.declared.typed.Source.TheVariants.{Literal, Slot}
-use Rattle.bay_main.specs.declared.typed.TypedInstruction.{TypedInstruction}
-use Rattle.bay_main.specs.declared.typed.TypedInstruction.TheVariants.{Load, Store, Combine}
-
--- the name of a slot
-abbrev pub name_at : List (List ℕ) → ℕ → List ℕ
-name_at names slot = slice_index_or names slot []
-
--- no two slots have the same name
-abbrev pub AreApart : List (List ℕ) → Type 0
-AreApart names = (i j : ℕ) → i < j → j < length names → same_name (name_at names i) (name_at names j) ≡ false
-
-abbrev pub source_named : List (List ℕ) → Source → listing.Source
-source_named names (Literal value) = listing.constant value
-source_named names (Slot slot) = listing.variable (name_at names slot)
-
-abbrev pub action_named : List (List ℕ) → TypedInstruction → listing.Action
-action_named names (Load negated source) = listing.load negated (source_named names source)
-action_named names (Store slot) = listing.store (name_at names slot)
-action_named names (Combine operator source) = listing.combine operator (source_named names source)
-
--- the items that instructions stand for; lines mean nothing here
-abbrev pub items_named : List (List ℕ) → List TypedInstruction → List listing.Entry
-items_named names instructions = map (λ i. listing.action 0 (action_named names i)) instructions
+-- The values of slots by their names, whatever the slots are called.
+use Rattle.std.specs.Prelude.{ℕ, Bool, List, [], ◌∷◌, slice_get, Option, Some}
+use Rattle.il_text.specs.Meaning.{truth, Variables}
+use Rattle.il_check.specs.declared.typed.Source.{Source}
+use Rattle.il_check.specs.declared.typed.Source.TheVariants.{Literal, Slot}
 
 -- the values of the slots, by their names
 abbrev pub variables_of : List (List ℕ) → List Bool → Variables
 variables_of [] values = []
 variables_of (name ∷ names) [] = []
 variables_of (name ∷ names) (value ∷ values) = (name, truth value) ∷ variables_of names values
-
--- how many slots there must be for a source, and for an instruction
-abbrev pub slots_of_source : Source → ℕ
-slots_of_source (Literal value) = 0
-slots_of_source (Slot slot) = slot + 1
-
-abbrev pub slots_of : TypedInstruction → ℕ
-slots_of (Load negated source) = slots_of_source source
-slots_of (Store slot) = slot + 1
-slots_of (Combine operator source) = slots_of_source source
-
--- a source, and an instruction, is about so many slots at most
-abbrev pub IsSourceWithin : ℕ → Source → Type 0
-IsSourceWithin slots source = slots_of_source source ≤ slots
-
-abbrev pub IsWithin : ℕ → TypedInstruction → Type 0
-IsWithin slots instruction = slots_of instruction ≤ slots
 
 -- what a source has
 abbrev pub source_value : List Bool → Source → Option Bool

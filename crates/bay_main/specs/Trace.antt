@@ -1,5 +1,5 @@
 -- What a line of the trace says: words parted by one space.
-use Rattle.std.specs.Prelude.{ℕ, ◌==◌, ◌&&◌, ◌^◌, Bool, not, cond, nat_lt, List, [], ◌∷◌, length, codes, Option, None, Some, option_map, option_and_then}
+use Rattle.std.specs.Prelude.{ℕ, ◌==◌, ◌&&◌, ◌^◌, Bool, cond, nat_lt, List, [], ◌∷◌, length, codes, Option, None, Some, option_map, option_and_then}
 use Rattle.std.specs.List.{slice_split}
 use Rattle.std.specs.Str.{all_ascii_digits, bytes_eq, is_utf8}
 use Rattle.std.specs.Str.Parse.{digits_value}

@@ -1,54 +1,14 @@
 // Why a scenario's texts are not loaded, and why an event is refused.
 ghost use Rattle.std.specs.Prelude.{◌≡◌};
-ghost use Rattle.bay_main.specs.Code.{check_code_of, step_code_of};
+ghost use Rattle.bay_main.specs.Code.{step_code_of};
+ghost use Rattle.bay_main.specs.Load.{bay_refusal, text_refusal, check_refusal};
 ghost use Rattle.bay_main.specs.declared.fault.LoadFault.TheVariants.{OutOfMemory};
 
+use bay_config::fault::BayFault;
+use il_check::fault::CheckFault;
+use il_text::fault::TextFault;
 use std::alloc::{AllocError, AllocFailed};
 use thiserror::Error;
-
-/// Why a line of a program that can be read is refused.
-#[derive(Clone, Copy, Debug, PartialEq, Eq, Error)]
-pub enum CheckFault {
-    /// The line holds what can be checked, and can't be run yet.
-    #[error("the line is outside the language that is run")]
-    OutsideSubset,
-    /// A name is not declared, or an external's name is no point.
-    #[error("the name is unknown")]
-    UnknownName,
-    /// A name is declared twice.
-    #[error("the name is declared twice")]
-    DuplicateName,
-    /// An external's type is not its point's.
-    #[error("the type is not the point's")]
-    TypeMismatch,
-    /// The result is used before it is set.
-    #[error("the result is not set")]
-    UnsetResult,
-    /// A point that may only be read is written.
-    #[error("the point may only be read")]
-    ReadOnly,
-    /// More than 512 names are declared.
-    #[error("too many names are declared")]
-    TooMany,
-}
-
-impl CheckFault {
-    /// The fault's number: 61 outside the language that is run, 70 unknown name, 71 duplicate name,
-    /// 72 type mismatch, 73 unset result, 77 read-only, 79 too many.
-    pub fn code(self) -> u8
-        ensures { result ≡ check_code_of self }
-    {
-        match self {
-            CheckFault::OutsideSubset => 61,
-            CheckFault::UnknownName => 70,
-            CheckFault::DuplicateName => 71,
-            CheckFault::TypeMismatch => 72,
-            CheckFault::UnsetResult => 73,
-            CheckFault::ReadOnly => 77,
-            CheckFault::TooMany => 79,
-        }
-    }
-}
 
 /// Why a bay and a program are not loaded.
 #[derive(Clone, Copy, Debug, PartialEq, Eq, Error)]
@@ -59,6 +19,48 @@ pub enum LoadFault {
     /// There is not enough memory.
     #[error("out of memory")]
     OutOfMemory,
+}
+
+impl From<BayFault> for LoadFault {
+    ghost from_gives = { λ fault e. e ≡ bay_refusal fault };
+
+    fn from(fault: BayFault) -> LoadFault {
+        match fault {
+            BayFault::OutOfMemory => LoadFault::OutOfMemory,
+            other => LoadFault::Refused {
+                code: other.code(),
+                line: 0,
+            },
+        }
+    }
+}
+
+impl From<TextFault> for LoadFault {
+    ghost from_gives = { λ fault e. e ≡ text_refusal fault };
+
+    fn from(fault: TextFault) -> LoadFault {
+        match fault {
+            TextFault::OutOfMemory => LoadFault::OutOfMemory,
+            other => LoadFault::Refused {
+                code: other.code(),
+                line: other.line(),
+            },
+        }
+    }
+}
+
+impl From<CheckFault> for LoadFault {
+    ghost from_gives = { λ fault e. e ≡ check_refusal fault };
+
+    fn from(fault: CheckFault) -> LoadFault {
+        match fault {
+            CheckFault::OutOfMemory => LoadFault::OutOfMemory,
+            other => LoadFault::Refused {
+                code: other.code(),
+                line: other.line(),
+            },
+        }
+    }
 }
 
 impl From<AllocError> for LoadFault {

@@ -1,165 +1,40 @@
 // A device from the texts of a bay file and a program.
-ghost use Rattle.std.specs.Prelude.{◌≡◌, length, vec_len, All, IfOk};
-ghost use Rattle.bay_tree.specs.declared.leaf.Kind.TheVariants as kind;
-ghost use Rattle.bay_tree.specs.Rows.{kinds_of};
+ghost use Rattle.std.specs.Prelude.{◌≡◌, IfOk, Err};
+ghost use Rattle.bay_config.specs.Bay.{bay_of};
 ghost use Rattle.bay_config.specs.Laws.{IsBay};
-ghost use Rattle.bay_main.specs.Kinds.{HasKind, AreStatusRows, AreSwitchRows};
-ghost use Rattle.bay_main.specs.declared.fault.LoadFault.TheVariants.{OutOfMemory};
+ghost use Rattle.il_check.specs.TypedView.{typed_view};
+ghost use Rattle.il_check.specs.WellTyped.{checked_of};
+ghost use Rattle.il_text.specs.Reading.{program_of};
+ghost use Rattle.il_text.specs.Views.{listing_of};
+ghost use Rattle.il_text.specs.declared.fault.TextFault.TheVariants.{BadToken};
+ghost use Rattle.bay_main.specs.DeviceView.{device_view};
+ghost use Rattle.bay_main.specs.Load.{initial_device, of_checked, of_program, of_bay, text_of, load_of, Loads};
 
-use crate::check::check;
+use crate::bind::bind;
 use crate::device::Device;
 use crate::fault::LoadFault;
-use crate::status::{StatusRows, SwitchRows};
-use crate::typed::{Slot, TypedProgram};
+use crate::handles::{all_nodes, all_switch_rows};
 use bay_config::bay::Bay;
 use bay_config::fault::BayFault;
-use bay_config::nodes::node_name;
 use bay_config::read::read_bay;
-use bay_tree::fault::TreeFault;
-use bay_tree::leaf::Kind;
-use bay_tree::list::Text;
-use bay_tree::tree::{Handle, Tree};
+use bay_tree::tree::Tree;
+use il_check::check::check;
+use il_check::typed::Typed;
 use il_text::fault::TextFault;
+use il_text::program::Program;
 use il_text::read::read_program;
 use std::alloc::{AllocError, Global};
 
-impl From<BayFault> for LoadFault {
-    fn from(fault: BayFault) -> LoadFault {
-        match fault {
-            BayFault::OutOfMemory => LoadFault::OutOfMemory,
-            other => LoadFault::Refused {
-                code: other.code(),
-                line: 0,
-            },
-        }
-    }
-}
-
-impl From<TextFault> for LoadFault {
-    fn from(fault: TextFault) -> LoadFault {
-        match fault {
-            TextFault::OutOfMemory => LoadFault::OutOfMemory,
-            other => LoadFault::Refused {
-                code: other.code(),
-                line: other.line(),
-            },
-        }
-    }
-}
-
-impl From<TreeFault> for LoadFault {
-    fn from(fault: TreeFault) -> LoadFault {
-        LoadFault::Refused {
-            code: fault.code(),
-            line: 0,
-        }
-    }
-}
-
-/// The handle of the row with this name, whose value is of this kind.
-fn handle_of(tree: &Tree, name: &str, kind: Kind) -> Result<Handle, TreeFault>
-    ensures { IfOk result (λ handle. HasKind (kinds_of tree.now) handle kind) }
-{
-    let handle = tree.find(name)?;
-    let Some(leaf) = tree.get(handle) else {
-        return Err(TreeFault::WrongType);
-    };
-    if leaf.kind() != kind {
-        return Err(TreeFault::WrongType);
-    }
-    Ok(handle)
-}
-
-/// The rows of a status value: its value, its quality and its moment.
-fn status_rows(
-    alloc: Global,
-    tree: &Tree,
-    node: &str,
-    value: &str,
-    kind: Kind,
-) -> Result<StatusRows, LoadFault>
-    ensures { IfOk result (AreStatusRows (kinds_of tree.now) kind) }
-{
-    let name = format!(in alloc; "{node}$ST${value}$stVal")?;
-    let value_row = handle_of(tree, name.as_str(), kind)?;
-    let name = format!(in alloc; "{node}$ST${value}$q")?;
-    let quality = handle_of(tree, name.as_str(), Kind::Quality)?;
-    let name = format!(in alloc; "{node}$ST${value}$t")?;
-    let time = handle_of(tree, name.as_str(), Kind::Utc)?;
-    Ok(StatusRows {
-        value: value_row,
-        quality,
-        time,
-    })
-}
-
-/// The rows of a switch: those of its node and of its CILO, which is numbered by its place.
-fn switch_rows(
-    alloc: Global,
-    tree: &Tree,
-    node: &str,
-    number: usize,
-) -> Result<SwitchRows, LoadFault>
-    ensures { IfOk result (AreSwitchRows (kinds_of tree.now)) }
-{
-    let position = status_rows(alloc, tree, node, "Pos", Kind::Dbpos)?;
-    let operations = status_rows(alloc, tree, node, "OpCnt", Kind::Int32)?;
-    let interlocking = format!(in alloc; "CILO{number}")?;
-    let interlocking = interlocking.as_str();
-    let ena_opn = status_rows(alloc, tree, interlocking, "EnaOpn", Kind::Truth)?;
-    let ena_cls = status_rows(alloc, tree, interlocking, "EnaCls", Kind::Truth)?;
-    Ok(SwitchRows {
-        position,
-        operations,
-        ena_opn,
-        ena_cls,
-    })
-}
-
-/// The names of the switches' nodes, switch by switch.
-fn node_names(alloc: Global, bay: &Bay) -> Result<Vec<Text>, AllocError> {
-    let mut names = Vec::new(alloc);
-    for switch in 0..bay.switches.as_slice().len() {
-        names.push(node_name(alloc, bay, switch)?)?;
-    }
-    Ok(names)
-}
-
-/// The rows of each switch, in the order of the switches.
-fn all_switch_rows(alloc: Global, tree: &Tree, nodes: &[Text]) -> Result<Vec<SwitchRows>, LoadFault>
-    ensures { IfOk result (λ rows. All (AreSwitchRows (kinds_of tree.now)) rows.items) }
-{
-    let mut rows = Vec::new(alloc);
-    for i in 0..nodes.len() {
-        let one = switch_rows(alloc, tree, nodes[i].as_str(), i + 1)?;
-        rows.push(one)?;
-    }
-    Ok(rows)
-}
-
-/// The values that the slots begin with.
-fn initial_values(alloc: Global, slots: &[Slot]) -> Result<Vec<bool>, AllocError>
-    ensures { IfOk result (λ values. vec_len values ≡ length slots.now) }
-{
-    let mut values = Vec::new(alloc);
-    for slot in slots {
-        values.push(match slot {
-            Slot::Local { initial } => *initial,
-            Slot::Point { .. } => false,
-        })?;
-    }
-    Ok(values)
-}
-
-/// The device of a bay and a checked program.
-fn device_of(alloc: Global, bay: Bay, program: TypedProgram) -> Result<Device, LoadFault>
+/// The device of a bay and a checked program, before its first event.
+fn device_of(alloc: Global, bay: Bay, typed: Typed) -> Result<Device, AllocError>
     requires { IsBay bay }
+    ensures { IfOk result (λ device. device_view device ≡ initial_device bay (typed_view typed)) }
 {
-    let nodes = node_names(alloc, &bay)?;
+    let nodes = all_nodes(alloc, &bay)?;
+    let (program, values) = bind(alloc, typed, nodes.len())?;
     let Bay { rows, switches, .. } = bay;
     let tree = Tree::build(alloc, rows.into_vec())?;
     let rows = all_switch_rows(alloc, &tree, nodes.as_slice())?;
-    let values = initial_values(alloc, program.slots.as_slice())?;
     Ok(Device {
         alloc,
         tree,
@@ -173,27 +48,68 @@ fn device_of(alloc: Global, bay: Bay, program: TypedProgram) -> Result<Device, L
     })
 }
 
-/// The device of a bay file and a program. A fault of the bay file comes before one of the program's
-/// text, and that before one of its checks.
-pub fn load(alloc: Global, bay: &str, logic: &str) -> Result<Device, LoadFault> {
-    let bay = read_bay(alloc, bay)?;
-    let program = read_program(alloc, logic)?;
-    let switch_count = bay.switches.as_slice().len();
-    let typed = check(alloc, &program, bay.points.as_slice(), switch_count)?;
-    device_of(alloc, bay, typed)
+/// The device of a bay and a program.
+fn load_program(alloc: Global, bay: Bay, program: &Program<'_>) -> Result<Device, LoadFault>
+    requires { IsBay bay }
+    ensures { Loads device_view result (of_checked bay (checked_of bay.points (listing_of program.now))) }
+{
+    match check(alloc, program, bay.points.as_slice()) {
+        Ok(typed) => match device_of(alloc, bay, typed) {
+            Ok(device) => Ok(device),
+            Err(error) => Err(LoadFault::from(error)),
+        },
+        Err(fault) => Err(LoadFault::from(fault)),
+    }
 }
 
-/// The same of octets: a bay file that is not in UTF-8 is no TOML, and a program that is not is a bad
-/// token at its first line.
-pub fn load_octets(alloc: Global, bay: &[u8], logic: &[u8]) -> Result<Device, LoadFault> {
-    let Ok(bay) = std::str::from_utf8(bay) else {
-        return Err(LoadFault::from(BayFault::BadToml));
-    };
+/// The device of a bay and the text of a program.
+fn load_text(alloc: Global, bay: Bay, logic: &str) -> Result<Device, LoadFault>
+    requires { IsBay bay }
+    ensures { Loads device_view result (of_program bay (program_of logic.now)) }
+{
+    match read_program(alloc, logic) {
+        Ok(program) => load_program(alloc, bay, &program),
+        Err(fault) => Err(LoadFault::from(fault)),
+    }
+}
+
+/// The device of a bay file and a program. A fault of the bay file comes before one of the program's
+/// text, and that before one of its checks.
+pub fn load(alloc: Global, bay: &str, logic: &str) -> Result<Device, LoadFault>
+    ensures { Loads device_view result (of_bay (bay_of bay.now) (program_of logic.now)) }
+{
+    match read_bay(alloc, bay) {
+        Ok(bay) => load_text(alloc, bay, logic),
+        Err(fault) => Err(LoadFault::from(fault)),
+    }
+}
+
+/// The refusal of a bay file, or else of a program that is not in UTF-8: a bad token at its first line.
+fn refuse_logic(alloc: Global, bay: &str) -> Result<Device, LoadFault>
+    ensures { Loads device_view result (of_bay (bay_of bay.now) (Err (BadToken 1))) }
+{
+    match read_bay(alloc, bay) {
+        Ok(_) => Err(LoadFault::from(TextFault::BadToken { line: 1 })),
+        Err(fault) => Err(LoadFault::from(fault)),
+    }
+}
+
+/// The device of the text of a bay file and the octets of a program.
+fn load_logic(alloc: Global, bay: &str, logic: &[u8]) -> Result<Device, LoadFault>
+    ensures { Loads device_view result (of_bay (bay_of bay.now) (text_of logic.now)) }
+{
     match std::str::from_utf8(logic) {
         Ok(logic) => load(alloc, bay, logic),
-        Err(_) => {
-            let _bay = read_bay(alloc, bay)?;
-            Err(LoadFault::from(TextFault::BadToken { line: 1 }))
-        }
+        Err(_) => refuse_logic(alloc, bay),
+    }
+}
+
+/// The device of the octets of a bay file and of a program. A bay file that is not in UTF-8 is no TOML.
+pub fn load_octets(alloc: Global, bay: &[u8], logic: &[u8]) -> Result<Device, LoadFault>
+    ensures { Loads device_view result (load_of bay.now logic.now) }
+{
+    match std::str::from_utf8(bay) {
+        Ok(bay) => load_logic(alloc, bay, logic),
+        Err(_) => Err(LoadFault::from(BayFault::BadToml)),
     }
 }

@@ -1,14 +1,19 @@
 // Reads a scenario, replays it, and writes its report.
-ghost use Rattle.std.specs.Prelude.{◌≡◌, ◌+◌, ◌≤◌, length, OnErr, OnOk, IfOk};
+ghost use Rattle.std.specs.Prelude.{◌≡◌, ◌+◌, ◌≤◌, length, true, OnErr, OnOk, IfOk};
 ghost use Rattle.std.specs.Io.KnownBytes.{Appends};
+ghost use Rattle.bay_main.specs.DeviceView.{device_view};
+ghost use Rattle.bay_main.specs.Report.{DeviceReport, MayRefuse, LoadsReport, IsReport, IsReplay, Reports, ReportsPart};
+ghost use Rattle.bay_main.specs.Scenario.{lines_of};
+ghost use Rattle.bay_main.specs.ScenarioView.{scenario_view};
 ghost use Rattle.bay_main.specs.Sent.{SendsPart};
 
 use crate::device::Device;
+use crate::fault::LoadFault;
 use crate::input::{ReadFault, SCENARIO_LIMIT, Watched, read_all};
 use crate::load::load_octets;
 use crate::outbox::{Outbox, WriteFault, write_out};
 use crate::report::{answer_line, refusal_text};
-use crate::scenario::{cut_line, cut_scenario};
+use crate::scenario::{Scenario, cut_line, cut_scenario};
 use std::alloc::Global;
 use std::io::{Read, Write};
 
@@ -44,6 +49,8 @@ fn replay_trace<W: Write>(
     writer: &mut W,
 ) -> Result<u8, WriteFault>
     requires { length trace.now ≤ SCENARIO_LIMIT }
+    ensures ok { IfOk result (Reports (DeviceReport (device_view device.old) (lines_of trace.now)) (W.contents writer.old) (W.contents writer.new)) }
+    ensures err { OnErr result (ReportsPart (DeviceReport (device_view device.old) (lines_of trace.now)) (W.contents writer.old) (W.contents writer.new)) }
 {
     let mut outbox = Outbox::new(alloc);
     match outbox.put(writer, b"loaded\n") {
@@ -80,18 +87,63 @@ fn replay_trace<W: Write>(
     }
 }
 
+/// Writes the line of a refused load.
+fn write_refusal<W: Write>(
+    alloc: Global,
+    fault: LoadFault,
+    writer: &mut W,
+) -> Result<u8, WriteFault>
+    ensures ok { IfOk result (Reports (MayRefuse fault) (W.contents writer.old) (W.contents writer.new)) }
+    ensures err { OnErr result (ReportsPart (MayRefuse fault) (W.contents writer.old) (W.contents writer.new)) }
+{
+    match refusal_text(alloc, fault) {
+        Ok(line) => match write_last(writer, line.as_bytes(), REFUSED) {
+            Ok(status) => Ok(status),
+            Err(fault) => Err(fault),
+        },
+        Err(_) => match write_last(writer, b"load refused memory\n", REFUSED) {
+            Ok(status) => Ok(status),
+            Err(fault) => Err(fault),
+        },
+    }
+}
+
+/// Loads the parts of a scenario, and replays the trace.
+fn replay_parts<W: Write>(
+    alloc: Global,
+    scenario: Scenario<'_>,
+    writer: &mut W,
+) -> Result<u8, WriteFault>
+    requires { length scenario.trace.now ≤ SCENARIO_LIMIT }
+    ensures ok { IfOk result (Reports (LoadsReport (scenario_view scenario.entry)) (W.contents writer.old) (W.contents writer.new)) }
+    ensures err { OnErr result (ReportsPart (LoadsReport (scenario_view scenario.entry)) (W.contents writer.old) (W.contents writer.new)) }
+{
+    match load_octets(alloc, scenario.bay, scenario.logic) {
+        Ok(mut device) => match replay_trace(alloc, &mut device, scenario.trace, writer) {
+            Ok(status) => Ok(status),
+            Err(fault) => Err(fault),
+        },
+        Err(fault) => match write_refusal(alloc, fault, writer) {
+            Ok(status) => Ok(status),
+            Err(fault) => Err(fault),
+        },
+    }
+}
+
 /// Replays a scenario that is in memory.
 fn replay_scenario<W: Write>(alloc: Global, text: &[u8], writer: &mut W) -> Result<u8, WriteFault>
     requires { length text.now ≤ SCENARIO_LIMIT }
+    ensures ok { IfOk result (Reports (IsReport text.now) (W.contents writer.old) (W.contents writer.new)) }
+    ensures err { OnErr result (ReportsPart (IsReport text.now) (W.contents writer.old) (W.contents writer.new)) }
 {
-    let Some(scenario) = cut_scenario(text) else {
-        return write_last(writer, b"fault 120 line 0\n", FAULT);
-    };
-    match load_octets(alloc, scenario.bay, scenario.logic) {
-        Ok(mut device) => replay_trace(alloc, &mut device, scenario.trace, writer),
-        Err(fault) => match refusal_text(alloc, fault) {
-            Ok(line) => write_last(writer, line.as_bytes(), REFUSED),
-            Err(_) => write_last(writer, b"load refused memory\n", REFUSED),
+    match cut_scenario(text) {
+        Some(scenario) => match replay_parts(alloc, scenario, writer) {
+            Ok(status) => Ok(status),
+            Err(fault) => Err(fault),
+        },
+        None => match write_last(writer, b"fault 120 line 0\n", FAULT) {
+            Ok(status) => Ok(status),
+            Err(fault) => Err(fault),
         },
     }
 }
@@ -102,13 +154,29 @@ pub fn replay<R: Read, W: Write>(
     reader: &mut Watched<R>,
     writer: &mut W,
 ) -> Result<u8, WriteFault>
+    // What was written is a whole text of the report, and the status is the report's.
+    ensures ok { IfOk result (Reports (IsReplay (R.remaining reader.old.inner) reader.new.has_failed) (W.contents writer.old) (W.contents writer.new)) }
+    // At a failed write it is a front of such a text.
+    ensures err { OnErr result (ReportsPart (IsReplay (R.remaining reader.old.inner) reader.new.has_failed) (W.contents writer.old) (W.contents writer.new)) }
     ensures reads { reader.new.reads ≤ reader.old.reads + SCENARIO_LIMIT + 1 }
 {
     match read_all(alloc, reader) {
-        Ok(input) => replay_scenario(alloc, input.as_slice(), writer),
-        Err(ReadFault::OutOfMemory) => write_last(writer, b"fault memory\n", FAULT),
-        Err(ReadFault::TooLong) => write_last(writer, b"fault 121\n", FAULT),
-        Err(ReadFault::Failed) => write_last(writer, b"fault 121\n", FAULT),
+        Ok(input) => match replay_scenario(alloc, input.as_slice(), writer) {
+            Ok(status) => Ok(status),
+            Err(fault) => Err(fault),
+        },
+        Err(ReadFault::OutOfMemory) => match write_last(writer, b"fault memory\n", FAULT) {
+            Ok(status) => Ok(status),
+            Err(fault) => Err(fault),
+        },
+        Err(ReadFault::TooLong) => match write_last(writer, b"fault 121\n", FAULT) {
+            Ok(status) => Ok(status),
+            Err(fault) => Err(fault),
+        },
+        Err(ReadFault::Failed) => match write_last(writer, b"fault 121\n", FAULT) {
+            Ok(status) => Ok(status),
+            Err(fault) => Err(fault),
+        },
     }
 }
 
@@ -120,7 +188,14 @@ pub fn replay_run<R: Read + Drop, W: Write + Drop>(
     alloc: Global,
     reader: &mut R,
     writer: &mut W,
-) -> Result<u8, WriteFault> {
+) -> Result<u8, WriteFault>
+    // Of a plain reader it is not known whether a read has failed.
+    ensures ok { IfOk result (Reports (IsReplay (R.remaining reader.old) true) (W.contents writer.old) (W.contents writer.new)) }
+    ensures err { OnErr result (ReportsPart (IsReplay (R.remaining reader.old) true) (W.contents writer.old) (W.contents writer.new)) }
+{
     let mut watched = Watched::new(reader);
-    replay(alloc, &mut watched, writer)
+    match replay(alloc, &mut watched, writer) {
+        Ok(status) => Ok(status),
+        Err(fault) => Err(fault),
+    }
 }

@@ -1,11 +1,17 @@
 // What is printed for a load and for each line of the trace.
-ghost use Rattle.std.specs.Prelude.{◌≡◌, ◌++◌, codes, IfOk, string_bytes};
+ghost use Rattle.std.specs.Prelude.{◌≡◌, ◌<◌, ◌++◌, ◌∷◌, codes, length, position, unwrap_or, IfOk, OnOk, string_bytes, option_map, true, false};
 ghost use Rattle.std.specs.Fmt.{decimal};
-ghost use Rattle.bay_main.specs.Report.{numbered_refusal, refusal_of};
+ghost use Rattle.bay_main.specs.Device.{answer_of, stepped};
+ghost use Rattle.bay_main.specs.DeviceView.{device_view};
+ghost use Rattle.bay_main.specs.Report.{numbered_refusal, refusal_of, digit_of, switch_text, enabled, switches_text, scan_text, refused_text, step_text, switch_place, unreadable_text, line_answer};
+ghost use Rattle.bay_main.specs.Trace.{trace_line_of};
+ghost use Rattle.bay_main.specs.declared.device.Event.TheVariants.{Contact};
+ghost use Rattle.bay_main.specs.TraceView.{line_view};
 
-use crate::device::{Device, Event};
-use crate::fault::LoadFault;
+use crate::device::{Device, Event, Step};
+use crate::fault::{LoadFault, StepFault};
 use crate::trace::{TraceLine, read_trace_line};
+use bay_tree::leaf::Dbpos;
 use std::alloc::{AllocError, Global};
 
 /// What is printed for a line of the trace, and whether the replay ends there.
@@ -50,44 +56,66 @@ pub fn refusal_text(alloc: Global, fault: LoadFault) -> Result<String, AllocErro
 }
 
 /// A truth value as a digit.
-fn digit(value: bool) -> char {
-    if value { '1' } else { '0' }
+fn digit(value: bool) -> &'static str
+    ensures { result.now ≡ digit_of value }
+{
+    if value { "1" } else { "0" }
 }
 
-/// The part of a scan's line on one switch: its id, and whether it may be opened and closed.
-fn push_switch(text: &mut String, device: &Device, switch: usize) -> Result<(), AllocError> {
-    if let (Some(id), Some((open, close))) = (device.id(switch), device.ena(switch)) {
-        text.push(' ')?;
-        text.push_str(id)?;
-        text.push('=')?;
-        text.push(digit(open))?;
-        text.push(digit(close))?;
+/// Adds the part of a scan's line on one switch: its id, and whether it may be opened and closed.
+fn push_switch(text: &mut String, id: &str, opens: bool, closes: bool) -> Result<(), AllocError>
+    ensures { OnOk result (string_bytes text.new ≡ string_bytes text.old ++ switch_text id.now opens closes) }
+{
+    text.push_str(" ")?;
+    text.push_str(id)?;
+    text.push_str("=")?;
+    text.push_str(digit(opens))?;
+    text.push_str(digit(closes))?;
+    Ok(())
+}
+
+/// Adds the parts of a scan's line on the switches.
+fn push_switches(text: &mut String, device: &Device) -> Result<(), AllocError>
+    ensures { OnOk result (string_bytes text.new ≡ string_bytes text.old ++ switches_text (device_view device.now) 0 device.now.switches) }
+{
+    let switches = device.switches.as_slice();
+    for k in 0..switches.len() {
+        let opens = device.may_open(k);
+        let closes = device.may_close(k);
+        push_switch(text, switches[k].id.as_str(), opens, closes)?;
     }
     Ok(())
 }
 
 /// The line of a scan.
-fn scan_text(alloc: Global, device: &Device, moment: u64) -> Result<String, AllocError> {
+fn scan_text(alloc: Global, device: &Device, moment: u64) -> Result<String, AllocError>
+    ensures { IfOk result (λ text. string_bytes text ≡ scan_text moment (device_view device.now)) }
+{
     let mut text = format!(in alloc; "{moment} scan")?;
-    for switch in 0..device.switch_count() {
-        push_switch(&mut text, device, switch)?;
-    }
-    text.push('\n')?;
+    push_switches(&mut text, device)?;
+    text.push_str("\n")?;
     Ok(text)
 }
 
-/// Does an event, and answers what is printed for it.
-fn event_text(
+/// The line of a refused event.
+fn refused_text(alloc: Global, moment: u64, fault: StepFault) -> Result<String, AllocError>
+    ensures { IfOk result (λ text. string_bytes text ≡ refused_text moment fault) }
+{
+    let code = fault.code();
+    format!(in alloc; "{moment} refused {code}\n")
+}
+
+/// What is printed for an event, by its answer and the device after it.
+fn step_text(
     alloc: Global,
-    device: &mut Device,
+    device: &Device,
     moment: u64,
-    event: Event,
-) -> Result<String, AllocError> {
-    match device.step(moment, event) {
-        Err(fault) => {
-            let code = fault.code();
-            format!(in alloc; "{moment} refused {code}\n")
-        }
+    answer: Result<Step, StepFault>,
+) -> Result<String, AllocError>
+    ensures { IfOk result (λ text. string_bytes text ≡ step_text moment answer (device_view device.now)) }
+{
+    match answer {
+        Err(fault) => refused_text(alloc, moment, fault),
         Ok(step) => {
             if step.scanned {
                 scan_text(alloc, device, moment)
@@ -98,24 +126,75 @@ fn event_text(
     }
 }
 
+/// Does an event, and answers what is printed for it.
+fn event_text(
+    alloc: Global,
+    device: &mut Device,
+    moment: u64,
+    event: Event,
+) -> Result<String, AllocError>
+    ensures text { IfOk result (λ text. string_bytes text ≡ step_text moment (answer_of moment event (device_view device.old)) (stepped moment event (device_view device.old))) }
+    ensures device { device_view device.new ≡ stepped moment event (device_view device.old) }
+{
+    let answer = device.step(moment, event);
+    step_text(alloc, device, moment, answer)
+}
+
 /// The event of a contact line; a switch that isn't there is told apart by its place.
-fn contact_event(device: &Device, id: &str, position: bay_tree::leaf::Dbpos) -> Event {
-    let switch = match device.switch(id) {
-        Some(switch) => switch,
-        None => device.switch_count(),
-    };
+fn contact_event(device: &Device, id: &str, position: Dbpos) -> Event
+    ensures { result ≡ Contact (switch_place (device_view device.now) id.now) position }
+{
+    let switch = device.switch(id).unwrap_or(device.switch_count());
     Event::Contact { switch, position }
 }
 
-/// Does what the line with this number says, and answers what is printed for it.
-pub fn answer_line(
+/// The answer to an event's line, which is never the last.
+fn event_answer(
+    alloc: Global,
+    device: &mut Device,
+    moment: u64,
+    event: Event,
+) -> Result<Answer, AllocError>
+    ensures text { IfOk result (λ a. string_bytes a.text ≡ step_text moment (answer_of moment event (device_view device.old)) (stepped moment event (device_view device.old))) }
+    ensures last { IfOk result (λ a. a.is_last ≡ false) }
+    ensures device { device_view device.new ≡ stepped moment event (device_view device.old) }
+{
+    let text = event_text(alloc, device, moment, event)?;
+    Ok(Answer {
+        text,
+        is_last: false,
+    })
+}
+
+/// The answer to a line that can't be read, which ends the replay.
+fn unreadable(alloc: Global, number: usize) -> Result<Answer, AllocError>
+    ensures text { IfOk result (λ a. string_bytes a.text ≡ unreadable_text number) }
+    ensures last { IfOk result (λ a. a.is_last ≡ true) }
+{
+    let text = format!(in alloc; "fault 120 line {number}\n")?;
+    Ok(Answer {
+        text,
+        is_last: true,
+    })
+}
+
+/// Does what a line says, and answers what is printed for it.
+fn answer_to(
     alloc: Global,
     device: &mut Device,
     number: usize,
-    line: &[u8],
-) -> Result<Answer, AllocError> {
-    let text = match read_trace_line(line) {
-        Some(TraceLine::Blank) => String::new(alloc),
+    line: Option<TraceLine<'_>>,
+) -> Result<Answer, AllocError>
+    ensures text { IfOk result (λ a. string_bytes a.text ≡ (line_answer number (option_map line_view line.entry) (device_view device.old)).text) }
+    ensures last { IfOk result (λ a. a.is_last ≡ (line_answer number (option_map line_view line.entry) (device_view device.old)).is_last) }
+    ensures device { OnOk result (device_view device.new ≡ (line_answer number (option_map line_view line.entry) (device_view device.old)).after) }
+{
+    match line {
+        None => unreadable(alloc, number),
+        Some(TraceLine::Blank) => Ok(Answer {
+            text: String::new(alloc),
+            is_last: false,
+        }),
         Some(
             TraceLine::Contact {
                 moment,
@@ -124,19 +203,23 @@ pub fn answer_line(
             },
         ) => {
             let event = contact_event(device, id, position);
-            event_text(alloc, device, moment, event)?
+            event_answer(alloc, device, moment, event)
         }
-        Some(TraceLine::Scan { moment }) => event_text(alloc, device, moment, Event::Scan)?,
-        None => {
-            let text = format!(in alloc; "fault 120 line {number}\n")?;
-            return Ok(Answer {
-                text,
-                is_last: true,
-            });
-        }
-    };
-    Ok(Answer {
-        text,
-        is_last: false,
-    })
+        Some(TraceLine::Scan { moment }) => event_answer(alloc, device, moment, Event::Scan),
+    }
+}
+
+/// Does what the line with this number says, and answers what is printed for it.
+pub fn answer_line(
+    alloc: Global,
+    device: &mut Device,
+    number: usize,
+    line: &[u8],
+) -> Result<Answer, AllocError>
+    ensures text { IfOk result (λ a. string_bytes a.text ≡ (line_answer number (trace_line_of line.now) (device_view device.old)).text) }
+    ensures last { IfOk result (λ a. a.is_last ≡ (line_answer number (trace_line_of line.now) (device_view device.old)).is_last) }
+    ensures device { OnOk result (device_view device.new ≡ (line_answer number (trace_line_of line.now) (device_view device.old)).after) }
+{
+    let said = read_trace_line(line);
+    answer_to(alloc, device, number, said)
 }

@@ -3,8 +3,10 @@ ghost use Rattle.std.specs.Prelude.{◌≡◌, Some};
 ghost use Rattle.bay_tree.specs.declared.leaf.Kind.TheVariants as kind;
 ghost use Rattle.bay_tree.specs.declared.leaf.Leaf.TheVariants as leaves;
 ghost use Rattle.bay_tree.specs.Kinds.{kind_of};
-ghost use Rattle.bay_tree.specs.Rows.{kinds_of, leaf_at, with_leaf};
-ghost use Rattle.bay_main.specs.Kinds.{HasKind};
+ghost use Rattle.bay_tree.specs.Rows.{kinds_of, names_of, leaf_at, with_leaf};
+ghost use Rattle.bay_main.specs.Device.{same_position, same_quality, is_position, is_quality, is_truth};
+ghost use Rattle.bay_main.specs.Kinds.{HasKind, AreStatusRows};
+ghost use Rattle.bay_main.specs.Places.{status_put};
 
 use bay_tree::leaf::{Dbpos, Leaf, Quality};
 use bay_tree::tree::{Handle, Tree};
@@ -35,6 +37,7 @@ pub fn put(tree: &mut Tree, handle: Handle, leaf: Leaf)
     requires { HasKind (kinds_of tree.old) handle (kind_of leaf) }
     ensures rows { tree.new ≡ with_leaf tree.old handle leaf }
     ensures kinds { kinds_of tree.new ≡ kinds_of tree.old }
+    ensures names { names_of tree.new ≡ names_of tree.old }
 {
     match tree.set(handle, leaf) {
         Ok(()) => {}
@@ -42,7 +45,31 @@ pub fn put(tree: &mut Tree, handle: Handle, leaf: Leaf)
     }
 }
 
-pub fn position_at(tree: &Tree, handle: Handle) -> Dbpos
+/// Writes a value, its quality and its moment.
+pub fn put_status(tree: &mut Tree, rows: StatusRows, value: Leaf, quality: Quality, now: u64)
+    requires { AreStatusRows (kinds_of tree.old) (kind_of value) rows }
+    ensures rows { tree.new ≡ status_put rows value quality now tree.old }
+    ensures kinds { kinds_of tree.new ≡ kinds_of tree.old }
+    ensures names { names_of tree.new ≡ names_of tree.old }
+{
+    put(tree, rows.value, value);
+    put(tree, rows.quality, Leaf::Quality(quality));
+    put(tree, rows.time, Leaf::Utc(now));
+}
+
+fn same_position(first: Dbpos, second: Dbpos) -> bool
+    ensures { result ≡ same_position first second }
+{
+    first == second
+}
+
+fn same_quality(first: Quality, second: Quality) -> bool
+    ensures { result ≡ same_quality first second }
+{
+    first == second
+}
+
+fn position_at(tree: &Tree, handle: Handle) -> Dbpos
     requires { HasKind (kinds_of tree.now) handle kind.Dbpos }
     ensures { leaf_at tree.now handle ≡ Some (leaves.Dbpos result) }
 {
@@ -52,7 +79,7 @@ pub fn position_at(tree: &Tree, handle: Handle) -> Dbpos
     }
 }
 
-pub fn quality_at(tree: &Tree, handle: Handle) -> Quality
+fn quality_at(tree: &Tree, handle: Handle) -> Quality
     requires { HasKind (kinds_of tree.now) handle kind.Quality }
     ensures { leaf_at tree.now handle ≡ Some (leaves.Quality result) }
 {
@@ -62,7 +89,7 @@ pub fn quality_at(tree: &Tree, handle: Handle) -> Quality
     }
 }
 
-pub fn truth_at(tree: &Tree, handle: Handle) -> bool
+fn truth_at(tree: &Tree, handle: Handle) -> bool
     requires { HasKind (kinds_of tree.now) handle kind.Truth }
     ensures { leaf_at tree.now handle ≡ Some (leaves.Truth result) }
 {
@@ -80,4 +107,28 @@ pub fn count_at(tree: &Tree, handle: Handle) -> i32
         Some(Leaf::Int32(count)) => *count,
         _ => unreachable!(),
     }
+}
+
+/// Whether a position stands there.
+pub fn is_position(tree: &Tree, handle: Handle, position: Dbpos) -> bool
+    requires { HasKind (kinds_of tree.now) handle kind.Dbpos }
+    ensures { result ≡ is_position position (leaf_at tree.now handle) }
+{
+    same_position(position, position_at(tree, handle))
+}
+
+/// Whether a quality stands there.
+pub fn is_quality(tree: &Tree, handle: Handle, quality: Quality) -> bool
+    requires { HasKind (kinds_of tree.now) handle kind.Quality }
+    ensures { result ≡ is_quality quality (leaf_at tree.now handle) }
+{
+    same_quality(quality, quality_at(tree, handle))
+}
+
+/// Whether a truth value stands there.
+pub fn is_truth(tree: &Tree, handle: Handle, value: bool) -> bool
+    requires { HasKind (kinds_of tree.now) handle kind.Truth }
+    ensures { result ≡ is_truth value (leaf_at tree.now handle) }
+{
+    truth_at(tree, handle) == value
 }

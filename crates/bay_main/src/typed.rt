@@ -1,8 +1,12 @@
 // A checked program: each name is resolved to a slot, which holds its value.
 ghost use Rattle.std.specs.Prelude.{◌≡◌, ℕ, ◌<◌, List, length, vec_len, All, Some, None, option_map, slice_get};
 ghost use Rattle.il_text.specs.Meaning.{truth, applied, acted, mean};
-ghost use Rattle.bay_main.specs.Slots.{AreApart, IsSourceWithin, IsWithin, source_value, action_named, items_named, variables_of};
+ghost use Rattle.bay_main.specs.Places.{outputs_from};
+ghost use Rattle.bay_main.specs.Slots.{source_value, variables_of};
+ghost use Rattle.il_check.specs.Slots.{AreApart, IsSourceWithin, IsWithin, action_named, items_named};
 
+use bay_tree::list::Text;
+use il_check::typed::{Source, TypedInstruction};
 use il_text::program::Operator;
 
 /// The points of a switch (IEC 61850-7-4, XCBR, XSWI and CILO).
@@ -23,8 +27,8 @@ pub enum SwitchPoint {
 /// Where a slot's value comes from, and where it goes.
 #[derive(Clone, Copy, Debug, PartialEq, Eq)]
 pub enum Slot {
-    /// A variable of the program, with its initial value.
-    Local { initial: bool },
+    /// A variable of the program.
+    Local,
     /// A point of the switch at this place, counted from 0.
     Point { switch: usize, point: SwitchPoint },
 }
@@ -32,36 +36,25 @@ pub enum Slot {
 /// The slots of a switch's interlocking values, where the program names them.
 #[derive(Clone, Copy, Debug, PartialEq, Eq)]
 pub struct SwitchOutputs {
-    pub open: Option<usize>,
-    pub close: Option<usize>,
-}
-
-/// What an instruction reads.
-#[derive(Clone, Copy, Debug, PartialEq, Eq)]
-pub enum Source {
-    Literal(bool),
-    Slot(usize),
-}
-
-/// An instruction on slots (IEC 61131-3:2003, table 52).
-#[derive(Clone, Copy, Debug, PartialEq, Eq)]
-pub enum TypedInstruction {
-    /// The source becomes the current result.
-    Load { negated: bool, source: Source },
-    /// The current result is stored.
-    Store { slot: usize },
-    /// The current result is combined with the source.
-    Combine { operator: Operator, source: Source },
+    /// Whether the switch may be opened.
+    pub ena_opn: Option<usize>,
+    /// Whether the switch may be closed.
+    pub ena_cls: Option<usize>,
 }
 
 /// A checked program, whose instructions name its slots alone.
 #[derive(Drop)]
 pub struct TypedProgram {
+    /// The name of each slot, in upper case.
+    pub names: Vec<Text>,
     pub slots: Vec<Slot>,
     pub instructions: Vec<TypedInstruction>,
     /// The slots that the interlocking values take, switch by switch.
     pub outputs: Vec<SwitchOutputs>,
+    ghost apart: { AreApart names.items },
+    ghost sized: { vec_len names ≡ vec_len slots },
     ghost within: { All (IsWithin (vec_len slots)) instructions.items },
+    ghost outputs_are: { outputs.items ≡ outputs_from slots.items 0 (vec_len outputs) },
 }
 
 /// The value of a slot.

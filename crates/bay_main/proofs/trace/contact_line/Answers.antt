@@ -1,4 +1,4 @@
-use Rattle.std.proofs.Common.{sym, ap, ◌∙◌}
+use Rattle.std.proofs.Common.{sym}
 use Rattle.bay_main.proofs.WordLemmas.{contact_of-extra}
 use Rattle.bay_main.proofs.trace.contact_line.Goals as goal
 

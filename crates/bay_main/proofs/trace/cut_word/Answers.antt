@@ -1,5 +1,4 @@
-use Rattle.std.proofs.Common.{lit<, sym, ap, ◌∙◌, ◌∷◌}
-use Rattle.std.specs.List.{slice_split}
+use Rattle.std.proofs.Common.{lit<}
 use Rattle.std.proofs.lemmas.List.Splits.{slice_split_first}
 use Rattle.std.proofs.lemmas.Str.Pattern.{split_parts, split_once_first}
 use Rattle.bay_main.specs.Trace.{is_space}

@@ -1,6 +1,6 @@
 use Rattle.std.proofs.Common.{◌≡◌, ℕ, List, length, drop, None}
 use Rattle.il_text.specs.Meaning.{mean_from}
-use Rattle.bay_main.specs.Slots.{AreApart, items_named}
+use Rattle.il_check.specs.Slots.{AreApart, items_named}
 use Rattle.bay_main.proofs.SlotLemmas.{at_slots}
 use Rattle.bay_main.proofs.typed.run_instructions.Given as goal
 

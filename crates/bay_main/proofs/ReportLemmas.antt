@@ -1,0 +1,139 @@
+-- How far a report has come.
+use Rattle.std.proofs.Common.{◌≡◌, ℕ, suc, ◌+◌, ◌<◌, Bool, true, false, List, [], ◌∷◌, ◌++◌, length, map, drop, get_or, codes, Option, subst, refl, ap, sym, ◌∙◌, arith, add-one, append-nil, append_assoc, inl, inr, MatchBool}
+use Rattle.std.proofs.Math.Seq.{drop-cons}
+use Rattle.std.specs.Io.KnownBytes.{Appends}
+use Rattle.bay_config.specs.declared.bay.Switch.{Switch}
+use Rattle.bay_main.specs.Device.{State}
+use Rattle.bay_main.specs.Report.{switch_text, enabled, switches_text, LineAnswer, line_answer, TraceReport, DeviceReport, Reports, ReportsPart}
+use Rattle.bay_main.specs.Scenario.{content, lines_of, CutsLine}
+use Rattle.bay_main.specs.Sent.{Sends, SendsPart}
+use Rattle.bay_main.specs.Trace.{trace_line_of}
+use Rattle.bay_main.proofs.SentLemmas.{Sends-more, SendsPart-of_more, SendsPart-more, Sends-trans}
+
+-- one switch more is told
+pub switches-turn : (s : State) (k : ℕ) (switches : List Switch) (switch : Switch) (old all : List ℕ) → k < length switches → switch ≡ get_or switches k switch → all ≡ old ++ switches_text s k (drop k switches)
+    → all ≡ (old ++ switch_text switch.id (enabled s k (codes "$ST$EnaOpn")) (enabled s k (codes "$ST$EnaCls"))) ++ switches_text s (k + 1) (drop (k + 1) switches)
+switches-turn s k switches switch old all lt is e =
+    let next : drop k switches ≡ switch ∷ drop (k + 1) switches = rw (add-one, drop-cons switches k switch) (ap (λ x. x ∷ drop (suc k) switches) (sym is)) in
+    e ∙ ap (λ ss. old ++ switches_text s k ss) next ∙ sym (append_assoc old _ _)
+
+-- what was printed so far, and what may follow it
+pub record Progress (May : List ℕ → ℕ → Type 0) (s : State) (k : ℕ) (rest : List (List ℕ)) (old new : Option (List ℕ)) (pending : List ℕ) : Type 0 where
+  pub printed : List ℕ
+  pub continues : (text : List ℕ) (status : ℕ) → TraceReport s k rest text status → May (printed ++ text) status
+  pub sent : Sends old new printed pending
+
+pub Progress-start : (s : State) (lines : List (List ℕ)) (old new : Option (List ℕ)) (last : List ℕ) → Sends old new (codes "loaded\n") last → Progress (DeviceReport s lines) s 1 lines old new last
+Progress-start s lines old new last sent = record { printed = codes "loaded\n"; continues = λ text status told. (text, refl, told); sent = sent }
+
+ran : (s : State) (k : ℕ) (rest : List (List ℕ)) → TraceReport s k rest (codes "fault memory\n") 3
+ran s k [] = inr (refl, refl)
+ran s k (line ∷ rest) = inr (refl, refl)
+
+module _ (May : List ℕ → ℕ → Type 0) (s : State) (k : ℕ) (rest : List (List ℕ)) (old mid new : Option (List ℕ)) (pending : List ℕ) where
+  -- a last text ends the report
+  Progress-last : (text : List ℕ) (status : ℕ) → Progress May s k rest old mid pending → TraceReport s k rest text status → Appends mid new (pending ++ text) → Reports May old new status
+  Progress-last text status p told w =
+      record { text = p.printed ++ text; told = p.continues text status told; appended = Sends-more old mid new p.printed pending text p.sent w }
+
+  Progress-cut : (text : List ℕ) (status : ℕ) → Progress May s k rest old mid pending → TraceReport s k rest text status → SendsPart mid new (pending ++ text) → ReportsPart May old new
+  Progress-cut text status p told w =
+      record { text = p.printed ++ text; status = status; told = p.continues text status told; part = SendsPart-of_more old mid new p.printed pending text p.sent w }
+
+  pub Progress-memory : Progress May s k rest old mid pending → Appends mid new (pending ++ codes "fault memory\n") → Reports May old new 3
+  Progress-memory p w = Progress-last (codes "fault memory\n") 3 p (ran s k rest) w
+
+  pub Progress-memory_cut : Progress May s k rest old mid pending → SendsPart mid new (pending ++ codes "fault memory\n") → ReportsPart May old new
+  Progress-memory_cut p w = Progress-cut (codes "fault memory\n") 3 p (ran s k rest) w
+
+-- the end of the trace
+pub Progress-end : (May : List ℕ → ℕ → Type 0) (s : State) (k : ℕ) (rest : List (List ℕ)) (old mid new : Option (List ℕ)) (pending : List ℕ) → Progress May s k rest old mid pending → rest ≡ [] → Appends mid new pending → Reports May old new 0
+Progress-end May s k rest old mid new pending p e w =
+    Progress-last May s k rest old mid new pending [] 0 p (subst (λ r. TraceReport s k r [] 0) (sym e) (inl (refl, refl))) (subst (Appends mid new) (sym (append-nil pending)) w)
+
+pub Progress-end_cut : (May : List ℕ → ℕ → Type 0) (s : State) (k : ℕ) (rest : List (List ℕ)) (old mid new : Option (List ℕ)) (pending : List ℕ) → Progress May s k rest old mid pending → rest ≡ [] → SendsPart mid new pending → ReportsPart May old new
+Progress-end_cut May s k rest old mid new pending p e w =
+    Progress-cut May s k rest old mid new pending [] 0 p (subst (λ r. TraceReport s k r [] 0) (sym e) (inl (refl, refl))) (subst (SendsPart mid new) (sym (append-nil pending)) w)
+
+-- a line
+module _ (May : List ℕ → ℕ → Type 0) (s : State) (k : ℕ) (line : List ℕ) (rest after : List (List ℕ)) (old mid new : Option (List ℕ)) (pending : List ℕ) (e : rest ≡ line ∷ after) where
+  abbrev said : LineAnswer
+  said = line_answer k (trace_line_of line) s
+
+  either_way : (b : Bool) (P Q : Type 0) → b ≡ true → P → MatchBool b P Q
+  either_way true P Q e p = p
+  either_way false P Q e p = absurd cc
+
+  other_way : (b : Bool) (P Q : Type 0) → b ≡ false → Q → MatchBool b P Q
+  other_way true P Q e q = absurd cc
+  other_way false P Q e q = q
+
+  here : Progress May s k rest old mid pending → Progress May s k (line ∷ after) old mid pending
+  here p = subst (λ r. Progress May s k r old mid pending) e p
+
+  pub Progress-step : (last : List ℕ) → Progress May s k rest old mid pending → said.is_last ≡ false → Sends mid new (pending ++ said.text) last → Progress May said.after (k + 1) after old new last
+  Progress-step last p more w =
+      let q = here p in
+      record {
+        printed = q.printed ++ said.text;
+        continues = λ text status told.
+            subst (λ t. May t status) (sym (append_assoc q.printed said.text text))
+            (q.continues (said.text ++ text) status (inl (other_way said.is_last _ _ more (text, refl, told))));
+        sent = Sends-trans old mid new q.printed pending said.text last q.sent w;
+      }
+
+  last_said : said.is_last ≡ true → TraceReport s k (line ∷ after) said.text 3
+  last_said is = inl (either_way said.is_last _ _ is (refl, refl))
+
+  pub Progress-fault : (last : List ℕ) (end : Option (List ℕ)) → Progress May s k rest old mid pending → said.is_last ≡ true → Sends mid new (pending ++ said.text) last → Appends new end last → Reports May old end 3
+  Progress-fault last end p is w f =
+      let q = here p in
+      record {
+        text = q.printed ++ said.text;
+        told = q.continues said.text 3 (last_said is);
+        appended = subst (Appends old end) (append-nil (q.printed ++ said.text)) (Sends-more old new end (q.printed ++ said.text) last [] (Sends-trans old mid new q.printed pending said.text last q.sent w) (subst (Appends new end) (sym (append-nil last)) f));
+      }
+
+  pub Progress-fault_cut : (last : List ℕ) (end : Option (List ℕ)) → Progress May s k rest old mid pending → said.is_last ≡ true → Sends mid new (pending ++ said.text) last → SendsPart new end last → ReportsPart May old end
+  Progress-fault_cut last end p is w f =
+      let q = here p in
+      record {
+        text = q.printed ++ said.text;
+        status = 3;
+        told = q.continues said.text 3 (last_said is);
+        part = subst (SendsPart old end) (append-nil (q.printed ++ said.text)) (SendsPart-of_more old new end (q.printed ++ said.text) last [] (Sends-trans old mid new q.printed pending said.text last q.sent w) (subst (SendsPart new end) (sym (append-nil last)) f));
+      }
+
+  -- a report that begins with the answer to the line
+  pub Progress-line_cut : Progress May s k rest old mid pending → SendsPart mid new (pending ++ said.text) → ReportsPart May old new
+  Progress-line_cut p w =
+      let q = here p in
+      by_last said.is_last refl q
+    where
+      by_last : (b : Bool) → said.is_last ≡ b → Progress May s k (line ∷ after) old mid pending → ReportsPart May old new
+      by_last true is q = record { text = q.printed ++ said.text; status = 3; told = q.continues said.text 3 (last_said is); part = SendsPart-of_more old mid new q.printed pending said.text q.sent w }
+      by_last false is q =
+          let more = codes "fault memory\n" in
+          record {
+            text = q.printed ++ (said.text ++ more);
+            status = 3;
+            told = q.continues (said.text ++ more) 3 (inl (other_way said.is_last _ _ is (more, refl, ran said.after (k + 1) after)));
+            part = SendsPart-more old new (q.printed ++ said.text) more (q.printed ++ (said.text ++ more)) (SendsPart-of_more old mid new q.printed pending said.text q.sent w) (sym (append_assoc q.printed said.text more));
+          }
+
+-- the first line of a text, and those of the rest
+pub lines-cut : (text line rest : List ℕ) → CutsLine text line rest → lines_of text ≡ line ∷ lines_of rest
+lines-cut text line rest c = ap (map content) c.first ∙ ap (λ l. l ∷ lines_of rest) (sym c.line_is)
+
+pub nil_from_length : (xs : List ℕ) → length xs ≡ 0 → xs ≡ []
+nil_from_length [] e = refl
+nil_from_length (x ∷ xs) e = absurd (omega arith)
+
+pub Progress-load_cut : (s : State) (lines : List (List ℕ)) (old new : Option (List ℕ)) (pending : List ℕ) → pending ≡ [] → SendsPart old new (pending ++ codes "loaded\n") → ReportsPart (DeviceReport s lines) old new
+Progress-load_cut s lines old new pending e w =
+    record {
+      text = codes "loaded\n" ++ codes "fault memory\n";
+      status = 3;
+      told = (codes "fault memory\n", refl, ran s 1 lines);
+      part = SendsPart-more old new (pending ++ codes "loaded\n") (codes "fault memory\n") _ w (ap (λ p. (p ++ codes "loaded\n") ++ codes "fault memory\n") (sym e));
+    }

@@ -1,0 +1,18 @@
+use Rattle.std.proofs.Common.{◌≡◌, Some, slice_get}
+use Rattle.bay_tree.specs.Rows.{names_of}
+use Rattle.bay_main.proofs.HandleLemmas.{at-index, length-snoc, named-snoc}
+use Rattle.bay_main.proofs.handles.all_switch_rows.Goals as goal
+
+pub switch_rows-requires : goal.switch_rows-requires
+switch_rows-requires c =
+    c.requires c.loop-i.i c.index-nodes-i.result (at-index c.args.nodes.now c.loop-i.i c.index-nodes-i.result c.loop-i-test.true c.index-nodes-i.is)
+
+pub loop-i-preserved : goal.loop-i-preserved
+loop-i-preserved c =
+    let rows = c.loop-i.rows.items in
+    let n = c.index-nodes-i.result in
+    let here : slice_get c.args.nodes.now c.loop-i.i ≡ Some n = at-index c.args.nodes.now c.loop-i.i n c.loop-i-test.true c.index-nodes-i.is in
+    rw c.in_ok-push.ensures.items record {
+      sized = length-snoc rows c.in_ok-one.one c.loop-i.i c.loop-i.invariant.sized;
+      named = named-snoc (names_of c.args.tree.now) c.args.nodes.now rows n c.in_ok-one.one c.loop-i.invariant.named (rw c.loop-i.invariant.sized here) c.in_ok-one.ensures;
+    }
