@@ -16,10 +16,9 @@ use Rattle.bay_config.specs.Laws.{IsBay, HasNode, HasPosition, HasEnable}
 use Rattle.bay_config.specs.declared.bay.Bay.{Bay}
 use Rattle.il_check.specs.Slots.{items_named}
 use Rattle.il_check.specs.WellTyped.{Checked}
-use Rattle.bay_main.specs.Bound.{slot_of, IsBound}
+use Rattle.bay_main.specs.Bound.{slot_of, IsBound, point_at, declared_at, device_at}
 use Rattle.bay_main.specs.Device.{Variable, node_of}
 use Rattle.bay_main.specs.DeviceView.{declared_of}
-use Rattle.bay_main.specs.Load.{point_at, declared_from, initial_device}
 use Rattle.bay_main.specs.Slots.{variables_of}
 use Rattle.bay_main.specs.declared.typed.TypedProgram.{TypedProgram}
 use Rattle.bay_main.specs.Kinds.{HasKind, AreStatusRows, AreSwitchRows}
@@ -213,17 +212,17 @@ loaded-kinds rows nodes places d has named same k e lt =
     switch-kinds rows w.0.position w.0.interlocking (get_or places k e) d (has k w.0 w.1) (named k w.0 (get_or places k e) w.1 (get-some places k e lt))
 
 -- a device before its first event
-declared-bound : (names : List (List ℕ)) (points : List (Option ℕ)) → declared_of names (map slot_of points) ≡ declared_from names points
+declared-bound : (names : List (List ℕ)) (points : List (Option ℕ)) → declared_of names (map slot_of points) ≡ declared_at names points
 declared-bound [] points = refl
 declared-bound (name ∷ names) [] = refl
 declared-bound (name ∷ names) (None ∷ points) = ap (λ (ds : List Variable). record { name = name; point = None } ∷ ds) (declared-bound names points)
 declared-bound (name ∷ names) (Some p ∷ points) = ap (λ (ds : List Variable). record { name = name; point = Some (point_at p) } ∷ ds) (declared-bound names points)
 
 pub loaded-view : (bay : Bay) (checked : Checked) (n : ℕ) (program : TypedProgram) (values : List Bool) (rows : List Row) → IsBound checked n program values → rows ≡ bay.rows
-    → record (initial_device bay checked) { declared = declared_of program.names.items program.slots.items; items = items_named program.names.items program.instructions.items; rows = rows; variables = variables_of program.names.items values } ≡ initial_device bay checked
+    → record (device_at bay checked) { declared = declared_of program.names.items program.slots.items; items = items_named program.names.items program.instructions.items; rows = rows; variables = variables_of program.names.items values } ≡ device_at bay checked
 loaded-view bay checked n program values rows b r =
-    let s = initial_device bay checked in
-    let declared : declared_of program.names.items program.slots.items ≡ declared_from checked.names checked.points =
+    let s = device_at bay checked in
+    let declared : declared_of program.names.items program.slots.items ≡ declared_at checked.names checked.points =
     ap (λ names. declared_of names program.slots.items) b.names ∙ ap (declared_of checked.names) b.slots ∙ declared-bound checked.names checked.points in
     let variables : variables_of program.names.items values ≡ variables_of checked.names checked.initial =
     ap (λ names. variables_of names values) b.names ∙ ap (variables_of checked.names) b.initial in

@@ -3,6 +3,7 @@ pub mod HandleLemmas
 pub mod KindLemmas
 pub mod NamedLemmas
 pub mod PieceLemmas
+pub mod PointLemmas
 pub mod ReadLemmas
 pub mod ReportLemmas
 pub mod SentLemmas

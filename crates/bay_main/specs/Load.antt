@@ -1,9 +1,10 @@
 -- The device that a bay file and a program load to, or why they are refused.
-use Rattle.std.specs.Prelude.{◌≡◌, ℕ, ◌/◌, ◌%◌, ◌==◌, ◌⊎◌, false, cond, List, [], ◌∷◌, Option, None, option_map, Result, Ok, Err}
+use Rattle.std.specs.Prelude.{◌≡◌, ℕ, ◌+◌, ◌⊎◌, false, cond, List, [], ◌∷◌, ◌++◌, codes, Option, None, Some, Result, Ok, Err}
 use Rattle.std.specs.Str.{is_utf8}
 use Rattle.bay_config.specs.Bay.{bay_of}
 use Rattle.bay_config.specs.Code as bay_code
 use Rattle.bay_config.specs.declared.bay.Bay.{Bay}
+use Rattle.bay_config.specs.declared.bay.Switch.{Switch}
 use Rattle.bay_config.specs.declared.fault.BayFault.{BayFault}
 use Rattle.bay_config.specs.declared.fault.BayFault.TheVariants as bay_fault
 use Rattle.il_check.specs.Code as check_code
@@ -12,6 +13,7 @@ use Rattle.il_check.specs.declared.fault.CheckFault.{CheckFault}
 use Rattle.il_check.specs.declared.fault.CheckFault.TheVariants as check_fault
 use Rattle.il_text.specs.Code as text_code
 use Rattle.il_text.specs.Listing.{Listing}
+use Rattle.il_text.specs.Names.{same_name}
 use Rattle.il_text.specs.Reading.{program_of}
 use Rattle.il_text.specs.declared.fault.TextFault.{TextFault}
 use Rattle.il_text.specs.declared.fault.TextFault.TheVariants as text_fault
@@ -22,25 +24,41 @@ use Rattle.bay_main.specs.declared.fault.LoadFault.TheVariants.{Refused, OutOfMe
 use Rattle.bay_main.specs.declared.typed.SwitchPoint.{SwitchPoint}
 use Rattle.bay_main.specs.declared.typed.SwitchPoint.TheVariants.{Position, Open, Closed, EnableOpen, EnableClose}
 
--- the points of a switch, in the order in which a bay lists them
-abbrev pub nth_point : ℕ → SwitchPoint
-nth_point n = cond (n == 0) Position (cond (n == 1) Open (cond (n == 2) Closed (cond (n == 3) EnableOpen EnableClose)))
+-- the point of a switch that a name stands for: the switch's id and what the point is called
+abbrev pub point_in : List ℕ → Switch → Option SwitchPoint
+point_in name s =
+    cond (same_name (s.id ++ codes "_POS") name) (Some Position)
+    (cond (same_name (s.id ++ codes "_OPEN") name) (Some Open)
+    (cond (same_name (s.id ++ codes "_CLOSED") name) (Some Closed)
+    (cond (same_name (s.id ++ codes "_ENA_OPN") name) (Some EnableOpen)
+    (cond (same_name (s.id ++ codes "_ENA_CLS") name) (Some EnableClose) None))))
 
--- the switch and its point at a place of a bay's points, which stand switch by switch
-abbrev pub point_at : ℕ → ℕ × SwitchPoint
-point_at place = (place / 5, nth_point (place % 5))
+abbrev pub found_or : ℕ → Option SwitchPoint → Option (ℕ × SwitchPoint) → Option (ℕ × SwitchPoint)
+found_or k None rest = rest
+found_or k (Some point) rest = Some (k, point)
+
+-- the first switch, of those from place k on, that has a point of the name, and the point
+abbrev pub stands_from : List ℕ → ℕ → List Switch → Option (ℕ × SwitchPoint)
+stands_from name k [] = None
+stands_from name k (s ∷ ss) = found_or k (point_in name s) (stands_from name (k + 1) ss)
+
+-- a variable stands for a point if it is external, and so one of the bay's points
+abbrev pub point_of_variable : List Switch → List ℕ → Option ℕ → Option (ℕ × SwitchPoint)
+point_of_variable switches name None = None
+point_of_variable switches name (Some place) = stands_from name 0 switches
 
 -- the variables of a checked program, and the points that they stand for
-abbrev pub declared_from : List (List ℕ) → List (Option ℕ) → List Variable
-declared_from [] points = []
-declared_from (name ∷ names) [] = []
-declared_from (name ∷ names) (p ∷ points) = record { name = name; point = option_map point_at p } ∷ declared_from names points
+abbrev pub declared_from : List Switch → List (List ℕ) → List (Option ℕ) → List Variable
+declared_from switches [] points = []
+declared_from switches (name ∷ names) [] = []
+declared_from switches (name ∷ names) (p ∷ points) =
+    record { name = name; point = point_of_variable switches name p } ∷ declared_from switches names points
 
 -- a device before its first event
 abbrev pub initial_device : Bay → Checked → State
 initial_device bay program = record {
   switches = bay.switches;
-  declared = declared_from program.names program.points;
+  declared = declared_from bay.switches program.names program.points;
   items = program.items;
   rows = bay.rows;
   variables = variables_of program.names program.initial;

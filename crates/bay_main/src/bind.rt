@@ -1,9 +1,8 @@
 // A checked program on the points of a bay's switches.
 ghost use Rattle.std.specs.Prelude.{◌≡◌, map, length, IfOk};
 ghost use Rattle.il_check.specs.TypedView.{typed_view};
-ghost use Rattle.bay_main.specs.Bound.{slot_of, IsBound};
+ghost use Rattle.bay_main.specs.Bound.{nth_point, slot_of, IsBound};
 ghost use Rattle.bay_main.specs.Device.{same_point, is_point};
-ghost use Rattle.bay_main.specs.Load.{nth_point, point_at};
 ghost use Rattle.bay_main.specs.Places.{point_of_slot, output_slot, outputs_at, outputs_from};
 
 use crate::typed::{Slot, SwitchOutputs, SwitchPoint, TypedProgram};

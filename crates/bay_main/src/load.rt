@@ -8,7 +8,8 @@ ghost use Rattle.il_text.specs.Reading.{program_of};
 ghost use Rattle.il_text.specs.Views.{listing_of};
 ghost use Rattle.il_text.specs.declared.fault.TextFault.TheVariants.{BadToken};
 ghost use Rattle.bay_main.specs.DeviceView.{device_view};
-ghost use Rattle.bay_main.specs.Load.{initial_device, of_checked, of_program, of_bay, text_of, load_of, Loads};
+ghost use Rattle.bay_main.specs.Bound.{device_at};
+ghost use Rattle.bay_main.specs.Load.{of_checked, of_program, of_bay, text_of, load_of, Loads};
 
 use crate::bind::bind;
 use crate::device::Device;
@@ -28,7 +29,7 @@ use std::alloc::{AllocError, Global};
 /// The device of a bay and a checked program, before its first event.
 fn device_of(alloc: Global, bay: Bay, typed: Typed) -> Result<Device, AllocError>
     requires { IsBay bay }
-    ensures { IfOk result (λ device. device_view device ≡ initial_device bay (typed_view typed)) }
+    ensures { IfOk result (λ device. device_view device ≡ device_at bay (typed_view typed)) }
 {
     let nodes = all_nodes(alloc, &bay)?;
     let (program, values) = bind(alloc, typed, nodes.len())?;
