@@ -1,9 +1,11 @@
 // Laws of the definitions. Each function does nothing, and its contract is the law.
-ghost use Rattle.std.specs.Prelude.{◌≡◌, ◌++◌, ◌∷◌, [], ◌↔◌, List, ℕ, Some, take, drop};
+ghost use Rattle.std.specs.Prelude.{◌≡◌, ◌++◌, ◌∷◌, [], ◌↔◌, List, ℕ, Some, Ok, drop};
 ghost use Rattle.bay_transport.specs.Frame.{Cut, IsCut, cut};
 ghost use Rattle.bay_transport.specs.Connect.{Parameter, spelled, parameters_of};
 ghost use Rattle.bay_transport.specs.Doings.{Doing, Left, Stream, run, and_then, doings, after};
 ghost use Rattle.bay_transport.specs.Feeding.{Completes};
+ghost use Rattle.bay_transport.specs.Shown.{Leaves};
+ghost use Rattle.bay_transport.specs.declared.transport.Fed.{Fed};
 
 /// A list of octets is whole frames followed by a rest that begins with no whole frame, in one way (RFC 1006 6).
 pub fn one_cutting()
@@ -21,8 +23,8 @@ pub fn any_cutting()
 
 /// The octets of a piece that a feeding did not take do the rest of the piece's doings, from what is left then.
 pub fn feeding_goes_on()
-    ensures doings { (s : Stream) (piece : List ℕ) (used : ℕ) (doing : Doing) → Completes s piece used doing → doings s piece ≡ doing ∷ doings (after s (take used piece)) (drop used piece) }
-    ensures after { (s : Stream) (piece : List ℕ) (used : ℕ) → after s piece ≡ after (after s (take used piece)) (drop used piece) }
+    ensures doings { (old new : Stream) (piece : List ℕ) (fed : Fed) (doing : Doing) → Leaves old piece (Ok fed) new → Completes old piece fed.used doing → doings old piece ≡ doing ∷ doings new (drop fed.used piece) }
+    ensures after { (old new : Stream) (piece : List ℕ) (fed : Fed) → Leaves old piece (Ok fed) new → after old piece ≡ after new (drop fed.used piece) }
 {}
 
 /// Octets are parameters in one way: just those that spell them (X.224 13.2.3).

@@ -1,14 +1,16 @@
 // The transport of MMS over TCP: the packets of RFC 1006 (TPKT) and the TPDUs of X.224 class 0, as a server needs them.
-// A `Transport` is fed the octets of one connection, in pieces of any size, and answers what each TPDU comes to.
+// A `Transport` is fed the octets of one connection, in pieces of any size, and answers what each TPDU comes to: the answer
+// to the request for a connection, a TSDU, or the end. It also wraps TSDUs that are to be sent. `transport` has all that
+// callers use, `fault` why octets are refused, and `laws` what holds of the definitions that the contracts cite.
 #![tactic(auto)]
 
-pub mod assembly;
+mod assembly;
 pub mod fault;
-pub mod frame;
+mod frame;
 pub mod laws;
-pub mod reader;
-pub mod request;
+mod reader;
+mod request;
 #[cfg(test)]
 mod tests;
 pub mod transport;
-pub mod wrap;
+mod wrap;

@@ -70,7 +70,8 @@ impl Transport {
     /// them again. Where nothing is completed all octets are taken. After an end no octet is taken, and the answer is
     /// `Ended` again.
     ///
-    /// Each octet that is refused is refused for good: later pieces are answered `Failed`, as they are after want of memory.
+    /// A refusal is for good: later pieces are answered `Failed`, as they are after want of memory. No more is kept than
+    /// 70,000 octets of an unfinished TSDU and an unfinished frame.
     pub fn feed(&mut self, piece: &[u8]) -> Result<Fed<'_>, TransportFault>
         // What is left is what the octets that were taken leave, or a stream that failed.
         ensures* after { sem 𝓛 (RestsAfter self.entry piece.now result) }
