@@ -1,5 +1,6 @@
 // A table of programs with their refusals, the limit of names, and one program on slots.
 use crate::check::check;
+use crate::fault::CheckFault;
 use crate::typed::{Source, TypedInstruction};
 use bay_config::bay::{Point, PointKind};
 use bay_tree::list::Text;
@@ -35,6 +36,7 @@ fn outcome(alloc: Global, text: &str) -> Result<(u8, usize), Fail> {
     let program = read_program(alloc, text)?;
     match check(alloc, &program, points.as_slice()) {
         Ok(_) => Ok((0, 0)),
+        Err(CheckFault::OutOfMemory) => Err(Fail::from(CheckFault::OutOfMemory)),
         Err(fault) => Ok((fault.code(), fault.line())),
     }
 }
