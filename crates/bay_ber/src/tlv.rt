@@ -153,7 +153,9 @@ fn tlv_at(octets: &[u8]) -> Result<Tlv<'_>, BerFault>
 }
 
 /// The value at the front of the octets (X.690 8.1), with slices of them as its content and the rest. Numbers of
-/// tags to 127 and lengths of one to five octets are read; the shortest form is not demanded.
+/// tags to 127 and lengths of one to five octets are read. This reads more than X.690 allows: a number below 31 may
+/// stand in a second tag octet too (8.1.2.2 and 8.1.2.4 have it in the first), and a length may have more octets than it
+/// needs, which 8.1.3.5 leaves to the sender.
 pub fn read_tlv(octets: &[u8]) -> Result<Tlv<'_>, BerFault>
     // What is read is spelled so at the front of the octets, and what is spelled so is read.
     ensures ok { IfOk result (λ tlv. Begins octets.now (reading_of tlv)) }

@@ -1,8 +1,8 @@
 // Rows of octets and what they come to, fed whole and in single octets.
 ghost use Rattle.std.specs.Prelude.{◌≤◌, length, IfOk, IfSome};
 
-use crate::fault::TransportFault;
-use crate::transport::{Fed, Got, Transport};
+use bay_transport::fault::TransportFault;
+use bay_transport::transport::{Fed, Got, Transport};
 use std::alloc::{AllocError, Global};
 use std::test::Fail;
 
@@ -108,13 +108,25 @@ const FIRST: [(&[u8], &[u8]); 15] = [
     (&[3, 0, 0, 7, 2, 0x70, 0], &[b'E']),
 ];
 
-const CODES: [(TransportFault, u8); 6] = [
-    (TransportFault::BadTpkt, 10),
-    (TransportFault::BadCotp, 11),
-    (TransportFault::ClassRefused, 12),
-    (TransportFault::TsduTooLong, 13),
-    (TransportFault::Failed, 14),
-    (TransportFault::OutOfMemory, 0),
+const MESSAGES: [(TransportFault, Option<u8>, &str); 6] = [
+    (TransportFault::BadTpkt, Some(10), "the octets are no TPKT"),
+    (
+        TransportFault::BadCotp,
+        Some(11),
+        "the TPDU is not spelled, or may not come now",
+    ),
+    (
+        TransportFault::ClassRefused,
+        Some(12),
+        "the class of the connection is not 0",
+    ),
+    (
+        TransportFault::TsduTooLong,
+        Some(13),
+        "the TSDU is too long",
+    ),
+    (TransportFault::Failed, Some(14), "the transport has failed"),
+    (TransportFault::OutOfMemory, None, "out of memory"),
 ];
 
 // Feeds once and writes down what is answered: how many octets were taken, or None where the connection is over.
@@ -146,7 +158,7 @@ fn turn(
         }
         Err(fault) => {
             log.push(b'F')?;
-            log.push(fault.code())?;
+            log.push(fault.code().unwrap_or(0))?;
             Ok(None)
         }
     }
@@ -187,10 +199,13 @@ fn append_data(out: &mut Vec<u8>, mark: u8, count: u16) -> Result<(), AllocError
 }
 
 #[test]
-fn codes(rt: HostRuntime) {
-    for (fault, code) in CODES.iter() {
+fn messages(rt: HostRuntime) -> Result<(), Fail> {
+    for (fault, code, message) in MESSAGES.iter() {
         assert_eq!(rt; fault.code(), *code);
+        let text = format!(in rt.alloc(); "{fault}")?;
+        assert_eq!(rt; text.as_str(), *message);
     }
+    Ok(())
 }
 
 #[test]
@@ -220,6 +235,39 @@ fn first_tpdus(rt: HostRuntime) -> Result<(), Fail> {
             let log = log_of(rt.alloc(), &mut transport, octets, size)?;
             assert!(rt; log.as_slice() == *doings, "{octets:?} in pieces of {size}");
         }
+    }
+    Ok(())
+}
+
+// A length indicator of 254 is answered, and 255, which is reserved, is refused.
+#[test]
+fn the_longest_request(rt: HostRuntime) -> Result<(), Fail> {
+    let answer: &[u8] = &[b'A', 3, 0, 0, 11, 6, 0xD0, 7, 8, 1, 2, 0];
+    for (indicator, doings) in [(254, answer), (255, [b'F', 11].as_slice())] {
+        let mut octets = Vec::from_slice(
+            rt.alloc(),
+            &[
+                3,
+                0,
+                1,
+                indicator - 251,
+                indicator,
+                0xE0,
+                0,
+                0,
+                7,
+                8,
+                0,
+                0xC5,
+                indicator - 8,
+            ],
+        )?;
+        for _ in 8..indicator {
+            octets.push(0)?;
+        }
+        let mut transport = Transport::new(rt.alloc(), 258);
+        let log = log_of(rt.alloc(), &mut transport, octets.as_slice(), 100)?;
+        assert!(rt; log.as_slice() == doings);
     }
     Ok(())
 }

@@ -1,27 +1,23 @@
 // Rows of octets and what they spell.
-use crate::content::{Bits, bits_of, bool_of, int_of};
-use crate::fault::BerFault;
-use crate::tlv::{Class, read_tlv};
-use crate::writer::Writer;
+use bay_ber::content::{Bits, bits_of, bool_of, int_of};
+use bay_ber::fault::BerFault;
+use bay_ber::tlv::{Class, read_tlv};
+use bay_ber::writer::Writer;
 use std::test::Fail;
 
-const FAULTS: [(&[u8], BerFault, u8); 12] = [
-    (
-        &[0x30, 0x84, 0xFF, 0xFF, 0xFF, 0xFF],
-        BerFault::Truncated,
-        1,
-    ),
-    (&[0x30, 0x80], BerFault::Indefinite, 2),
-    (&[0x30, 0x85, 0, 0, 0, 0, 0], BerFault::LengthTooLong, 3),
-    (&[0x3F, 0x81, 0x00], BerFault::TagTooLarge, 4),
-    (&[], BerFault::Truncated, 1),
-    (&[0x04], BerFault::Truncated, 1),
-    (&[0x1F], BerFault::Truncated, 1),
-    (&[0x1F, 0x7F], BerFault::Truncated, 1),
-    (&[0x04, 0x01], BerFault::Truncated, 1),
-    (&[0x04, 0x82, 0x00], BerFault::Truncated, 1),
-    (&[0x1F, 0x7F, 0x80], BerFault::Indefinite, 2),
-    (&[0x04, 0xFF], BerFault::LengthTooLong, 3),
+const FAULTS: [(&[u8], BerFault); 12] = [
+    (&[0x30, 0x84, 0xFF, 0xFF, 0xFF, 0xFF], BerFault::Truncated),
+    (&[0x30, 0x80], BerFault::Indefinite),
+    (&[0x30, 0x85, 0, 0, 0, 0, 0], BerFault::LengthTooLong),
+    (&[0x3F, 0x81, 0x00], BerFault::TagTooLarge),
+    (&[], BerFault::Truncated),
+    (&[0x04], BerFault::Truncated),
+    (&[0x1F], BerFault::Truncated),
+    (&[0x1F, 0x7F], BerFault::Truncated),
+    (&[0x04, 0x01], BerFault::Truncated),
+    (&[0x04, 0x82, 0x00], BerFault::Truncated),
+    (&[0x1F, 0x7F, 0x80], BerFault::Indefinite),
+    (&[0x04, 0xFF], BerFault::LengthTooLong),
 ];
 
 // An element with the content 05, and the octet 77 behind it.
@@ -149,13 +145,37 @@ const WRITTEN: [u8; 27] = [
     0x1A, 0x04, 0x42, 0x41, 0x59, 0x31, 0x89, 0x00, 0x85, 0x01, 0x02,
 ];
 
+const MESSAGES: [(BerFault, u8, &str); 5] = [
+    (BerFault::Truncated, 1, "the octets end too early"),
+    (BerFault::Indefinite, 2, "the indefinite length is not read"),
+    (BerFault::LengthTooLong, 3, "the length has too many octets"),
+    (
+        BerFault::TagTooLarge,
+        4,
+        "the number of the tag is too large",
+    ),
+    (
+        BerFault::BadContent,
+        5,
+        "the content spells no value of its type",
+    ),
+];
+
+#[test]
+fn messages(rt: HostRuntime) -> Result<(), Fail> {
+    for (fault, code, message) in MESSAGES.iter() {
+        assert_eq!(rt; fault.code(), *code);
+        let text = format!(in rt.alloc(); "{fault}")?;
+        assert_eq!(rt; text.as_str(), *message);
+    }
+    Ok(())
+}
+
 #[test]
 fn faults(rt: HostRuntime) {
-    for (octets, fault, code) in FAULTS.iter() {
+    for (octets, fault) in FAULTS.iter() {
         assert_eq!(rt; read_tlv(octets).err(), Some(*fault));
-        assert_eq!(rt; fault.code(), *code);
     }
-    assert_eq!(rt; BerFault::BadContent.code(), 5);
 }
 
 #[test]
