@@ -1,8 +1,10 @@
 // Rows of octets and what they spell.
 use bay_ber::content::{Bits, bits_of, bool_of, int_of};
 use bay_ber::fault::BerFault;
-use bay_ber::tlv::{Class, read_tlv};
-use bay_ber::writer::Writer;
+use bay_ber::tag::{Class, Tag};
+use bay_ber::tlv::read_tlv;
+use bay_ber::values::{Value, Values, whole_value};
+use bay_ber::writer::{Writer, element_length};
 use std::test::Fail;
 
 const FAULTS: [(&[u8], BerFault); 12] = [
@@ -182,9 +184,12 @@ fn faults(rt: HostRuntime) {
 fn tags(rt: HostRuntime) -> Result<(), Fail> {
     for (octets, class, constructed, number) in TAGS.iter() {
         let tlv = read_tlv(octets)?;
-        assert_eq!(rt; tlv.class, *class);
-        assert_eq!(rt; tlv.constructed, *constructed);
-        assert_eq!(rt; tlv.number, *number);
+        let tag = Tag {
+            class: *class,
+            constructed: *constructed,
+            number: *number,
+        };
+        assert_eq!(rt; tlv.tag, tag);
         assert_eq!(rt; tlv.content, [0x05].as_slice());
         assert_eq!(rt; tlv.rest, [0x77].as_slice());
     }
@@ -196,7 +201,7 @@ fn lengths(rt: HostRuntime) -> Result<(), Fail> {
     for (length, shortest, longest) in LENGTHS.iter() {
         let content = vec![in rt.alloc(); 0x2A_u8; *length as usize]?;
         let mut writer = Writer::new(rt.alloc());
-        writer.octets(0x04, content.as_slice())?;
+        writer.octets(Tag::universal(4), content.as_slice())?;
         let mut written = writer.finish();
         assert!(rt; written.as_slice().starts_with(shortest));
         let cut = written
@@ -223,7 +228,7 @@ fn integers(rt: HostRuntime) -> Result<(), Fail> {
     }
     for (value, octets) in WRITTEN_INTEGERS.iter() {
         let mut writer = Writer::new(rt.alloc());
-        writer.int(0x02, *value)?;
+        writer.int(Tag::universal(2), *value)?;
         assert!(rt; writer.finish().as_slice() == *octets);
     }
     Ok(())
@@ -246,29 +251,71 @@ fn truth_values_and_bits(rt: HostRuntime) {
 #[test]
 fn written_values(rt: HostRuntime) -> Result<(), Fail> {
     let mut inner = Writer::new(rt.alloc());
-    inner.boolean(0x83, true)?;
-    inner.boolean(0x83, false)?;
+    inner.boolean(Tag::context(3), true)?;
+    inner.boolean(Tag::context(3), false)?;
     inner.bits(
-        0x84,
+        Tag::context(4),
         Bits {
             octets: &[0xFF],
             count: 2,
         },
     )?;
     inner.bits(
-        0x84,
+        Tag::context(4),
         Bits {
             octets: &[0xAB, 0xCD],
             count: 8,
         },
     )?;
-    inner.text(0x1A, "BAY1")?;
-    inner.octets(0x89, &[])?;
+    inner.text(Tag::universal(26), "BAY1")?;
+    inner.octets(Tag::context(9), &[])?;
     let nested = inner.finish();
     assert_eq!(rt; nested.len(), 22);
     let mut writer = Writer::new(rt.alloc());
-    writer.nest(0xA2, nested.as_slice())?;
-    writer.int(0x85, 2)?;
+    writer.nest(Tag::context_constructed(2), nested.as_slice())?;
+    writer.int(Tag::context(5), 2)?;
     assert!(rt; writer.finish().as_slice() == WRITTEN.as_slice());
     Ok(())
+}
+
+// 200 octets behind an integer, in a sequence in place.
+#[test]
+fn nested_in_place(rt: HostRuntime) -> Result<(), Fail> {
+    let mut writer = Writer::new(rt.alloc());
+    writer.int(Tag::universal(2), 7)?;
+    let start = writer.len();
+    assert_eq!(rt; start, 3);
+    writer.octets(Tag::universal(4), &[5; 200])?;
+    writer.nest_from(start, Tag::sequence())?;
+    assert_eq!(rt; writer.len(), 209);
+    let written = writer.finish();
+    assert!(rt;
+        written
+            .as_slice()
+            .starts_with(&[2, 1, 7, 0x30, 0x81, 203, 4, 0x81, 200, 5, 5])
+    );
+    assert_eq!(rt; element_length(200), 203);
+    assert_eq!(rt; element_length(203), 206);
+    Ok(())
+}
+
+#[test]
+fn values_in_turn(rt: HostRuntime) {
+    let octets = [0x02, 0x01, 0x05, 0xA1, 0x02, 0x80, 0x00, 0x04];
+    let mut values = Values::new(&octets);
+    let first = Value {
+        tag: Tag::universal(2),
+        content: &[5],
+    };
+    let second = Value {
+        tag: Tag::context_constructed(1),
+        content: &[0x80, 0],
+    };
+    assert_eq!(rt; values.next_value(), Ok(Some(first)));
+    assert_eq!(rt; values.next_value(), Ok(Some(second)));
+    assert_eq!(rt; values.next_value(), Err(BerFault::Truncated));
+    assert_eq!(rt; Values::new(&[]).next_value(), Ok(None));
+    assert_eq!(rt; whole_value(&octets[..3]), Some(first));
+    assert_eq!(rt; whole_value(&octets[..2]), None);
+    assert_eq!(rt; whole_value(&octets[..7]), None);
 }
