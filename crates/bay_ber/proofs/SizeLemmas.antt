@@ -1,5 +1,5 @@
 -- How long written values are.
-use Rattle.std.proofs.Common.{◌≡◌, ℕ, ◌+◌, ◌*◌, ◌^◌, ◌<◌, ◌≤◌, ℤ, List, length, arith, inl, inr}
+use Rattle.std.proofs.Common.{◌≡◌, ℕ, ◌+◌, ◌*◌, ◌^◌, ◌<◌, ◌≤◌, ℤ, List, ◌++◌, length, arith, inl, inr}
 use Rattle.std.specs.Int.{w64, to_be_bytes, cast_unsigned}
 use Rattle.std.proofs.lemmas.Bool.{cases_lt, lt-ltb, le-ltb}
 use Rattle.std.proofs.lemmas.List.{length-append}
@@ -25,6 +25,10 @@ length-length_octets n = elim (cases_lt n 128) [ inl small ↦ omega (arith, len
 pub length-element : (tag : Tag) (content : List ℕ) → length (element tag content) ≤ length content + 6
 unfolding element
 length-element tag content = omega (arith, length-append (length_octets (length content)) content, length-length_octets (length content))
+
+-- a length has at most five octets
+pub length_few : (count : ℕ) (old new : List ℕ) → new ≡ old ++ length_octets count → length new ≤ length old + 5
+length_few count old new is = rw is (omega (arith, length-append old (length_octets count), length-length_octets count))
 
 pub length-element-is : (tag : Tag) (content : List ℕ) → length (element tag content) ≡ element_length (length content)
 unfolding element

@@ -40,24 +40,29 @@ fn append_length(out: &mut Vec<u8>, length: u32) -> Result<(), AllocError>
 
 // Appends a tag and the shortest spelling of a length. A refused call may leave some of its octets at the end.
 #[tactic(auto, unfolding(crate::specs::Writing::header))]
-fn append_header(out: &mut Vec<u8>, tag: Tag, length: u32) -> Result<(), AllocError>
+fn append_header(out: &mut Vec<u8>, tag: Tag, count: u32) -> Result<(), AllocError>
     requires { tag.number < 31 }
-    ensures ok { OnOk result (out.new.items ≡ out.old.items ++ header tag length) }
+    ensures ok { OnOk result (out.new.items ≡ out.old.items ++ header tag count) }
+    ensures few { OnOk result (length out.new.items ≤ length out.old.items + 6) }
     ensures err { OnErr result (Extends out.old.items out.new.items) }
 {
     out.push(tag.octet())?;
-    append_length(out, length)?;
+    append_length(out, count)?;
     Ok(())
 }
 
-// Moves the octets from the second place on before those from the first.
+// Moves the octets from the second place on, six at most, before those from the first.
 fn move_forward(octets: &mut Vec<u8>, start: usize, middle: usize)
     requires start { start ≤ middle }
     requires middle { middle ≤ length octets.old.items }
+    requires few { length octets.old.items ≤ middle + 6 }
     ensures { octets.new.items ≡ take start octets.old.items ++ (drop middle octets.old.items ++ take (middle - start) (drop start octets.old.items)) }
 {
     let count = octets.len() - middle;
-    octets[start..].rotate_right(count);
+    let mut moved = [0; 6];
+    moved[..count].copy_from_slice(&octets[middle..]);
+    octets.copy_within(start..middle, start + count);
+    octets[start..start + count].copy_from_slice(&moved[..count]);
 }
 
 // Appends a value whose content has three parts. A refused call may leave some of its octets at the end.
