@@ -1,0 +1,26 @@
+// How Instruction List compares names.
+ghost use Rattle.std.specs.Prelude.{◌≡◌};
+ghost use Rattle.bay_base.specs.Names as spec;
+
+/// Whether two names are the same: the case of letters isn't significant (IEC 61131-3:2003, 2.1.2).
+pub fn same_name(a: &str, b: &str) -> bool
+    ensures { result ≡ spec.same_name a.now b.now }
+{
+    same_letters(a.as_bytes(), b.as_bytes())
+}
+
+/// The same of octets.
+#[tactic(auto, using(crate::proofs::NameLemmas::other_lengths, crate::proofs::NameLemmas::same_from, crate::proofs::NameLemmas::other_from, crate::proofs::NameLemmas::same_at_end))]
+fn same_letters(a: &[u8], b: &[u8]) -> bool
+    ensures { result ≡ spec.same_name a.now b.now }
+{
+    if a.len() != b.len() {
+        return false;
+    }
+    for i in 0..a.len() {
+        if a[i].to_ascii_uppercase() != b[i].to_ascii_uppercase() {
+            return false;
+        }
+    }
+    true
+}
