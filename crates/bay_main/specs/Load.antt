@@ -13,7 +13,7 @@ use Rattle.il_check.specs.declared.fault.CheckFault.{CheckFault}
 use Rattle.il_check.specs.declared.fault.CheckFault.TheVariants as check_fault
 use Rattle.il_text.specs.Code as text_code
 use Rattle.il_text.specs.Listing.{Listing}
-use Rattle.il_text.specs.Names.{same_name}
+use Rattle.bay_base.specs.Names.{same_name}
 use Rattle.il_text.specs.Reading.{program_of}
 use Rattle.il_text.specs.declared.fault.TextFault.{TextFault}
 use Rattle.il_text.specs.declared.fault.TextFault.TheVariants as text_fault

@@ -6,7 +6,6 @@
 mod bay_rows;
 pub mod fault;
 pub mod leaf;
-pub mod list;
 pub mod name;
 pub mod page;
 pub mod row;

@@ -2,7 +2,8 @@
 use crate::bay_rows::ROWS;
 use crate::fault::{NamesFault, TreeFault};
 use crate::leaf::{Dbpos, Kind, Leaf, Quality};
-use crate::list::{Listing, Text};
+use bay_base::listing::Listing;
+use bay_base::text::Text;
 use crate::row::Row;
 use crate::search::is_tree;
 use crate::tree::Tree;

@@ -3,7 +3,7 @@ use crate::check::check;
 use crate::fault::CheckFault;
 use crate::typed::{Source, TypedInstruction};
 use bay_config::bay::{Point, PointKind};
-use bay_tree::list::Text;
+use bay_base::text::Text;
 use il_text::program::Operator;
 use il_text::read::read_program;
 use std::alloc::{AllocError, Global};

@@ -11,7 +11,6 @@ pub mod law;
 mod lexeme;
 mod listing;
 mod literal;
-pub mod name;
 mod piece;
 pub mod program;
 pub mod read;

@@ -1,5 +1,5 @@
 // Tables of texts with their refusals, and one program read whole.
-use crate::name::same_name;
+use bay_base::names::same_name;
 use crate::program::{Instruction, Item, Operand, Operator, Scope};
 use crate::read::read_program;
 use std::alloc::Global;
