@@ -88,9 +88,14 @@ entries_faults points declared is_set (e ∷ es) = entry_faults points declared 
 abbrev pub faults_of : List Point → Listing → List CheckFault
 faults_of points program = declarations_faults points [] program.declarations ++ entries_faults points program.declarations false program.items
 
+-- of two numbers the first is the lower
+abbrev pub is_lower : Option ℕ → Option ℕ → Bool
+is_lower (Some first) (Some second) = nat_lt first second
+is_lower first second = false
+
 -- of a fault and a later one: the later one where it is of the same line and has a lower number
 abbrev pub better : CheckFault → CheckFault → CheckFault
-better f g = cond (line_of g == line_of f && nat_lt (code_of g) (code_of f)) g f
+better f g = cond (line_of g == line_of f && is_lower (code_of g) (code_of f)) g f
 
 abbrev pub best_of : CheckFault → List CheckFault → CheckFault
 best_of f [] = f
