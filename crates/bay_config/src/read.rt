@@ -58,6 +58,3 @@ pub fn read_bay(alloc: Global, text: &str) -> Result<Bay, BayFault>
         }
     }
 }
-
-#[cfg(test)]
-mod tests;

@@ -15,6 +15,4 @@ mod piece;
 pub mod program;
 pub mod read;
 mod reserved;
-#[cfg(test)]
-mod tests;
 mod token;
