@@ -1,0 +1,6 @@
+pub mod Data
+pub mod Nodes
+pub mod Tags
+pub mod Types
+pub mod Utc
+pub mod Writing
