@@ -1,18 +1,17 @@
 -- The nodes below a row, one after another.
-use Rattle.std.proofs.Common.{◌≡◌, ℕ, zero, suc, ◌+◌, ◌-◌, ◌<◌, ◌≤◌, ◌^◌, Bool, true, false, cond, Option, Some, None, IfSome, List, [], ◌∷◌, ◌++◌, length, take, drop, refl, sym, ap, subst, ◌∙◌, arith}
-use Rattle.std.proofs.lemmas.List.{append-nil, append_assoc, length-append, length-drop, drop_more, take_at, drop_at}
+use Rattle.std.proofs.Common.{◌≡◌, ℕ, zero, suc, ◌+◌, ◌-◌, ◌<◌, ◌≤◌, Bool, true, false, cond, Option, Some, None, IfSome, List, [], ◌∷◌, ◌++◌, length, drop, refl, sym, ap, subst, ◌∙◌, arith}
+use Rattle.std.proofs.lemmas.List.{append-nil, append_assoc, length-append, length-drop, drop_more}
 use Rattle.std.proofs.lemmas.Slice.Eq.{bytes_eq-Decides}
-use Rattle.std.specs.List.{position_from}
-use Rattle.std.specs.Str.{bytes_eq}
 use Rattle.bay_tree.specs.declared.row.Row.{Row}
 use Rattle.bay_tree.specs.Names.{parent_of, word_of, is_parent, is_below}
 use Rattle.bay_tree.specs.Rows.{row_at, name_at, leaf_at, first_below, first_below_from, next_below, next_beside}
-use Rattle.bay_mms.specs.Data as mms
+use Rattle.bay_mms.specs.Types.{type_text, components_text}
 use Rattle.bay_mms.specs.Data.{datum_text, data_text, leaf_datum}
 use Rattle.bay_tree.specs.declared.leaf.Leaf.{Leaf}
 use Rattle.bay_ber.specs.Writing.{element}
-use Rattle.bay_mms.specs.Tags.{constructed}
-use Rattle.bay_mms.specs.Nodes.{Node, Nodes, no_nodes, node, node_of, nodes_in, node_at, node_datum, nodes_data, data_at}
+use Rattle.bay_mms.proofs.PutLemmas.{around_over}
+use Rattle.bay_mms.specs.Tags.{context, constructed, sequence}
+use Rattle.bay_mms.specs.Nodes.{Nodes, no_nodes, node, node_of, nodes_in, node_at, node_datum, nodes_data, data_at, node_type, nodes_types, type_at}
 
 -- the first row found, its node, and those behind it
 abbrev pub nodes_since : List Row → List ℕ → Option ℕ → Nodes
@@ -170,3 +169,22 @@ structure_at rows handle none = ap (λ (o : Option Leaf). datum_text (node_datum
 
 pub leaf_data : (rows : List Row) (handle : ℕ) (leaf : Leaf) → leaf_at rows handle ≡ Some leaf → datum_text (data_at rows handle) ≡ datum_text (leaf_datum leaf)
 leaf_data rows handle leaf some = ap (λ (o : Option Leaf). datum_text (node_datum (node_of o (parts_at rows handle)))) some
+
+-- ---- types
+
+-- the text of the components that nodes make
+abbrev pub nodes_types_text : Nodes → List ℕ
+nodes_types_text parts = components_text (nodes_types parts)
+
+-- the text of the component that the row at a place makes
+abbrev pub component_text : List Row → ℕ → List ℕ
+component_text rows place = element sequence (element (context 0) (word_of (name_at rows place)) ++ element (constructed 1) (type_text (type_at rows place)))
+
+pub structure_type : (rows : List Row) (handle : ℕ) → leaf_at rows handle ≡ None → type_text (type_at rows handle) ≡ element (constructed 2) (element (constructed 1) (nodes_types_text (parts_at rows handle)))
+structure_type rows handle none = ap (λ (o : Option Leaf). type_text (node_type (node_of o (parts_at rows handle)))) none
+
+-- a component that is too long makes the whole type too long
+pub type_part_over : (rows : List Row) (handle part : ℕ) (front writer : List ℕ) → leaf_at rows handle ≡ None → Written rows handle nodes_types_text front writer (Some part) → 4294967296 ≤ length (component_text rows part)
+    → 4294967296 ≤ length (type_text (type_at rows handle))
+type_part_over rows handle part front writer none w over =
+    rw (structure_type rows handle none) (around_over (constructed 2) (element (constructed 1) (nodes_types_text (parts_at rows handle))) (around_over (constructed 1) (nodes_types_text (parts_at rows handle)) (written_over rows handle part 4294967296 nodes_types_text front writer (component_text rows part) refl w over)))

@@ -1,6 +1,6 @@
 -- What stands below a row of the tree: a leaf's value, or the structure of the rows that are named by the row's name, `$` and
 -- one word, in order.
-use Rattle.std.specs.Prelude.{ℕ, ◌+◌, Bool, true, false, Option, Some, None, List, [], ◌∷◌, drop, if◌then◌else◌}
+use Rattle.std.specs.Prelude.{ℕ, ◌+◌, Option, Some, None, List, [], ◌∷◌, drop, if◌then◌else◌}
 use Rattle.bay_tree.specs.declared.row.Row.{Row}
 use Rattle.bay_tree.specs.declared.leaf.Leaf.{Leaf}
 use Rattle.bay_tree.specs.Names.{word_of, is_below}

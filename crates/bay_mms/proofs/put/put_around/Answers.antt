@@ -1,4 +1,4 @@
-use Rattle.std.proofs.Common.{rules, arith, length, drop}
+use Rattle.std.proofs.Common.{arith, drop}
 use Rattle.std.proofs.lemmas.List.{length-drop}
 use Rattle.bay_mms.proofs.PutLemmas.{element_fits, element_over}
 use Rattle.bay_mms.proofs.put.put_around.Goals as goal

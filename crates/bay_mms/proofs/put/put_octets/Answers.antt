@@ -1,4 +1,4 @@
-use Rattle.std.proofs.Common.{rules, arith}
+use Rattle.std.proofs.Common.{arith}
 use Rattle.bay_mms.proofs.PutLemmas.{element_fits, element_over}
 use Rattle.bay_mms.proofs.put.put_octets.Goals as goal
 
