@@ -1,2 +1,3 @@
 pub mod NodeLemmas
 pub mod PutLemmas
+pub mod ResponseLemmas

@@ -1,5 +1,6 @@
 pub mod Data
 pub mod Nodes
+pub mod Responses
 pub mod Tags
 pub mod Types
 pub mod Utc

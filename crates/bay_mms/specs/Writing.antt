@@ -12,6 +12,11 @@ abbrev pub IsFaultOf : WriteFault → List ℕ → Type 0
 IsFaultOf TooLong text = 4294967296 ≤ length text
 IsFaultOf OutOfMemory text = Unit {0}
 
+-- The text was appended; or it is too long, or memory was wanting.
+abbrev pub Adds : List ℕ → Result (Unit {0}) WriteFault → List ℕ → List ℕ → Type 0
+Adds old (Ok done) new text = new ≡ old ++ text
+Adds old (Err fault) new text = IsFaultOf fault text
+
 -- The text was appended, and is short enough; or it is too long, or memory was wanting.
 abbrev pub Appends : List ℕ → Result (Unit {0}) WriteFault → List ℕ → List ℕ → Type 0
 Appends old (Ok done) new text = (new ≡ old ++ text) × (length text < 4294967296)

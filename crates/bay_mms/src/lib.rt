@@ -7,4 +7,5 @@
 pub mod fault;
 mod leaf;
 mod put;
+pub mod response;
 pub mod value;
