@@ -1,3 +1,4 @@
+pub mod DataLemmas
 pub mod NodeLemmas
 pub mod PutLemmas
 pub mod ResponseLemmas

@@ -4,4 +4,5 @@ pub mod Responses
 pub mod Tags
 pub mod Types
 pub mod Utc
+pub mod Views
 pub mod Writing

@@ -4,6 +4,7 @@
 // `value`: the data and the type of a row of the tree, written as they stand. `fault`: why nothing is written.
 #![tactic(auto)]
 
+pub mod data;
 pub mod fault;
 mod leaf;
 mod put;
