@@ -1,4 +1,5 @@
 pub mod Data
+pub mod Laws
 pub mod Nodes
 pub mod Responses
 pub mod Tags

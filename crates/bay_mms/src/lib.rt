@@ -6,6 +6,7 @@
 
 pub mod data;
 pub mod fault;
+pub mod laws;
 mod leaf;
 mod put;
 pub mod response;
