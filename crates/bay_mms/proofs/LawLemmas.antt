@@ -26,6 +26,7 @@ datum_spells (text value) short = spelled (context 10) value (omega arith) short
 datum_spells (utc value) short = spelled (context 17) value (omega arith) short
 
 pub response_spells : (r : Response) → length (response_text r) < 4294967296 → IsRead (response_text r) (response_tag r)
+response_spells (response.Initiate agreed) short = record { content = _; spelled = spelled (constructed 9) _ (omega arith) short }
 response_spells response.Conclude short = record { content = []; spelled = spelled (context 12) [] (omega arith) short }
 response_spells (response.Confirmed id service) short = record { content = _; spelled = spelled (constructed 1) _ (omega arith) short }
 response_spells (response.Error id class) short = record { content = _; spelled = spelled (constructed 2) _ (omega arith) short }

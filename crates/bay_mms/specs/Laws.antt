@@ -31,6 +31,7 @@ datum_content (utc value) = value
 
 -- the tag of a response's PDU (ISO 9506-2, MMSpdu)
 abbrev pub response_tag : Response → Tag
+response_tag (response.Initiate agreed) = constructed 9
 response_tag response.Conclude = context 12
 response_tag (response.Confirmed id service) = constructed 1
 response_tag (response.Error id class) = constructed 2
