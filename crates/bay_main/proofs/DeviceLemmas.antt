@@ -17,8 +17,8 @@ use Rattle.bay_main.specs.declared.device.Device.{Device}
 use Rattle.bay_main.specs.declared.status.SwitchRows.{SwitchRows}
 use Rattle.bay_main.specs.declared.typed.Slot.{Slot}
 use Rattle.bay_main.specs.declared.typed.Slot.TheVariants.{Local, Point}
-use Rattle.bay_main.specs.declared.typed.SwitchPoint.{SwitchPoint}
-use Rattle.bay_main.specs.declared.typed.SwitchPoint.TheVariants.{Position, Open, Closed, EnableOpen, EnableClose}
+use Rattle.bay_config.specs.declared.bay.SwitchPoint.{SwitchPoint}
+use Rattle.bay_config.specs.declared.bay.SwitchPoint.TheVariants.{Position, Open, Closed, EnableOpen, EnableClose}
 use Rattle.bay_main.proofs.NamedLemmas.{got, keeps-named, position-named, enabled-named, enabled-kept}
 
 pub get-within : {X : Type 0} (xs : List X) (k : ℕ) → k < length xs → (x : X) × (slice_get xs k ≡ Some x)

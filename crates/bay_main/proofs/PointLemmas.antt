@@ -19,8 +19,8 @@ use Rattle.bay_base.specs.Names.{upper, same_name}
 use Rattle.bay_main.specs.Bound.{nth_point, point_at, declared_at, device_at}
 use Rattle.bay_main.specs.Device.{Variable}
 use Rattle.bay_main.specs.Load.{found_or, stands_from, point_of_variable, declared_from, initial_device}
-use Rattle.bay_main.specs.declared.typed.SwitchPoint.{SwitchPoint}
-use Rattle.bay_main.specs.declared.typed.SwitchPoint.TheVariants.{Position, Open, Closed, EnableOpen, EnableClose}
+use Rattle.bay_config.specs.declared.bay.SwitchPoint.{SwitchPoint}
+use Rattle.bay_config.specs.declared.bay.SwitchPoint.TheVariants.{Position, Open, Closed, EnableOpen, EnableClose}
 
 upper-upper : (xs : List ℕ) → upper (upper xs) ≡ upper xs
 upper-upper [] = refl

@@ -7,8 +7,8 @@ use Rattle.bay_main.specs.Device.{Variable, State}
 use Rattle.bay_main.specs.Load.{initial_device}
 use Rattle.bay_main.specs.declared.typed.Slot.{Slot}
 use Rattle.bay_main.specs.declared.typed.Slot.TheVariants.{Local, Point}
-use Rattle.bay_main.specs.declared.typed.SwitchPoint.{SwitchPoint}
-use Rattle.bay_main.specs.declared.typed.SwitchPoint.TheVariants.{Position, Open, Closed, EnableOpen, EnableClose}
+use Rattle.bay_config.specs.declared.bay.SwitchPoint.{SwitchPoint}
+use Rattle.bay_config.specs.declared.bay.SwitchPoint.TheVariants.{Position, Open, Closed, EnableOpen, EnableClose}
 use Rattle.bay_main.specs.declared.typed.TypedProgram.{TypedProgram}
 
 -- the points of a switch, in the order in which a bay lists them

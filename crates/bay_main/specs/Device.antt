@@ -17,8 +17,8 @@ use Rattle.bay_main.specs.declared.device.Event.TheVariants.{Contact, Scan}
 use Rattle.bay_main.specs.declared.device.Step.{Step}
 use Rattle.bay_main.specs.declared.fault.StepFault.{StepFault}
 use Rattle.bay_main.specs.declared.fault.StepFault.TheVariants.{MomentTooLarge, TimeWentBack, NoSuchPoint}
-use Rattle.bay_main.specs.declared.typed.SwitchPoint.{SwitchPoint}
-use Rattle.bay_main.specs.declared.typed.SwitchPoint.TheVariants.{Position, Open, Closed, EnableOpen, EnableClose}
+use Rattle.bay_config.specs.declared.bay.SwitchPoint.{SwitchPoint}
+use Rattle.bay_config.specs.declared.bay.SwitchPoint.TheVariants.{Position, Open, Closed, EnableOpen, EnableClose}
 
 -- a variable of the program: its name in upper case, and the point of the bay that it stands for, if it is
 -- external: the place of a switch, from 0, and which of the switch's points

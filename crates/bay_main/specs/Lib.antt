@@ -14,3 +14,6 @@ pub mod Sent
 pub mod Slots
 pub mod Trace
 pub mod TraceView
+pub mod Ending
+pub mod Input
+pub mod Watched

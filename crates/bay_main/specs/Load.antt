@@ -21,8 +21,8 @@ use Rattle.bay_main.specs.Device.{Variable, State}
 use Rattle.bay_main.specs.Slots.{variables_of}
 use Rattle.bay_main.specs.declared.fault.LoadFault.{LoadFault}
 use Rattle.bay_main.specs.declared.fault.LoadFault.TheVariants.{Refused, OutOfMemory}
-use Rattle.bay_main.specs.declared.typed.SwitchPoint.{SwitchPoint}
-use Rattle.bay_main.specs.declared.typed.SwitchPoint.TheVariants.{Position, Open, Closed, EnableOpen, EnableClose}
+use Rattle.bay_config.specs.declared.bay.SwitchPoint.{SwitchPoint}
+use Rattle.bay_config.specs.declared.bay.SwitchPoint.TheVariants.{Position, Open, Closed, EnableOpen, EnableClose}
 
 -- the point of a switch that a name stands for: the switch's id and what the point is called
 abbrev pub point_in : List ℕ → Switch → Option SwitchPoint

@@ -14,8 +14,8 @@ use Rattle.bay_main.specs.declared.status.StatusRows.{StatusRows}
 use Rattle.bay_main.specs.declared.status.SwitchRows.{SwitchRows}
 use Rattle.bay_main.specs.declared.typed.Slot.{Slot}
 use Rattle.bay_main.specs.declared.typed.Slot.TheVariants.{Local, Point}
-use Rattle.bay_main.specs.declared.typed.SwitchPoint.{SwitchPoint}
-use Rattle.bay_main.specs.declared.typed.SwitchPoint.TheVariants.{Position, Open, Closed, EnableOpen, EnableClose}
+use Rattle.bay_config.specs.declared.bay.SwitchPoint.{SwitchPoint}
+use Rattle.bay_config.specs.declared.bay.SwitchPoint.TheVariants.{Position, Open, Closed, EnableOpen, EnableClose}
 use Rattle.bay_main.specs.declared.typed.SwitchOutputs.{SwitchOutputs}
 
 -- no two names are one

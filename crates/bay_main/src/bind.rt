@@ -5,41 +5,23 @@ ghost use Rattle.bay_main.specs.Bound.{nth_point, slot_of, IsBound};
 ghost use Rattle.bay_main.specs.Device.{same_point, is_point};
 ghost use Rattle.bay_main.specs.Places.{point_of_slot, output_slot, outputs_at, outputs_from};
 
-use crate::typed::{Slot, SwitchOutputs, SwitchPoint, TypedProgram};
+use crate::typed::{Slot, SwitchOutputs, TypedProgram};
+use bay_config::bay::{Origin, SwitchPoint};
 use il_check::typed::Typed;
 use std::alloc::{AllocError, Global};
 
-/// How many points a switch has.
-const SWITCH_POINTS: usize = 5;
-
-/// The points of a switch, in the order in which a bay lists them.
-fn nth_point(n: usize) -> SwitchPoint
-    ensures { result ≡ nth_point n }
+/// The slot of a variable that stands for a point, or for none.
+fn slot_of(origin: Option<Origin>) -> Slot
+    ensures { result ≡ slot_of origin }
 {
-    match n {
-        0 => SwitchPoint::Position,
-        1 => SwitchPoint::Open,
-        2 => SwitchPoint::Closed,
-        3 => SwitchPoint::EnableOpen,
-        _ => SwitchPoint::EnableClose,
-    }
-}
-
-/// The slot of a variable that stands for the bay's point at a place, or for none.
-fn slot_of(point: Option<usize>) -> Slot
-    ensures { result ≡ slot_of point }
-{
-    match point {
-        Some(place) => Slot::Point {
-            switch: place / SWITCH_POINTS,
-            point: nth_point(place % SWITCH_POINTS),
-        },
+    match origin {
+        Some(Origin::Switch { switch, point }) => Slot::Point { switch, point },
         None => Slot::Local,
     }
 }
 
 /// The slots of variables.
-fn slots_of(alloc: Global, points: &[Option<usize>]) -> Result<Vec<Slot>, AllocError>
+fn slots_of(alloc: Global, points: &[Option<Origin>]) -> Result<Vec<Slot>, AllocError>
     ensures { IfOk result (λ slots. slots.items ≡ map slot_of points.now) }
 {
     let mut slots = Vec::new(alloc);
@@ -109,7 +91,7 @@ pub fn bind(
 ) -> Result<(TypedProgram, Vec<bool>), AllocError>
     ensures { IfOk result (λ bound. IsBound (typed_view typed) switches bound.0 bound.1.items) }
 {
-    let slots = slots_of(alloc, typed.points.as_slice())?;
+    let slots = slots_of(alloc, typed.origins.as_slice())?;
     let outputs = outputs_of(alloc, slots.as_slice(), switches)?;
     let Typed {
         names,

@@ -9,7 +9,8 @@ ghost use Rattle.bay_main.specs.Places.{enabled_put, point_input, slot_input, in
 ghost use Rattle.bay_main.specs.Slots.{variables_of};
 
 use crate::status::{StatusRows, SwitchRows, is_position, is_quality, is_truth, put_status};
-use crate::typed::{Slot, SwitchOutputs, SwitchPoint, TypedProgram, run_instructions};
+use crate::typed::{Slot, SwitchOutputs, TypedProgram, run_instructions};
+use bay_config::bay::SwitchPoint;
 use bay_tree::leaf::{Dbpos, Leaf, Quality};
 use bay_tree::tree::Tree;
 

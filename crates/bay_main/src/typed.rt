@@ -6,24 +6,9 @@ ghost use Rattle.bay_main.specs.Slots.{source_value, variables_of};
 ghost use Rattle.il_check.specs.Slots.{AreApart, IsSourceWithin, IsWithin, action_named, items_named};
 
 use bay_base::text::Text;
+use bay_config::bay::SwitchPoint;
 use il_check::typed::{Source, TypedInstruction};
 use il_text::program::Operator;
-
-/// The points of a switch (IEC 61850-7-4, XCBR, XSWI and CILO).
-#[derive(Clone, Copy, Debug, PartialEq, Eq)]
-pub enum SwitchPoint {
-    /// The position as a number.
-    Position,
-    /// Whether the switch is open.
-    Open,
-    /// Whether the switch is closed.
-    Closed,
-    /// Whether the switch may be opened.
-    EnableOpen,
-    /// Whether the switch may be closed.
-    EnableClose,
-}
-
 /// Where a slot's value comes from, and where it goes.
 #[derive(Clone, Copy, Debug, PartialEq, Eq)]
 pub enum Slot {
