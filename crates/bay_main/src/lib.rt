@@ -16,6 +16,7 @@ mod handles;
 pub mod input;
 mod load;
 pub mod outbox;
+pub mod program;
 pub mod reader;
 pub mod replay;
 mod report;
@@ -23,8 +24,6 @@ mod scan;
 mod scenario;
 mod status;
 mod step;
-#[cfg(test)]
-mod tests;
 mod trace;
 mod typed;
 pub mod writer;

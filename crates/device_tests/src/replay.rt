@@ -3,12 +3,10 @@ ghost use Rattle.std.specs.Prelude.{◌≡◌, Some};
 ghost use Rattle.std.specs.Io.{ReadsAtMost, WritesAtMost};
 ghost use Rattle.std.specs.Io.KnownBytes.{Keeps, ReadConsumes, WriteAppends};
 
-use crate::device::{Event, Step};
-use crate::fault::{LoadFault, StepFault};
-use crate::input::Watched;
-use crate::load::load;
-use crate::replay::{replay, replay_run};
-use bay_tree::leaf::Dbpos;
+use bay_main::outbox::WriteFault;
+use bay_main::reader::WatchedReader;
+use bay_main::replay::{exit_of, replay_run};
+use bay_main::writer::WatchedWriter;
 use std::alloc::{AllocError, Global};
 use std::io;
 use std::io::{ErrorKind, Read, Write};
@@ -66,11 +64,12 @@ impl Read for Dripping<'_> {
     }
 }
 
-/// A writer that takes at most three octets at a call, and fails once it is full.
+/// A writer that takes at most three octets at a call, and fails once it is full, or at each flush.
 #[derive(Drop)]
 struct Narrow {
     taken: Vec<u8>,
     room: usize,
+    flushes: bool,
 }
 
 impl Write for Narrow {
@@ -91,44 +90,57 @@ impl Write for Narrow {
     fn flush(&mut self) -> io::Result<()>
         ensures bytes { Keeps (Some self.old.taken.items) (Some self.new.taken.items) }
     {
-        Ok(())
+        if self.flushes {
+            Ok(())
+        } else {
+            Err(io::Error::from(ErrorKind::Other))
+        }
     }
 }
 
-/// What a scenario's replay wrote, and its status; 255 for a failed write.
+/// What a scenario's replay wrote, its status (255 for a failed write), and what is known of reader and writer.
+#[derive(Drop)]
 struct Outcome {
     report: Vec<u8>,
     status: u8,
+    read_failed: bool,
+    write_failed: bool,
+    is_flushed: bool,
 }
 
-fn outcome_of(alloc: Global, scenario: &[u8], fails_at: u64, room: usize) -> Outcome {
-    let mut reader = Dripping {
+fn outcome_of(alloc: Global, scenario: &[u8], fails_at: u64, room: usize, flushes: bool) -> Outcome {
+    let mut reader = WatchedReader::new(Dripping {
         rest: scenario,
         reads: 0,
         fails_at,
-    };
-    let mut writer = Narrow {
+    });
+    let mut taken = Narrow {
         taken: Vec::new(alloc),
         room,
+        flushes,
     };
+    let mut writer = WatchedWriter::new(&mut taken);
     let status = match replay_run(alloc, &mut reader, &mut writer) {
         Ok(status) => status,
         Err(_) => 255,
     };
-    let Narrow { taken, room: _ } = writer;
+    let write_failed = writer.has_failed();
+    let is_flushed = writer.is_flushed();
+    let Narrow { taken, .. } = taken;
     Outcome {
         report: taken,
         status,
+        read_failed: reader.has_failed(),
+        write_failed,
+        is_flushed,
     }
 }
 
 fn check_report<R: Abort + AllocGlobal>(rt: &R, scenario: &[u8], report: &str, status: u8) {
-    let Outcome {
-        report: found,
-        status: ended,
-    } = outcome_of(rt.alloc(), scenario, 0, 1_000_000);
-    assert_eq!(rt; found.as_slice(), report.as_bytes(), "for {report}");
-    assert_eq!(rt; ended, status, "for {report}");
+    let found = outcome_of(rt.alloc(), scenario, 0, 1_000_000, true);
+    assert_eq!(rt; found.report.as_slice(), report.as_bytes(), "for {report}");
+    assert_eq!(rt; found.status, status, "for {report}");
+    assert!(rt; !found.read_failed && !found.write_failed && found.is_flushed);
 }
 
 fn check_bay<R: Abort + AllocGlobal>(rt: &R, bay: &str, report: &str) -> Result<(), AllocError> {
@@ -398,82 +410,57 @@ fn failing_reads_and_writes(rt: HostRuntime) -> Result<(), Fail> {
     let scenario = format!(in rt.alloc(); "{BAY}%%\n{FRAME}END_PROGRAM\n%%\n1 scan\n2 scan\n")?;
     let text = scenario.as_bytes();
     for k in 1..=u64::try_from(text.len()).unwrap_or(0) {
-        let Outcome { report, status } = outcome_of(rt.alloc(), text, k, 1000);
-        assert_eq!(rt; report.as_slice(), b"fault 121\n".as_slice(), "at read {k}");
-        assert_eq!(rt; status, 3, "at read {k}");
+        let found = outcome_of(rt.alloc(), text, k, 1000, true);
+        assert_eq!(rt; found.report.as_slice(), b"fault 121\n".as_slice(), "at read {k}");
+        assert_eq!(rt; found.status, 3, "at read {k}");
+        assert!(rt; found.read_failed && found.is_flushed);
     }
     let whole = b"loaded\n1 scan QA1=00 QB1=00\n2 scan QA1=00 QB1=00\n";
     for room in 0..whole.len() {
-        let Outcome { report, status } = outcome_of(rt.alloc(), text, 0, room);
-        assert_eq!(rt; report.as_slice(), &whole[..room], "at room {room}");
-        assert_eq!(rt; status, 255, "at room {room}");
+        let found = outcome_of(rt.alloc(), text, 0, room, true);
+        assert_eq!(rt; found.report.as_slice(), &whole[..room], "at room {room}");
+        assert_eq!(rt; found.status, 255, "at room {room}");
+        assert!(rt; found.write_failed && !found.is_flushed);
     }
+    let found = outcome_of(rt.alloc(), text, 0, 1000, false);
+    assert_eq!(rt; found.report.as_slice(), whole.as_slice());
+    assert_eq!(rt; found.status, 255);
     Ok(())
 }
 
 #[test]
-fn a_device_by_calls(rt: HostRuntime) -> Result<(), Fail> {
-    let logic = format!(in rt.alloc();
-        "{FRAME}LD QA1_OPEN\nST QB1_ENA_OPN\nST QB1_ENA_CLS\nEND_PROGRAM\n"
-    )?;
-    let mut device = load(rt.alloc(), BAY, logic.as_str())?;
-    assert_eq!(rt; device.switch_count(), 2);
-    assert_eq!(rt; device.switch("qb1"), Some(1));
-    assert_eq!(rt; device.switch("QB2"), None);
-    assert_eq!(rt; device.id(1).unwrap_or("none"), "QB1");
-    assert!(rt; device.id(2).is_none());
-    let open = Event::Contact {
-        switch: 0,
-        position: Dbpos::Off,
-    };
-    let unknown = Event::Contact {
-        switch: 2,
-        position: Dbpos::Off,
-    };
-    let answers = device.run(&[
-        (1000, open),
-        (1000, Event::Scan),
-        (999, open),
-        (1001, unknown),
-    ])?;
-    assert_eq!(rt;
-        answers.as_slice(),
-        [
-            Ok(Step { scanned: false }),
-            Ok(Step { scanned: true }),
-            Err(StepFault::TimeWentBack),
-            Err(StepFault::NoSuchPoint),
-        ]
-        .as_slice()
-    );
-    assert_eq!(rt; device.ena(0), Some((false, false)));
-    assert_eq!(rt; device.ena(1), Some((true, true)));
-    assert_eq!(rt; device.ena(2), None);
-    match load(rt.alloc(), BAY, "") {
-        Ok(_) => assert!(rt; false),
-        Err(fault) => assert_eq!(rt; fault, LoadFault::Refused { code: 61, line: 1 }),
+fn endings(rt: HostRuntime) -> Result<(), Fail> {
+    for (answer, status, complaint) in [
+        (Ok(0), 0, ""),
+        (Ok(1), 1, ""),
+        (Ok(3), 3, ""),
+        (Err(WriteFault), 3, "fault 122\n"),
+    ] {
+        let ending = exit_of(answer);
+        assert_eq!(rt; ending.status, status);
+        assert_eq!(rt; ending.complaint, complaint);
     }
+    let fault = WriteFault;
+    let message = format!(in rt.alloc(); "{fault}")?;
+    assert_eq!(rt; message.as_str(), "a write failed");
     Ok(())
 }
 
 #[test]
 fn reads_no_more_than_the_limit(rt: HostRuntime) -> Result<(), Fail> {
     let long = vec![in rt.alloc(); 97u8; 16_777_221]?;
-    let reader = Dripping {
+    let mut reader = WatchedReader::new(Dripping {
         rest: long.as_slice(),
         reads: 0,
         fails_at: 0,
-    };
-    let mut writer = Narrow {
+    });
+    let mut writer = WatchedWriter::new(Narrow {
         taken: Vec::new(rt.alloc()),
-        room: 1000,
-    };
-    let mut watched = Watched::new(reader);
-    match replay(rt.alloc(), &mut watched, &mut writer) {
-        Ok(status) => assert_eq!(rt; status, 3),
-        Err(_) => assert!(rt; false),
-    }
-    assert_eq!(rt; writer.taken.as_slice(), b"fault 121\n".as_slice());
-    assert_eq!(rt; watched.reads, 16_777_217);
+        room: 10,
+        flushes: true,
+    });
+    assert_eq!(rt; replay_run(rt.alloc(), &mut reader, &mut writer).ok(), Some(3));
+    assert!(rt; !reader.has_failed() && writer.is_flushed());
+    assert_eq!(rt; reader.reads(), 16_777_217);
     Ok(())
 }
