@@ -7,11 +7,11 @@ ghost use Rattle.std.specs.Str.{bytes_eq};
 ghost use Rattle.toml.specs.Data.{get_member};
 ghost use Rattle.toml.specs.View.{view, table_view};
 ghost use Rattle.bay_config.specs.declared.fault.BayFault.TheVariants.{OutOfMemory};
-ghost use Rattle.bay_config.specs.Gives.{Gives, judged};
+ghost use Rattle.bay_base.specs.Exact.{Gives, judged};
 ghost use Rattle.bay_config.specs.Key.{identifier, description, number, begins_with_letter, is_name_character, is_identifier, is_description, unknown_refusal, key_refusal, text_in, number_in};
 
 use crate::fault::BayFault;
-use bay_tree::list::Text;
+use bay_base::text::Text;
 use std::alloc::Global;
 use toml::{Table, Value};
 
@@ -98,7 +98,7 @@ fn own(alloc: Global, text: &str) -> Result<Text, BayFault>
 /// The identifier at a key, of at most so many characters.
 pub fn identifier_at(alloc: Global, table: &Table, key: &str, most: usize) -> Result<Text, BayFault>
     ensures { let file = table_view table.now in
-        Gives result (judged (key_refusal file (record { name = key.now; form = identifier most })) (text_in file key.now)) }
+        Gives OutOfMemory (λ x. x) result (judged (key_refusal file (record { name = key.now; form = identifier most })) (text_in file key.now)) }
 {
     match find(table, key) {
         Some(value) => match value.as_str() {
@@ -112,7 +112,7 @@ pub fn identifier_at(alloc: Global, table: &Table, key: &str, most: usize) -> Re
 /// The description at a key.
 pub fn description_at(alloc: Global, table: &Table, key: &str) -> Result<Text, BayFault>
     ensures { let file = table_view table.now in
-        Gives result (judged (key_refusal file (record { name = key.now; form = description })) (text_in file key.now)) }
+        Gives OutOfMemory (λ x. x) result (judged (key_refusal file (record { name = key.now; form = description })) (text_in file key.now)) }
 {
     match find(table, key) {
         Some(value) => match value.as_str() {

@@ -2,6 +2,5 @@ pub mod ContactLemmas
 pub mod ListLemmas
 pub mod LoadLemmas
 pub mod NodeLemmas
-pub mod PointLemmas
 pub mod ScanLemmas
 pub mod SlotLemmas

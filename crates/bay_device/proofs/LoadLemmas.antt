@@ -6,7 +6,8 @@ use Rattle.bay_config.specs.declared.bay.Bay.{Bay}
 use Rattle.bay_config.specs.declared.bay.Switch.{Switch}
 use Rattle.il_check.specs.Slots.{items_named}
 use Rattle.il_check.specs.WellTyped.{Checked}
-use Rattle.bay_device.specs.Bound.{slot_of, IsProgram, point_at, declared_at, device_at, bound_from}
+use Rattle.bay_device.specs.Bound.{IsProgram, bound_from}
+use Rattle.bay_device.specs.Load.{initial_device}
 use Rattle.bay_device.specs.Device.{Variable}
 use Rattle.bay_device.specs.Layout.{Layout, switches_of, switch_in, IsBound, AreBound}
 use Rattle.bay_device.specs.Names.{SwitchNames, switch_names, names_by_nodes, node_of, interlocking_of}
@@ -14,13 +15,13 @@ use Rattle.bay_device.specs.Nodes.{AreAllNodes, AreRowsOf, AreAllRows, nodes_nam
 use Rattle.bay_device.specs.Slots.{outputs_at, variables_of, declared_of}
 use Rattle.bay_device.specs.declared.nodes.Nodes.{Nodes}
 use Rattle.bay_device.specs.declared.program.BoundProgram.{BoundProgram}
-use Rattle.bay_device.specs.declared.program.Slot.{Slot}
+use Rattle.bay_config.specs.declared.bay.Origin.{Origin}
 use Rattle.bay_device.specs.declared.rows.SwitchRows.{SwitchRows}
 use Rattle.bay_device.specs.declared.switch.BoundSwitch.{BoundSwitch}
 use Rattle.bay_device.proofs.ListLemmas.{get-within}
 
 -- one switch more
-pub bound-snoc : (slots : List Slot) (k : ℕ) (switches : List Switch) (rows : List SwitchRows) (s : Switch) (r : SwitchRows) (n : ℕ) → n ≡ length switches → n < length rows → r ≡ get_or rows n r
+pub bound-snoc : (slots : List (Option Origin)) (k : ℕ) (switches : List Switch) (rows : List SwitchRows) (s : Switch) (r : SwitchRows) (n : ℕ) → n ≡ length switches → n < length rows → r ≡ get_or rows n r
     → bound_from slots k (switches ++ s ∷ []) rows ≡ bound_from slots k switches rows ++ record { switch = s; rows = r; outputs = outputs_at slots (k + n) } ∷ []
 bound-snoc slots k [] [] s r n e lt is = absurd (omega arith)
 bound-snoc slots k [] (q ∷ rows) s r n e lt is =
@@ -36,17 +37,17 @@ bound-snoc slots k (t ∷ switches) (q ∷ rows) s r (suc n) e lt is =
     ∙ ap (λ m. bound_from slots (k + 1) switches rows ++ record { switch = s; rows = r; outputs = outputs_at slots m } ∷ []) more)
 
 -- the switches are the bay's, and each stands with its rows and its slots
-pub bound-switches : (slots : List Slot) (k : ℕ) (switches : List Switch) (rows : List SwitchRows) → length switches ≡ length rows → switches_of (bound_from slots k switches rows) ≡ switches
+pub bound-switches : (slots : List (Option Origin)) (k : ℕ) (switches : List Switch) (rows : List SwitchRows) → length switches ≡ length rows → switches_of (bound_from slots k switches rows) ≡ switches
 bound-switches slots k [] rows same = refl
 bound-switches slots k (s ∷ switches) [] same = absurd (omega arith)
 bound-switches slots k (s ∷ switches) (r ∷ rows) same = ap (λ ss. s ∷ ss) (bound-switches slots (k + 1) switches rows (omega arith))
 
-pub record Stands (slots : List Slot) (k : ℕ) (switches : List Switch) (rows : List SwitchRows) (j : ℕ) (b : BoundSwitch) : Type 0 where
+pub record Stands (slots : List (Option Origin)) (k : ℕ) (switches : List Switch) (rows : List SwitchRows) (j : ℕ) (b : BoundSwitch) : Type 0 where
   pub switch_is : slice_get switches j ≡ Some b.switch
   pub rows_are : slice_get rows j ≡ Some b.rows
   pub outputs_are : b.outputs ≡ outputs_at slots (k + j)
 
-bound-stands : (slots : List Slot) (k : ℕ) (switches : List Switch) (rows : List SwitchRows) (j : ℕ) (b : BoundSwitch) → slice_get (bound_from slots k switches rows) j ≡ Some b → Stands slots k switches rows j b
+bound-stands : (slots : List (Option Origin)) (k : ℕ) (switches : List Switch) (rows : List SwitchRows) (j : ℕ) (b : BoundSwitch) → slice_get (bound_from slots k switches rows) j ≡ Some b → Stands slots k switches rows j b
 bound-stands slots k [] rows j b h = absurd cc
 bound-stands slots k (s ∷ switches) [] j b h = absurd cc
 bound-stands slots k (s ∷ switches) (r ∷ rows) zero b h =
@@ -63,7 +64,7 @@ bound-stands slots k (s ∷ switches) (r ∷ rows) (suc j) b h =
     let more : k + 1 + j ≡ k + suc j = omega arith in
     record { switch_is = w.switch_is; rows_are = w.rows_are; outputs_are = w.outputs_are ∙ ap (outputs_at slots) more }
 
-pub are-bound : (bay : Bay) (nodes : List Nodes) (layout : Layout) (slots : List Slot) (rows : List SwitchRows) → AreAllNodes bay nodes → AreAllRows layout nodes rows → length nodes ≡ length bay.switches → length rows ≡ length nodes
+pub are-bound : (bay : Bay) (nodes : List Nodes) (layout : Layout) (slots : List (Option Origin)) (rows : List SwitchRows) → AreAllNodes bay nodes → AreAllRows layout nodes rows → length nodes ≡ length bay.switches → length rows ≡ length nodes
     → AreBound layout slots (bound_from slots 0 bay.switches rows)
 are-bound bay nodes layout slots rows named placed same long k b h =
     let w = bound-stands slots 0 bay.switches rows k b h in
@@ -86,18 +87,12 @@ are-bound bay nodes layout slots rows named placed same long k b h =
     }
 
 -- a device before its first event
-declared-bound : (names : List (List ℕ)) (points : List (Option ℕ)) → declared_of names (map slot_of points) ≡ declared_at names points
-declared-bound [] points = refl
-declared-bound (name ∷ names) [] = refl
-declared-bound (name ∷ names) (None ∷ points) = ap (λ (ds : List Variable). record { name = name; point = None } ∷ ds) (declared-bound names points)
-declared-bound (name ∷ names) (Some p ∷ points) = ap (λ (ds : List Variable). record { name = name; point = Some (point_at p) } ∷ ds) (declared-bound names points)
-
 pub loaded-view : (bay : Bay) (checked : Checked) (program : BoundProgram) (values : List Bool) (rows : List Row) (switches : List Switch) → IsProgram checked program values → rows ≡ bay.rows → switches ≡ bay.switches
-    → record (device_at bay checked) { switches = switches; declared = declared_of program.names program.slots; items = items_named program.names program.instructions; rows = rows; variables = variables_of program.names values } ≡ device_at bay checked
+    → record (initial_device bay checked) { switches = switches; declared = declared_of program.names program.slots; items = items_named program.names program.instructions; rows = rows; variables = variables_of program.names values } ≡ initial_device bay checked
 loaded-view bay checked program values rows switches b r w =
-    let s = device_at bay checked in
-    let declared : declared_of program.names program.slots ≡ declared_at checked.names checked.points =
-    ap (λ names. declared_of names program.slots) b.names ∙ ap (declared_of checked.names) b.slots ∙ declared-bound checked.names checked.points in
+    let s = initial_device bay checked in
+    let declared : declared_of program.names program.slots ≡ declared_of checked.names checked.origins =
+    ap (λ names. declared_of names program.slots) b.names ∙ ap (declared_of checked.names) b.slots in
     let variables : variables_of program.names values ≡ variables_of checked.names checked.initial =
     ap (λ names. variables_of names values) b.names ∙ ap (variables_of checked.names) b.initial in
     ap (λ ds. record s { switches = switches; declared = ds; items = items_named program.names program.instructions; rows = rows; variables = variables_of program.names values }) declared

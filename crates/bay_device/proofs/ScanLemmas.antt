@@ -13,21 +13,21 @@ use Rattle.bay_device.specs.Device.{State, is_point, input_of, input_of_switch, 
 use Rattle.bay_device.specs.Layout.{Layout, layout_of, name_in, switch_in, switches_of, IsBound, AreBound, AreKinded, AreSwitchRows}
 use Rattle.bay_device.specs.Names.{SwitchNames, switch_names}
 use Rattle.bay_device.specs.Scans.{switch_input, slot_input, inputs_put, outputs_put}
-use Rattle.bay_device.specs.Slots.{variables_of, declared_of, point_of_slot, output_slot, outputs_at, slot_value}
+use Rattle.bay_device.specs.Slots.{variables_of, declared_of, output_slot, outputs_at, slot_value}
 use Rattle.bay_device.specs.StateView.{state_view}
 use Rattle.bay_device.specs.declared.state.DeviceState.{DeviceState}
 use Rattle.bay_device.specs.declared.switch.BoundSwitch.{BoundSwitch}
-use Rattle.bay_device.specs.declared.program.Slot.{Slot}
-use Rattle.bay_device.specs.declared.program.Slot.TheVariants.{Local, Point}
-use Rattle.bay_device.specs.declared.program.SwitchPoint.{SwitchPoint}
-use Rattle.bay_device.specs.declared.program.SwitchPoint.TheVariants.{EnableOpen, EnableClose}
+use Rattle.bay_config.specs.declared.bay.Origin.{Origin}
+use Rattle.bay_config.specs.declared.bay.Origin.TheVariants as origin
+use Rattle.bay_config.specs.declared.bay.SwitchPoint.{SwitchPoint}
+use Rattle.bay_config.specs.declared.bay.SwitchPoint.TheVariants.{EnableOpen, EnableClose}
 
 -- the values at the handles of bound switches have the kinds that a step wants
-pub kinded : (layout : Layout) (slots : List Slot) (bound : List BoundSwitch) → AreBound layout slots bound → AreKinded layout bound
+pub kinded : (layout : Layout) (slots : List (Option Origin)) (bound : List BoundSwitch) → AreBound layout slots bound → AreKinded layout bound
 kinded layout slots bound all k d lt = (all k (get_or bound k d) (slice_get-get_or bound k d lt)).kinded
 
 -- one slot more is read
-pub inputs-turn : (rows : List Row) (bound : List BoundSwitch) (slots : List Slot) (vs : List Bool) (i : ℕ) (d : Slot) (input : Option Bool) → i < length slots → length slots ≡ length vs → input ≡ slot_input rows bound (get_or slots i d)
+pub inputs-turn : (rows : List Row) (bound : List BoundSwitch) (slots : List (Option Origin)) (vs : List Bool) (i : ℕ) (d : Option Origin) (input : Option Bool) → i < length slots → length slots ≡ length vs → input ≡ slot_input rows bound (get_or slots i d)
     → (v : Bool) → input ≡ Some v → slice_set (inputs_put rows bound (take i slots) vs) i v ≡ inputs_put rows bound (take (i + 1) slots) vs
 inputs-turn rows bound [] vs i d input lt same is v e = absurd (omega arith)
 inputs-turn rows bound (s ∷ slots) [] i d input lt same is v e = absurd (omega arith)
@@ -39,7 +39,7 @@ inputs-turn rows bound (s ∷ slots) (w ∷ vs) (suc i) d input lt same is v e =
     ∙ sym (ap (λ ss. inputs_put rows bound ss (w ∷ vs)) more)
 
 -- a slot that no contact gives a value keeps its own
-pub inputs-kept : (rows : List Row) (bound : List BoundSwitch) (slots : List Slot) (vs : List Bool) (i : ℕ) (d : Slot) (input : Option Bool) → i < length slots → length slots ≡ length vs → input ≡ slot_input rows bound (get_or slots i d)
+pub inputs-kept : (rows : List Row) (bound : List BoundSwitch) (slots : List (Option Origin)) (vs : List Bool) (i : ℕ) (d : Option Origin) (input : Option Bool) → i < length slots → length slots ≡ length vs → input ≡ slot_input rows bound (get_or slots i d)
     → input ≡ None → inputs_put rows bound (take i slots) vs ≡ inputs_put rows bound (take (i + 1) slots) vs
 inputs-kept rows bound [] vs i d input lt same is e = absurd (omega arith)
 inputs-kept rows bound (s ∷ slots) [] i d input lt same is e = absurd (omega arith)
@@ -55,37 +55,37 @@ read-or : (input : Option Bool) (v : Bool) → truth (unwrap_or input v) ≡ or_
 read-or None v = refl
 read-or (Some b) v = refl
 
-module _ (rows : List Row) (slots : List Slot) (bound : List BoundSwitch) (all : AreBound (layout_of rows) slots bound) where
+module _ (rows : List Row) (slots : List (Option Origin)) (bound : List BoundSwitch) (all : AreBound (layout_of rows) slots bound) where
   bound-input : (k : ℕ) (point : SwitchPoint) (b : Option BoundSwitch) → slice_get bound k ≡ b → switch_input rows point b ≡ input_of_switch (switches_of bound) rows k point (option_map (λ (b : BoundSwitch). b.switch) b)
   bound-input k point None here = refl
   bound-input k point (Some b) here = ap (λ (n : SwitchNames). input_of point (leaf_of n.position.value rows)) (all k b here).named
 
-  slot-named : (slot : Slot) → slot_input rows bound slot ≡ input_value (switches_of bound) rows (point_of_slot slot)
-  slot-named Local = refl
-  slot-named (Point k point) =
+  slot-named : (slot : Option Origin) → slot_input rows bound slot ≡ input_value (switches_of bound) rows slot
+  slot-named None = refl
+  slot-named (Some (origin.Switch k point)) =
       bound-input k point (slice_get bound k) refl
       ∙ ap (input_of_switch (switches_of bound) rows k point) (sym (slice_get-map (λ (b : BoundSwitch). b.switch) bound k))
 
-  inputs-from : (names : List (List ℕ)) (ss : List Slot) (vs : List Bool) → length names ≡ length ss → length ss ≡ length vs
+  inputs-from : (names : List (List ℕ)) (ss : List (Option Origin)) (vs : List Bool) → length names ≡ length ss → length ss ≡ length vs
       → variables_of names (inputs_put rows bound ss vs) ≡ with_inputs (switches_of bound) rows (declared_of names ss) (variables_of names vs)
   inputs-from [] ss vs same same' = refl
   inputs-from (n ∷ names) [] vs same same' = absurd (omega arith)
   inputs-from (n ∷ names) (slot ∷ ss) [] same same' = absurd (omega arith)
   inputs-from (n ∷ names) (slot ∷ ss) (v ∷ vs) same same' =
       ap (λ o. (n, truth (unwrap_or o v)) ∷ variables_of names (inputs_put rows bound ss vs)) (slot-named slot)
-      ∙ ap (λ (x : Value). (n, x) ∷ variables_of names (inputs_put rows bound ss vs)) (read-or (input_value (switches_of bound) rows (point_of_slot slot)) v)
-      ∙ ap (λ (xs : Variables). (n, or_else (input_value (switches_of bound) rows (point_of_slot slot)) (truth v)) ∷ xs) (inputs-from names ss vs (omega arith) (omega arith))
+      ∙ ap (λ (x : Value). (n, x) ∷ variables_of names (inputs_put rows bound ss vs)) (read-or (input_value (switches_of bound) rows slot) v)
+      ∙ ap (λ (xs : Variables). (n, or_else (input_value (switches_of bound) rows slot) (truth v)) ∷ xs) (inputs-from names ss vs (omega arith) (omega arith))
 
 -- the value of an output
 module _ (k : ℕ) (point : SwitchPoint) where
-  abbrev stands : Slot → Bool
-  stands slot = is_point k point (point_of_slot slot)
+  abbrev stands : Option Origin → Bool
+  stands slot = is_point k point slot
 
-  later : (slots : List Slot) (i : ℕ) → position_from stands (i + 1) slots ≡ option_map (λ p. p + 1) (position_from stands i slots)
+  later : (slots : List (Option Origin)) (i : ℕ) → position_from stands (i + 1) slots ≡ option_map (λ p. p + 1) (position_from stands i slots)
   later [] i = refl
   later (slot ∷ slots) i = later-step (stands slot) slots i (later slots (i + 1))
     where
-      later-step : (b : Bool) (slots : List Slot) (i : ℕ) → position_from stands (i + 1 + 1) slots ≡ option_map (λ p. p + 1) (position_from stands (i + 1) slots)
+      later-step : (b : Bool) (slots : List (Option Origin)) (i : ℕ) → position_from stands (i + 1 + 1) slots ≡ option_map (λ p. p + 1) (position_from stands (i + 1) slots)
           → cond b (Some (i + 1)) (position_from stands (i + 1 + 1) slots) ≡ option_map (λ p. p + 1) (cond b (Some i) (position_from stands (i + 1) slots))
       later-step true slots i e = refl
       later-step false slots i e = e
@@ -94,7 +94,7 @@ module _ (k : ℕ) (point : SwitchPoint) where
   behind None v vs = refl
   behind (Some p) v vs = rw add-one refl
 
-  output-from : (names : List (List ℕ)) (slots : List Slot) (vs : List Bool) → length names ≡ length slots → length slots ≡ length vs
+  output-from : (names : List (List ℕ)) (slots : List (Option Origin)) (vs : List Bool) → length names ≡ length slots → length slots ≡ length vs
       → slot_value (position_from stands 0 slots) vs ≡ output_of k point (declared_of names slots) (variables_of names vs)
   output-from [] [] vs same same' = refl
   output-from [] (slot ∷ slots) vs same same' = absurd (omega arith)
@@ -108,13 +108,13 @@ module _ (k : ℕ) (point : SwitchPoint) where
       output-step rest x true e = refl
       output-step rest x false e = e
 
-  pub output-named : (names : List (List ℕ)) (slots : List Slot) (vs : List Bool) → length names ≡ length slots → length slots ≡ length vs
+  pub output-named : (names : List (List ℕ)) (slots : List (Option Origin)) (vs : List Bool) → length names ≡ length slots → length slots ≡ length vs
       → slot_value (output_slot slots k point) vs ≡ output_of k point (declared_of names slots) (variables_of names vs)
   output-named names slots vs same same' =
       ap (λ o. slot_value o vs) (position_from-zero stands slots) ∙ output-from names slots vs same same'
 
 -- the interlocking values of all switches
-module _ (layout : Layout) (switches : List Switch) (names : List (List ℕ)) (slots : List Slot) (vs : List Bool) (same : length names ≡ length slots) (same' : length slots ≡ length vs) (now : ℕ) where
+module _ (layout : Layout) (switches : List Switch) (names : List (List ℕ)) (slots : List (Option Origin)) (vs : List Bool) (same : length names ≡ length slots) (same' : length slots ≡ length vs) (now : ℕ) where
   outputs-named : (k : ℕ) (bound : List BoundSwitch) (rows : List Row)
       → ((j : ℕ) (b : BoundSwitch) → slice_get bound j ≡ Some b → IsBound layout slots switches (k + j) b)
       → outputs_put layout bound vs now rows ≡ with_outputs switches (declared_of names slots) (variables_of names vs) now k (switches_of bound) rows

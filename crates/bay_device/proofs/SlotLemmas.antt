@@ -1,7 +1,7 @@
 -- Lemmas on values by the names of their slots.
 use Rattle.std.proofs.Common.{◌≡◌, ℕ, zero, suc, ◌+◌, ◌<◌, Bool, true, false, cond, List, [], ◌∷◌, length, Option, Some, option_map, slice_get, slice_set, slice_index_or, refl, ap, sym, ◌∙◌, arith}
 use Rattle.std.specs.Str.{bytes_eq}
-use Rattle.il_text.specs.Names.{upper, same_name}
+use Rattle.bay_base.specs.Names.{upper, same_name}
 use Rattle.std.proofs.lemmas.Bool.Decides.{nat_tests}
 use Rattle.std.proofs.Common.{not, drop}
 use Rattle.std.proofs.Math.Seq.{drop-cons}

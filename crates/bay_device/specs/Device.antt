@@ -9,6 +9,10 @@ use Rattle.bay_tree.specs.declared.leaf.Dbpos.TheVariants.{Intermediate, Off, On
 use Rattle.bay_tree.specs.declared.leaf.Quality.{Quality}
 use Rattle.bay_tree.specs.declared.leaf.Quality.TheVariants.{Good, Invalid}
 use Rattle.bay_config.specs.declared.bay.Switch.{Switch}
+use Rattle.bay_config.specs.declared.bay.Origin.{Origin}
+use Rattle.bay_config.specs.declared.bay.Origin.TheVariants as origin
+use Rattle.bay_config.specs.declared.bay.SwitchPoint.{SwitchPoint}
+use Rattle.bay_config.specs.declared.bay.SwitchPoint.TheVariants.{Position, Open, Closed, EnableOpen, EnableClose}
 use Rattle.bay_device.specs.Names.{StatusNames, SwitchNames, switch_names}
 use Rattle.il_text.specs.Listing.{Entry}
 use Rattle.il_text.specs.Meaning.{Value, truth, Variables, mean}
@@ -17,14 +21,11 @@ use Rattle.bay_device.specs.declared.event.Event.TheVariants.{Contact, Scan}
 use Rattle.bay_device.specs.declared.event.Step.{Step}
 use Rattle.bay_device.specs.declared.fault.StepFault.{StepFault}
 use Rattle.bay_device.specs.declared.fault.StepFault.TheVariants.{MomentTooLarge, TimeWentBack, NoSuchPoint}
-use Rattle.bay_device.specs.declared.program.SwitchPoint.{SwitchPoint}
-use Rattle.bay_device.specs.declared.program.SwitchPoint.TheVariants.{Position, Open, Closed, EnableOpen, EnableClose}
 
--- a variable of the program: its name in upper case, and the point of the bay that it stands for, if it is
--- external: the place of a switch, from 0, and which of the switch's points
+-- a variable of the program: its name in upper case, and what it stands for in the bay, if it is external
 pub record Variable : Type 0 where
   pub name : List ℕ
-  pub point : Option (ℕ × SwitchPoint)
+  pub origin : Option Origin
 
 -- a device: what its bay file says of the bay, its switches, its program, the rows of its tree, the values
 -- of its variables in the order of their declarations, the moment of the last accepted event, and the last scan
@@ -126,10 +127,10 @@ abbrev pub input_of_switch : List Switch → List Row → ℕ → SwitchPoint �
 input_of_switch switches rows k point None = None
 input_of_switch switches rows k point (Some switch) = input_of point (leaf_of (switch_names switches k switch).position.value rows)
 
--- the value that the contacts give a point
-abbrev pub input_value : List Switch → List Row → Option (ℕ × SwitchPoint) → Option Bool
+-- the value that the contacts give a variable
+abbrev pub input_value : List Switch → List Row → Option Origin → Option Bool
 input_value switches rows None = None
-input_value switches rows (Some p) = input_of_switch switches rows p.0 p.1 (slice_get switches p.0)
+input_value switches rows (Some (origin.Switch k point)) = input_of_switch switches rows k point (slice_get switches k)
 
 abbrev pub or_else : Option Bool → Value → Value
 or_else None v = v
@@ -139,7 +140,7 @@ or_else (Some b) v = truth b
 abbrev pub with_inputs : List Switch → List Row → List Variable → Variables → Variables
 with_inputs switches rows [] vs = vs
 with_inputs switches rows (d ∷ ds) [] = []
-with_inputs switches rows (d ∷ ds) (v ∷ vs) = (v.0, or_else (input_value switches rows d.point) v.1) ∷ with_inputs switches rows ds vs
+with_inputs switches rows (d ∷ ds) (v ∷ vs) = (v.0, or_else (input_value switches rows d.origin) v.1) ∷ with_inputs switches rows ds vs
 
 abbrev pub same_point : SwitchPoint → SwitchPoint → Bool
 same_point Position Position = true
@@ -149,9 +150,10 @@ same_point EnableOpen EnableOpen = true
 same_point EnableClose EnableClose = true
 same_point p q = false
 
-abbrev pub is_point : ℕ → SwitchPoint → Option (ℕ × SwitchPoint) → Bool
+-- a variable stands for this point of the switch at a place
+abbrev pub is_point : ℕ → SwitchPoint → Option Origin → Bool
 is_point k point None = false
-is_point k point (Some p) = p.0 == k && same_point p.1 point
+is_point k point (Some (origin.Switch j which)) = j == k && same_point which point
 
 abbrev pub is_true : Value → Bool
 is_true (truth b) = b
@@ -160,7 +162,7 @@ is_true (truth b) = b
 abbrev pub output_of : ℕ → SwitchPoint → List Variable → Variables → Bool
 output_of k point [] vs = false
 output_of k point (d ∷ ds) [] = false
-output_of k point (d ∷ ds) (v ∷ vs) = cond (is_point k point d.point) (is_true v.1) (output_of k point ds vs)
+output_of k point (d ∷ ds) (v ∷ vs) = cond (is_point k point d.origin) (is_true v.1) (output_of k point ds vs)
 
 -- an interlocking value and its quality, with the moment where one of them changed
 abbrev pub with_enabled : StatusNames → Bool → ℕ → List Row → List Row

@@ -7,7 +7,7 @@ use Rattle.bay_tree.specs.declared.leaf.Kind.TheVariants as kind
 use Rattle.bay_config.specs.declared.bay.Switch.{Switch}
 use Rattle.bay_device.specs.Names.{StatusNames, SwitchNames, switch_names}
 use Rattle.bay_device.specs.Slots.{outputs_at}
-use Rattle.bay_device.specs.declared.program.Slot.{Slot}
+use Rattle.bay_config.specs.declared.bay.Origin.{Origin}
 use Rattle.bay_device.specs.declared.rows.StatusRows.{StatusRows}
 use Rattle.bay_device.specs.declared.rows.SwitchRows.{SwitchRows}
 use Rattle.bay_device.specs.declared.switch.BoundSwitch.{BoundSwitch}
@@ -61,10 +61,10 @@ abbrev pub switches_of : List BoundSwitch → List Switch
 switches_of bound = map (λ b. b.switch) bound
 
 -- the handles of the switch at a place have its names, and its slots are those of its points
-pub record IsBound (layout : Layout) (slots : List Slot) (switches : List Switch) (k : ℕ) (bound : BoundSwitch) : Type 0 where
+pub record IsBound (layout : Layout) (slots : List (Option Origin)) (switches : List Switch) (k : ℕ) (bound : BoundSwitch) : Type 0 where
   pub named : switch_in layout bound.rows ≡ switch_names switches k bound.switch
   pub kinded : AreSwitchRows layout bound.rows
   pub outputs : bound.outputs ≡ outputs_at slots k
 
-abbrev pub AreBound : Layout → List Slot → List BoundSwitch → Type 0
+abbrev pub AreBound : Layout → List (Option Origin) → List BoundSwitch → Type 0
 AreBound layout slots bound = (k : ℕ) (b : BoundSwitch) → slice_get bound k ≡ Some b → IsBound layout slots (switches_of bound) k b

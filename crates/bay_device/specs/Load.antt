@@ -1,55 +1,18 @@
 -- The device that a bay file and a program load to, or why they are refused.
-use Rattle.std.specs.Prelude.{◌≡◌, ℕ, ◌+◌, ◌⊎◌, false, cond, List, [], ◌∷◌, ◌++◌, codes, Option, None, Some, Result, Ok, Err}
+use Rattle.std.specs.Prelude.{ℕ, false, Option, None, Some, Result, Ok, Err}
 use Rattle.bay_config.specs.Code as bay_code
 use Rattle.bay_config.specs.declared.bay.Bay.{Bay}
-use Rattle.bay_config.specs.declared.bay.Switch.{Switch}
 use Rattle.bay_config.specs.declared.fault.BayFault.{BayFault}
-use Rattle.bay_config.specs.declared.fault.BayFault.TheVariants as bay_fault
 use Rattle.il_check.specs.Code as check_code
 use Rattle.il_check.specs.WellTyped.{Checked, checked_of}
 use Rattle.il_check.specs.declared.fault.CheckFault.{CheckFault}
-use Rattle.il_check.specs.declared.fault.CheckFault.TheVariants as check_fault
 use Rattle.il_text.specs.Code as text_code
 use Rattle.il_text.specs.Listing.{Listing}
-use Rattle.il_text.specs.Names.{same_name}
 use Rattle.il_text.specs.declared.fault.TextFault.{TextFault}
-use Rattle.il_text.specs.declared.fault.TextFault.TheVariants as text_fault
-use Rattle.bay_device.specs.Device.{Variable, State}
-use Rattle.bay_device.specs.Slots.{variables_of}
+use Rattle.bay_device.specs.Device.{State}
+use Rattle.bay_device.specs.Slots.{declared_of, variables_of}
 use Rattle.bay_device.specs.declared.fault.LoadFault.{LoadFault}
 use Rattle.bay_device.specs.declared.fault.LoadFault.TheVariants.{Refused, OutOfMemory}
-use Rattle.bay_device.specs.declared.program.SwitchPoint.{SwitchPoint}
-use Rattle.bay_device.specs.declared.program.SwitchPoint.TheVariants.{Position, Open, Closed, EnableOpen, EnableClose}
-
--- the point of a switch that a name stands for: the switch's id and what the point is called
-abbrev pub point_in : List ℕ → Switch → Option SwitchPoint
-point_in name s =
-    cond (same_name (s.id ++ codes "_POS") name) (Some Position)
-    (cond (same_name (s.id ++ codes "_OPEN") name) (Some Open)
-    (cond (same_name (s.id ++ codes "_CLOSED") name) (Some Closed)
-    (cond (same_name (s.id ++ codes "_ENA_OPN") name) (Some EnableOpen)
-    (cond (same_name (s.id ++ codes "_ENA_CLS") name) (Some EnableClose) None))))
-
-abbrev pub found_or : ℕ → Option SwitchPoint → Option (ℕ × SwitchPoint) → Option (ℕ × SwitchPoint)
-found_or k None rest = rest
-found_or k (Some point) rest = Some (k, point)
-
--- the first switch, of those from place k on, that has a point of the name, and the point
-abbrev pub stands_from : List ℕ → ℕ → List Switch → Option (ℕ × SwitchPoint)
-stands_from name k [] = None
-stands_from name k (s ∷ ss) = found_or k (point_in name s) (stands_from name (k + 1) ss)
-
--- a variable stands for a point if it is external, and so one of the bay's points
-abbrev pub point_of_variable : List Switch → List ℕ → Option ℕ → Option (ℕ × SwitchPoint)
-point_of_variable switches name None = None
-point_of_variable switches name (Some place) = stands_from name 0 switches
-
--- the variables of a checked program, and the points that they stand for
-abbrev pub declared_from : List Switch → List (List ℕ) → List (Option ℕ) → List Variable
-declared_from switches [] points = []
-declared_from switches (name ∷ names) [] = []
-declared_from switches (name ∷ names) (p ∷ points) =
-    record { name = name; point = point_of_variable switches name p } ∷ declared_from switches names points
 
 -- a device before its first event
 abbrev pub initial_device : Bay → Checked → State
@@ -60,7 +23,7 @@ initial_device bay program = record {
   revision = bay.revision;
   scan_max_age_ms = bay.scan_max_age_ms;
   switches = bay.switches;
-  declared = declared_from bay.switches program.names program.points;
+  declared = declared_of program.names program.origins;
   items = program.items;
   rows = bay.rows;
   variables = variables_of program.names program.initial;
@@ -69,18 +32,20 @@ initial_device bay program = record {
   is_stale = false;
 }
 
+-- a refusal has a number and a line; want of memory has no number
+abbrev pub refusal_of : Option ℕ → ℕ → LoadFault
+refusal_of (Some code) line = Refused code line
+refusal_of None line = OutOfMemory
+
 -- why a bay file, a program's text and a program are refused
 abbrev pub bay_refusal : BayFault → LoadFault
-bay_refusal bay_fault.OutOfMemory = OutOfMemory
-bay_refusal fault = Refused (bay_code.code_of fault) 0
+bay_refusal fault = refusal_of (bay_code.code_of fault) 0
 
 abbrev pub text_refusal : TextFault → LoadFault
-text_refusal text_fault.OutOfMemory = OutOfMemory
-text_refusal fault = Refused (text_code.code_of fault) (text_code.line_of fault)
+text_refusal fault = refusal_of (text_code.code_of fault) (text_code.line_of fault)
 
 abbrev pub check_refusal : CheckFault → LoadFault
-check_refusal check_fault.OutOfMemory = OutOfMemory
-check_refusal fault = Refused (check_code.code_of fault) (check_code.line_of fault)
+check_refusal fault = refusal_of (check_code.code_of fault) (check_code.line_of fault)
 
 -- the device of a bay and what the checks made of its program
 abbrev pub of_checked : Bay → Result Checked CheckFault → Result State LoadFault
@@ -91,12 +56,7 @@ abbrev pub of_program : Bay → Result Listing TextFault → Result State LoadFa
 of_program bay (Ok program) = of_checked bay (checked_of bay.points program)
 of_program bay (Err fault) = Err (text_refusal fault)
 
--- a fault of the bay file comes before one of the program's text, and that before one of its checks
+-- the device of a bay file and a program: a fault of the bay file comes before one of the program's text, and that before one of its checks
 abbrev pub load_of : Result Bay BayFault → Result Listing TextFault → Result State LoadFault
 load_of (Ok bay) program = of_program bay program
 load_of (Err fault) program = Err (bay_refusal fault)
-
--- the result is what is held, unless memory ran out
-abbrev pub Loads : Result State LoadFault → Result State LoadFault → Type 0
-Loads (Ok device) held = held ≡ Ok device
-Loads (Err e) held = (e ≡ OutOfMemory) ⊎ (held ≡ Err e)

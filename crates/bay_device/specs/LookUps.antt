@@ -2,7 +2,7 @@
 use Rattle.std.specs.Prelude.{ℕ, Bool, true, cond, nat_lt, List, length, position, Option, None, Some, codes}
 use Rattle.bay_tree.specs.Rows.{leaf_of}
 use Rattle.bay_config.specs.declared.bay.Switch.{Switch}
-use Rattle.il_text.specs.Names.{same_name}
+use Rattle.bay_base.specs.Names.{same_name}
 use Rattle.bay_device.specs.Device.{State, is_truth}
 use Rattle.bay_device.specs.Names.{status_names, interlocking_of}
 

@@ -5,9 +5,9 @@ use Rattle.bay_tree.specs.declared.row.Row.{Row}
 use Rattle.bay_device.specs.Device.{input_of, with_output}
 use Rattle.bay_device.specs.Layout.{Layout, layout_of, name_in, switch_in}
 use Rattle.bay_device.specs.Slots.{slot_value}
-use Rattle.bay_device.specs.declared.program.Slot.{Slot}
-use Rattle.bay_device.specs.declared.program.Slot.TheVariants.{Local, Point}
-use Rattle.bay_device.specs.declared.program.SwitchPoint.{SwitchPoint}
+use Rattle.bay_config.specs.declared.bay.Origin.{Origin}
+use Rattle.bay_config.specs.declared.bay.Origin.TheVariants as origin
+use Rattle.bay_config.specs.declared.bay.SwitchPoint.{SwitchPoint}
 use Rattle.bay_device.specs.declared.switch.BoundSwitch.{BoundSwitch}
 
 abbrev pub switch_input : List Row → SwitchPoint → Option BoundSwitch → Option Bool
@@ -15,12 +15,12 @@ switch_input rows point None = None
 switch_input rows point (Some b) = input_of point (leaf_of (name_in (layout_of rows) b.rows.position.value) rows)
 
 -- what the contacts give a slot
-abbrev pub slot_input : List Row → List BoundSwitch → Slot → Option Bool
-slot_input rows bound Local = None
-slot_input rows bound (Point k point) = switch_input rows point (slice_get bound k)
+abbrev pub slot_input : List Row → List BoundSwitch → Option Origin → Option Bool
+slot_input rows bound None = None
+slot_input rows bound (Some (origin.Switch k point)) = switch_input rows point (slice_get bound k)
 
 -- the slots of points that are read take their values
-abbrev pub inputs_put : List Row → List BoundSwitch → List Slot → List Bool → List Bool
+abbrev pub inputs_put : List Row → List BoundSwitch → List (Option Origin) → List Bool → List Bool
 inputs_put rows bound [] vs = vs
 inputs_put rows bound (slot ∷ slots) [] = []
 inputs_put rows bound (slot ∷ slots) (v ∷ vs) = unwrap_or (slot_input rows bound slot) v ∷ inputs_put rows bound slots vs

@@ -4,10 +4,9 @@ use Rattle.il_text.specs.Meaning.{truth, Variables}
 use Rattle.il_check.specs.declared.typed.Source.{Source}
 use Rattle.il_check.specs.declared.typed.Source.TheVariants as source
 use Rattle.bay_device.specs.Device.{Variable, is_point}
-use Rattle.bay_device.specs.declared.program.Slot.{Slot}
-use Rattle.bay_device.specs.declared.program.Slot.TheVariants.{Local, Point}
-use Rattle.bay_device.specs.declared.program.SwitchPoint.{SwitchPoint}
-use Rattle.bay_device.specs.declared.program.SwitchPoint.TheVariants.{EnableOpen, EnableClose}
+use Rattle.bay_config.specs.declared.bay.Origin.{Origin}
+use Rattle.bay_config.specs.declared.bay.SwitchPoint.{SwitchPoint}
+use Rattle.bay_config.specs.declared.bay.SwitchPoint.TheVariants.{EnableOpen, EnableClose}
 use Rattle.bay_device.specs.declared.program.SwitchOutputs.{SwitchOutputs}
 
 -- the values of the slots, by their names
@@ -21,23 +20,18 @@ abbrev pub source_value : List Bool → Source → Option Bool
 source_value values (source.Literal value) = Some value
 source_value values (source.Slot slot) = slice_get values slot
 
--- the point that a slot stands for
-abbrev pub point_of_slot : Slot → Option (ℕ × SwitchPoint)
-point_of_slot Local = None
-point_of_slot (Point k point) = Some (k, point)
-
--- the variables that slots of these names stand for
-abbrev pub declared_of : List (List ℕ) → List Slot → List Variable
+-- the variables of these names, and what they stand for
+abbrev pub declared_of : List (List ℕ) → List (Option Origin) → List Variable
 declared_of [] slots = []
 declared_of (name ∷ names) [] = []
-declared_of (name ∷ names) (slot ∷ slots) = record { name = name; point = point_of_slot slot } ∷ declared_of names slots
+declared_of (name ∷ names) (slot ∷ slots) = record { name = name; origin = slot } ∷ declared_of names slots
 
 -- the slot of a point
-abbrev pub output_slot : List Slot → ℕ → SwitchPoint → Option ℕ
-output_slot slots k point = position (λ slot. is_point k point (point_of_slot slot)) slots
+abbrev pub output_slot : List (Option Origin) → ℕ → SwitchPoint → Option ℕ
+output_slot slots k point = position (is_point k point) slots
 
 -- the slots of the interlocking values of the switch at a place
-abbrev pub outputs_at : List Slot → ℕ → SwitchOutputs
+abbrev pub outputs_at : List (Option Origin) → ℕ → SwitchOutputs
 outputs_at slots k = record { ena_opn = output_slot slots k EnableOpen; ena_cls = output_slot slots k EnableClose }
 
 -- the value of an output: its slot's, or FALSE where it has none

@@ -3,12 +3,12 @@ ghost use Rattle.std.specs.Prelude.{◌≡◌, slice_get, option_map, position};
 ghost use Rattle.bay_device.specs.Layout.{switches_of};
 ghost use Rattle.bay_device.specs.LookUps.{switch_place, enabled_of};
 ghost use Rattle.bay_device.specs.StateView.{state_view};
-ghost use Rattle.il_text.specs.Names.{same_name};
+ghost use Rattle.bay_base.specs.Names.{same_name};
 
 use crate::rows::is_truth;
 use crate::state::DeviceState;
 use crate::switch::BoundSwitch;
-use il_text::name::same_name;
+use bay_base::names::same_name;
 
 /// The place of the switch with this id among bound switches.
 fn place_of(switches: &[BoundSwitch], id: &str) -> Option<usize>

@@ -8,7 +8,7 @@ ghost use Rattle.bay_device.specs.Nodes.{AreNodesOf, AreAllNodes, nodes_names, H
 use crate::rows::{StatusRows, SwitchRows};
 use bay_config::bay::Bay;
 use bay_config::nodes::{interlocking_name, node_name};
-use bay_tree::list::Text;
+use bay_base::text::Text;
 use bay_tree::tree::{Handle, Tree};
 use std::alloc::{AllocError, Global};
 

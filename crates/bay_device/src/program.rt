@@ -5,33 +5,11 @@ ghost use Rattle.bay_device.specs.Slots.{source_value, variables_of};
 ghost use Rattle.il_check.specs.Slots.{AreApart, IsSourceWithin, IsWithin, action_named, items_named};
 
 use crate::values::Values;
-use bay_tree::list::{Listing, Text};
+use bay_base::listing::Listing;
+use bay_base::text::Text;
+use bay_config::bay::Origin;
 use il_check::typed::{Source, TypedInstruction};
 use il_text::program::Operator;
-
-/// The points of a switch (IEC 61850-7-4, XCBR, XSWI and CILO).
-#[derive(Clone, Copy, Debug, PartialEq, Eq)]
-pub enum SwitchPoint {
-    /// The position as a number.
-    Position,
-    /// Whether the switch is open.
-    Open,
-    /// Whether the switch is closed.
-    Closed,
-    /// Whether the switch may be opened.
-    EnableOpen,
-    /// Whether the switch may be closed.
-    EnableClose,
-}
-
-/// Where a slot's value comes from, and where it goes.
-#[derive(Clone, Copy, Debug, PartialEq, Eq)]
-pub enum Slot {
-    /// A variable of the program.
-    Local,
-    /// A point of the switch at this place, counted from 0.
-    Point { switch: usize, point: SwitchPoint },
-}
 
 /// The slots of a switch's interlocking values, where the program names them.
 #[derive(Clone, Copy, Debug, PartialEq, Eq)]
@@ -47,7 +25,8 @@ pub struct SwitchOutputs {
 pub struct BoundProgram {
     /// The name of each slot, in upper case.
     pub names: Listing<Text>,
-    pub slots: Listing<Slot>,
+    /// What each slot stands for in the bay; None for a variable of the program.
+    pub slots: Listing<Option<Origin>>,
     pub instructions: Listing<TypedInstruction>,
     ghost apart: { AreApart names },
     ghost sized: { length names ≡ length slots },

@@ -9,10 +9,11 @@ ghost use Rattle.bay_device.specs.Layout.{layout_of, name_in, status_in, switch_
 ghost use Rattle.bay_device.specs.Scans.{slot_input, inputs_put, outputs_put};
 ghost use Rattle.bay_device.specs.Slots.{slot_value, variables_of};
 
-use crate::program::{BoundProgram, Slot, SwitchPoint, run_instructions};
+use crate::program::{BoundProgram, run_instructions};
 use crate::rows::{StatusRows, SwitchRows, is_position, is_quality, is_truth, put_status};
 use crate::switch::BoundSwitch;
 use crate::values::Values;
+use bay_config::bay::{Origin, SwitchPoint};
 use bay_tree::leaf::{Dbpos, Leaf, Quality};
 use bay_tree::tree::Tree;
 
@@ -43,21 +44,21 @@ fn point_input(tree: &Tree, rows: StatusRows, point: SwitchPoint) -> Option<bool
 }
 
 /// The value of a slot that the contacts of a switch give.
-fn slot_input(tree: &Tree, switches: &[BoundSwitch], slot: Slot) -> Option<bool>
+fn slot_input(tree: &Tree, switches: &[BoundSwitch], slot: Option<Origin>) -> Option<bool>
     requires { AreKinded (layout_of tree.now) switches.now }
     ensures { result ≡ slot_input tree.now switches.now slot }
 {
     match slot {
-        Slot::Local => None,
-        Slot::Point { switch, point } => match switches.get(switch) {
+        Some(Origin::Switch { switch, point }) => match switches.get(switch) {
             Some(bound) => point_input(tree, bound.rows.position, point),
             None => None,
         },
+        None => None,
     }
 }
 
 /// Gives the slots of read-only points the values of the contacts.
-fn read_inputs(tree: &Tree, switches: &[BoundSwitch], slots: &[Slot], values: &mut Values)
+fn read_inputs(tree: &Tree, switches: &[BoundSwitch], slots: &[Option<Origin>], values: &mut Values)
     requires kinds { AreKinded (layout_of tree.now) switches.now }
     requires sized { length slots.now ≡ length values.old }
     ensures sized { length values.new ≡ length values.old }

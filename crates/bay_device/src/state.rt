@@ -5,7 +5,8 @@ ghost use Rattle.bay_device.specs.Layout.{layout_of, AreBound};
 use crate::program::BoundProgram;
 use crate::switch::BoundSwitch;
 use crate::values::Values;
-use bay_tree::list::{Listing, Text};
+use bay_base::listing::Listing;
+use bay_base::text::Text;
 use bay_tree::tree::Tree;
 
 /// A device, as load makes it and steps change it. No part of it hands out an allocator or can grow, so a

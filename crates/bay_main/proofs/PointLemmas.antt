@@ -11,11 +11,11 @@ use Rattle.bay_config.specs.Point.{points_of_all}
 use Rattle.bay_config.specs.declared.bay.Bay.{Bay}
 use Rattle.bay_config.specs.declared.bay.Point.{Point}
 use Rattle.bay_config.specs.declared.bay.Switch.{Switch}
-use Rattle.il_check.specs.Gives.{judged}
+use Rattle.bay_base.specs.Exact.{judged}
 use Rattle.il_check.specs.WellTyped.{Checked, checked_of, checked_program, first_fault, faults_of, is_external, place_of_point}
 use Rattle.il_check.specs.declared.fault.CheckFault.{CheckFault}
 use Rattle.il_text.specs.Listing.{Declared, Listing}
-use Rattle.il_text.specs.Names.{upper, same_name}
+use Rattle.bay_base.specs.Names.{upper, same_name}
 use Rattle.bay_main.specs.Bound.{nth_point, point_at, declared_at, device_at}
 use Rattle.bay_main.specs.Device.{Variable}
 use Rattle.bay_main.specs.Load.{found_or, stands_from, point_of_variable, declared_from, initial_device}

@@ -13,7 +13,7 @@ use Rattle.il_check.specs.declared.fault.CheckFault.{CheckFault}
 use Rattle.il_check.specs.declared.fault.CheckFault.TheVariants as check_fault
 use Rattle.il_text.specs.Code as text_code
 use Rattle.il_text.specs.Listing.{Listing}
-use Rattle.il_text.specs.Names.{same_name}
+use Rattle.bay_base.specs.Names.{same_name}
 use Rattle.il_text.specs.Reading.{program_of}
 use Rattle.il_text.specs.declared.fault.TextFault.{TextFault}
 use Rattle.il_text.specs.declared.fault.TextFault.TheVariants as text_fault
@@ -67,18 +67,20 @@ initial_device bay program = record {
   is_stale = false;
 }
 
+-- a refusal has a number and a line; want of memory has no number
+abbrev pub refusal_of : Option ℕ → ℕ → LoadFault
+refusal_of (Some code) line = Refused code line
+refusal_of None line = OutOfMemory
+
 -- why a bay file, a program's text and a program are refused
 abbrev pub bay_refusal : BayFault → LoadFault
-bay_refusal bay_fault.OutOfMemory = OutOfMemory
-bay_refusal fault = Refused (bay_code.code_of fault) 0
+bay_refusal fault = refusal_of (bay_code.code_of fault) 0
 
 abbrev pub text_refusal : TextFault → LoadFault
-text_refusal text_fault.OutOfMemory = OutOfMemory
-text_refusal fault = Refused (text_code.code_of fault) (text_code.line_of fault)
+text_refusal fault = refusal_of (text_code.code_of fault) (text_code.line_of fault)
 
 abbrev pub check_refusal : CheckFault → LoadFault
-check_refusal check_fault.OutOfMemory = OutOfMemory
-check_refusal fault = Refused (check_code.code_of fault) (check_code.line_of fault)
+check_refusal fault = refusal_of (check_code.code_of fault) (check_code.line_of fault)
 
 -- the device of a bay and what the checks made of its program
 abbrev pub of_checked : Bay → Result Checked CheckFault → Result State LoadFault

@@ -3,7 +3,7 @@ use Rattle.std.specs.Prelude.{◌≡◌, ℕ, ◌+◌, ◌==◌, ◌≤◌, ◌<
 use Rattle.std.specs.Fmt.{decimal}
 use Rattle.std.specs.Io.KnownBytes.{Appends}
 use Rattle.bay_config.specs.declared.bay.Switch.{Switch}
-use Rattle.il_text.specs.Names.{same_name}
+use Rattle.bay_base.specs.Names.{same_name}
 use Rattle.bay_main.specs.Code.{step_code_of}
 use Rattle.bay_main.specs.Device.{State, answer_of, stepped, leaf_of, is_truth, value_name, interlocking_of}
 use Rattle.bay_main.specs.Load.{load_of}

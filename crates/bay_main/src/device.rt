@@ -8,7 +8,7 @@ use crate::status::SwitchRows;
 use crate::typed::TypedProgram;
 use bay_config::bay::Switch;
 use bay_tree::leaf::Dbpos;
-use bay_tree::list::Listing;
+use bay_base::listing::Listing;
 use bay_tree::tree::Tree;
 use std::alloc::Global;
 

@@ -25,12 +25,12 @@ impl From<BayFault> for LoadFault {
     ghost from_gives = { λ fault e. e ≡ bay_refusal fault };
 
     fn from(fault: BayFault) -> LoadFault {
-        match fault {
-            BayFault::OutOfMemory => LoadFault::OutOfMemory,
-            other => LoadFault::Refused {
-                code: other.code(),
+        match fault.code() {
+            Some(code) => LoadFault::Refused {
+                code,
                 line: 0,
             },
+            None => LoadFault::OutOfMemory,
         }
     }
 }
@@ -39,12 +39,12 @@ impl From<TextFault> for LoadFault {
     ghost from_gives = { λ fault e. e ≡ text_refusal fault };
 
     fn from(fault: TextFault) -> LoadFault {
-        match fault {
-            TextFault::OutOfMemory => LoadFault::OutOfMemory,
-            other => LoadFault::Refused {
-                code: other.code(),
-                line: other.line(),
+        match fault.code() {
+            Some(code) => LoadFault::Refused {
+                code,
+                line: fault.line(),
             },
+            None => LoadFault::OutOfMemory,
         }
     }
 }
@@ -53,12 +53,12 @@ impl From<CheckFault> for LoadFault {
     ghost from_gives = { λ fault e. e ≡ check_refusal fault };
 
     fn from(fault: CheckFault) -> LoadFault {
-        match fault {
-            CheckFault::OutOfMemory => LoadFault::OutOfMemory,
-            other => LoadFault::Refused {
-                code: other.code(),
-                line: other.line(),
+        match fault.code() {
+            Some(code) => LoadFault::Refused {
+                code,
+                line: fault.line(),
             },
+            None => LoadFault::OutOfMemory,
         }
     }
 }

@@ -8,7 +8,7 @@ ghost use Rattle.bay_main.specs.Places.{HasName, AreNamedStatus, AreNamedRows};
 use crate::status::{StatusRows, SwitchRows};
 use bay_config::bay::Bay;
 use bay_config::nodes::{interlocking_name, node_name};
-use bay_tree::list::Text;
+use bay_base::text::Text;
 use bay_tree::tree::{Handle, Tree};
 use std::alloc::{AllocError, Global};
 

@@ -3,7 +3,7 @@ ghost use Rattle.std.specs.Prelude.{◌≡◌, ◌<◌, length, vec_len, slice_g
 ghost use Rattle.bay_main.specs.Device.{contact_at, scanned, answer_of, stepped, answers_of, stepped_all};
 ghost use Rattle.bay_main.specs.DeviceView.{device_view};
 ghost use Rattle.bay_main.specs.Report.{enabled, enabled_of};
-ghost use Rattle.il_text.specs.Names.{same_name};
+ghost use Rattle.bay_base.specs.Names.{same_name};
 
 use crate::contact::take_position;
 use crate::device::{Device, Event, LAST_MOMENT, Step};
@@ -11,7 +11,7 @@ use crate::fault::StepFault;
 use crate::scan::{run_on_inputs, write_outputs};
 use crate::status::{SwitchRows, is_truth};
 use bay_tree::leaf::Dbpos;
-use il_text::name::same_name;
+use bay_base::names::same_name;
 use std::alloc::AllocError;
 
 /// The rows of the switch at a place.

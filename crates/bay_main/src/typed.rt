@@ -5,7 +5,7 @@ ghost use Rattle.bay_main.specs.Places.{outputs_from};
 ghost use Rattle.bay_main.specs.Slots.{source_value, variables_of};
 ghost use Rattle.il_check.specs.Slots.{AreApart, IsSourceWithin, IsWithin, action_named, items_named};
 
-use bay_tree::list::Text;
+use bay_base::text::Text;
 use il_check::typed::{Source, TypedInstruction};
 use il_text::program::Operator;
 

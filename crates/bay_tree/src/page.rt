@@ -2,7 +2,8 @@
 ghost use Rattle.std.specs.Prelude.{◌≡◌, take, IfOk};
 ghost use Rattle.bay_tree.specs.Rows.{names_of};
 
-use crate::list::{Listing, Text};
+use bay_base::listing::Listing;
+use bay_base::text::Text;
 use crate::row::Row;
 use std::alloc::{AllocError, Global};
 

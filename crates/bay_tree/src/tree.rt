@@ -8,7 +8,7 @@ ghost use Rattle.bay_tree.specs.Page.{page_after, start_after, IsUnknown};
 
 use crate::fault::{NamesFault, TreeFault};
 use crate::leaf::{Kind, Leaf};
-use crate::list::Listing;
+use bay_base::listing::Listing;
 use crate::name::{last_word, parent};
 use crate::page::{Names, first_names};
 use crate::row::Row;

@@ -2,7 +2,7 @@
 ghost use Rattle.std.specs.Prelude.{◌≡◌, ◌++◌, map, false, IfOk, OnOk, option_to_list};
 ghost use Rattle.std.specs.BTreeMap.{get_by_text};
 ghost use Rattle.std.specs.List.{filter_map};
-ghost use Rattle.il_text.specs.Names.{upper};
+ghost use Rattle.bay_base.specs.Names.{upper};
 ghost use Rattle.il_text.specs.Views.{source_of, action_of, entry_of};
 ghost use Rattle.il_check.specs.Noted.{noted};
 ghost use Rattle.il_check.specs.Places as spec;

@@ -6,9 +6,10 @@ ghost use Rattle.il_text.specs.Forms as spec;
 ghost use Rattle.il_text.specs.TokenViews.{symbol_of, symbols_of};
 ghost use Rattle.il_text.specs.Views.{source_of, action_of};
 
-use crate::program::{ElementaryType, Instruction, Operand, Operator, Scope};
+use crate::program::{Instruction, Operand, Operator, Scope};
 use crate::reserved::Reserved;
 use crate::token::{Mark, Token};
+use bay_base::types::ElementaryType;
 
 /// What the lines before a line make of the text.
 #[derive(Clone, Copy, Debug, PartialEq, Eq)]

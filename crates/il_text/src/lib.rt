@@ -11,11 +11,8 @@ pub mod law;
 mod lexeme;
 mod listing;
 mod literal;
-pub mod name;
 mod piece;
 pub mod program;
 pub mod read;
 mod reserved;
-#[cfg(test)]
-mod tests;
 mod token;

@@ -7,7 +7,7 @@ ghost use Rattle.il_text.specs.Literals as spec;
 ghost use Rattle.il_text.specs.Runs.{capped, capped_signed};
 
 use crate::character::byte_at;
-use crate::name::{same_letters, same_name};
+use bay_base::names::{same_letters, same_name};
 
 /// What is known of a word that is to be a literal.
 #[derive(Clone, Copy, Debug, PartialEq, Eq)]

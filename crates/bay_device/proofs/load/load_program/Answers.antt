@@ -3,7 +3,6 @@ use Rattle.il_check.specs.TypedView.{typed_view}
 use Rattle.il_check.specs.WellTyped.{checked_of}
 use Rattle.il_text.specs.Views.{listing_of}
 use Rattle.bay_device.specs.Load.{of_checked}
-use Rattle.bay_device.proofs.PointLemmas.{device-stands}
 use Rattle.bay_device.proofs.load.load_program.Goals as goal
 
 pub returns : goal.returns
@@ -11,4 +10,4 @@ returns c =
     let bay = c.args.bay in
     let program = listing_of c.args.program.now in
     let checked : checked_of bay.points program ≡ Ok (typed_view c.in_ok-typed.typed) = rw c.as_slice.ensures at c.in_ok-typed.ensures in
-    ap (of_checked bay) checked ∙ ap Ok (sym (c.of_state.ensures ∙ c.in_ok-state.ensures ∙ device-stands bay program (typed_view c.in_ok-typed.typed) c.requires checked))
+    ap (of_checked bay) checked ∙ ap Ok (sym (c.of_state.ensures ∙ c.in_ok-state.ensures))

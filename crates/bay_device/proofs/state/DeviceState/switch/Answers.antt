@@ -1,6 +1,6 @@
 use Rattle.std.proofs.Common.{◌∙◌}
 use Rattle.bay_config.specs.declared.bay.Switch.{Switch}
-use Rattle.il_text.specs.Names.{same_name}
+use Rattle.bay_base.specs.Names.{same_name}
 use Rattle.bay_device.specs.declared.switch.BoundSwitch.{BoundSwitch}
 use Rattle.bay_device.proofs.ListLemmas.{position-map}
 use Rattle.bay_device.proofs.state.DeviceState.switch.Goals as goal

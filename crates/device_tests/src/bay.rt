@@ -1,9 +1,11 @@
 // A bay with each of its fields, and tables of files that are refused.
-use super::*;
-use crate::bay::{Point, PointKind};
-use crate::nodes::{interlocking_name, node_name};
+use bay_base::types::ElementaryType;
+use bay_config::bay::{Origin, Point};
+use bay_config::fault::BayFault;
+use bay_config::nodes::{interlocking_name, node_name};
+use bay_config::read::read_bay;
 use bay_tree::leaf::{Dbpos, Leaf, Quality};
-use std::alloc::AllocError;
+use std::alloc::{AllocError, Global};
 use std::test::Fail;
 
 /// One bay, in two lines.
@@ -119,16 +121,16 @@ qb_1 Disconnector Direct 0 3000
 }
 
 fn first_points() -> &'static str {
-    "QA1_POS INT read
-QA1_OPEN BOOL read
-QA1_CLOSED BOOL read
-QA1_ENA_OPN BOOL write
-QA1_ENA_CLS BOOL write
-QB_1_POS INT read
-QB_1_OPEN BOOL read
-QB_1_CLOSED BOOL read
-QB_1_ENA_OPN BOOL write
-QB_1_ENA_CLS BOOL write
+    "QA1_POS INT read 0 Position
+QA1_OPEN BOOL read 0 Open
+QA1_CLOSED BOOL read 0 Closed
+QA1_ENA_OPN BOOL write 0 EnableOpen
+QA1_ENA_CLS BOOL write 0 EnableClose
+QB_1_POS INT read 1 Position
+QB_1_OPEN BOOL read 1 Open
+QB_1_CLOSED BOOL read 1 Closed
+QB_1_ENA_OPN BOOL write 1 EnableOpen
+QB_1_ENA_CLS BOOL write 1 EnableClose
 "
 }
 
@@ -217,26 +219,26 @@ fn changes() -> &'static str {
 }
 
 /// The number of a text's refusal; 1 for a bay.
-fn code_of(alloc: Global, text: &str) -> u8 {
+fn code_of(alloc: Global, text: &str) -> Result<u8, Fail> {
     match read_bay(alloc, text) {
-        Ok(_) => 1,
-        Err(fault) => fault.code(),
+        Ok(_) => Ok(1),
+        Err(fault) => Ok(fault.code().ok_or(fault)?),
     }
 }
 
 /// The number of the refusal of the first bay with one part of its text replaced; 2 where it lacks that part.
-fn code_with(alloc: Global, old: &str, new: &str) -> Result<u8, AllocError> {
+fn code_with(alloc: Global, old: &str, new: &str) -> Result<u8, Fail> {
     match first_bay().split_once(old) {
         Some((front, back)) => {
             let changed = format!(in alloc; "{front}{new}{back}")?;
-            Ok(code_of(alloc, changed.as_str()))
+            code_of(alloc, changed.as_str())
         }
         None => Ok(2),
     }
 }
 
 /// The number of the refusal of a bay with so many switches, whose last lines are these.
-fn code_for(alloc: Global, count: u32, last: &str) -> Result<u8, AllocError> {
+fn code_for(alloc: Global, count: u32, last: &str) -> Result<u8, Fail> {
     let mut text = String::from_str(
         alloc,
         "bay = { domain = \"B\", vendor = \"V\", model = \"M\", revision = \"1\", scan_max_age_ms = 0 }\n",
@@ -248,7 +250,7 @@ fn code_for(alloc: Global, count: u32, last: &str) -> Result<u8, AllocError> {
         text.push_str(entry.as_str())?;
     }
     text.push_str(last)?;
-    Ok(code_of(alloc, text.as_str()))
+    code_of(alloc, text.as_str())
 }
 
 fn shown(leaf: &Option<Leaf>) -> &'static str {
@@ -268,10 +270,11 @@ fn shown(leaf: &Option<Leaf>) -> &'static str {
 
 fn shown_point(point: &Point) -> &'static str {
     match (point.kind, point.writable) {
-        (PointKind::Bool, false) => "BOOL read",
-        (PointKind::Bool, true) => "BOOL write",
-        (PointKind::Int, false) => "INT read",
-        (PointKind::Int, true) => "INT write",
+        (ElementaryType::Bool, false) => "BOOL read",
+        (ElementaryType::Bool, true) => "BOOL write",
+        (ElementaryType::Int, false) => "INT read",
+        (ElementaryType::Int, true) => "INT write",
+        _ => "another type",
     }
 }
 
@@ -298,7 +301,8 @@ fn reads_the_points_and_rows_of_a_bay(rt: HostRuntime) -> Result<(), Fail> {
     let mut points = String::new(rt.alloc());
     for point in bay.points.as_slice() {
         let (name, kind) = (point.name.as_str(), shown_point(point));
-        writeln!(points, "{name} {kind}")?;
+        let Origin::Switch { switch, point } = point.origin;
+        writeln!(points, "{name} {kind} {switch} {point:?}")?;
     }
     assert_eq!(rt; points.as_str(), first_points());
     let mut rows = String::new(rt.alloc());
@@ -340,21 +344,45 @@ fn refuses_the_first_fault(rt: HostRuntime) -> Result<(), Fail> {
 
 #[test]
 fn refuses_empty_texts_and_too_many_switches(rt: HostRuntime) -> Result<(), Fail> {
-    assert_eq!(rt; code_of(rt.alloc(), ""), 51);
-    assert_eq!(rt; code_of(rt.alloc(), "other = 1\n"), 52);
-    assert_eq!(rt; code_of(rt.alloc(), "input = []\n"), 52);
-    assert_eq!(rt; code_of(rt.alloc(), "meter = []\n"), 52);
-    assert_eq!(rt; code_of(rt.alloc(), "[[bay]]\n"), 53);
+    assert_eq!(rt; code_of(rt.alloc(), "")?, 51);
+    assert_eq!(rt; code_of(rt.alloc(), "other = 1\n")?, 52);
+    assert_eq!(rt; code_of(rt.alloc(), "input = []\n")?, 52);
+    assert_eq!(rt; code_of(rt.alloc(), "meter = []\n")?, 52);
+    assert_eq!(rt; code_of(rt.alloc(), "[[bay]]\n")?, 53);
     assert_eq!(rt;
-        code_of(rt.alloc(), "bay = {}\nswitch = [{ other = 1 }]\n"),
+        code_of(rt.alloc(), "bay = {}\nswitch = [{ other = 1 }]\n")?,
         51
     );
-    assert_eq!(rt; code_of(rt.alloc(), "switch = 1\n"), 51);
+    assert_eq!(rt; code_of(rt.alloc(), "switch = 1\n")?, 51);
     assert_eq!(rt; code_for(rt.alloc(), 0, "")?, 51);
     assert_eq!(rt; code_for(rt.alloc(), 0, "[switch]\n")?, 53);
     assert_eq!(rt; code_for(rt.alloc(), 32, "")?, 1);
     assert_eq!(rt; code_for(rt.alloc(), 33, "")?, 55);
     assert_eq!(rt; code_for(rt.alloc(), 32, "other = 1\n")?, 52);
     assert_eq!(rt; code_for(rt.alloc(), 33, "other = 1\n")?, 55);
+    Ok(())
+}
+
+#[test]
+fn messages(rt: HostRuntime) -> Result<(), Fail> {
+    let faults = [
+        (BayFault::BadToml, "the text is not a TOML document"),
+        (BayFault::MissingKey, "a section or a key is missing"),
+        (
+            BayFault::UnknownKey,
+            "a key is unknown, or the kind of control excludes it",
+        ),
+        (
+            BayFault::BadValue,
+            "a value is of a wrong kind or out of its range",
+        ),
+        (BayFault::DuplicateName, "two points have one name"),
+        (BayFault::TooMany, "a section has too many entries"),
+        (BayFault::OutOfMemory, "out of memory"),
+    ];
+    for (fault, message) in faults {
+        let text = format!(in rt.alloc(); "{fault}")?;
+        assert_eq!(rt; text.as_str(), message);
+    }
     Ok(())
 }

@@ -1,11 +1,12 @@
 // The tree of a bay, call by call.
 use crate::bay_rows::ROWS;
-use crate::fault::{NamesFault, TreeFault};
-use crate::leaf::{Dbpos, Kind, Leaf, Quality};
-use crate::list::{Listing, Text};
-use crate::row::Row;
-use crate::search::is_tree;
-use crate::tree::Tree;
+use bay_base::listing::Listing;
+use bay_base::text::Text;
+use bay_tree::fault::{NamesFault, TreeFault};
+use bay_tree::leaf::{Dbpos, Kind, Leaf, Quality};
+use bay_tree::row::Row;
+use bay_tree::search::is_tree;
+use bay_tree::tree::Tree;
 use std::alloc::{AllocError, Global};
 use std::test::Fail;
 
@@ -155,5 +156,21 @@ fn which_rows_make_a_tree(rt: HostRuntime) -> Result<(), Fail> {
         }
         assert_eq!(rt; is_tree(rows.as_slice()), wanted);
     }
+    Ok(())
+}
+
+#[test]
+fn messages(rt: HostRuntime) -> Result<(), Fail> {
+    let unknown = TreeFault::NoSuchName;
+    let wrong = TreeFault::WrongType;
+    let text = format!(in rt.alloc(); "{unknown}; {wrong}")?;
+    assert_eq!(rt;
+        text.as_str(),
+        "no row has this name; the value is of another type than the row's"
+    );
+    let unknown = NamesFault::NoSuchName;
+    let memory = NamesFault::OutOfMemory;
+    let text = format!(in rt.alloc(); "{unknown}; {memory}")?;
+    assert_eq!(rt; text.as_str(), "no row has this name; out of memory");
     Ok(())
 }

@@ -1,33 +1,37 @@
 // A table of programs with their refusals, the limit of names, and one program on slots.
-use crate::check::check;
-use crate::fault::CheckFault;
-use crate::typed::{Source, TypedInstruction};
-use bay_config::bay::{Point, PointKind};
-use bay_tree::list::Text;
+use bay_base::text::Text;
+use bay_base::types::ElementaryType;
+use bay_config::bay::{Origin, Point, SwitchPoint};
+use il_check::check::check;
+use il_check::fault::CheckFault;
+use il_check::typed::{Source, TypedInstruction};
 use il_text::program::Operator;
 use il_text::read::read_program;
 use std::alloc::{AllocError, Global};
 use std::test::Fail;
 
+fn point(
+    alloc: Global,
+    name: &str,
+    kind: ElementaryType,
+    writable: bool,
+    point: SwitchPoint,
+) -> Result<Point, AllocError> {
+    Ok(Point {
+        name: Text::from_str(alloc, name)?,
+        kind,
+        writable,
+        origin: Origin::Switch { switch: 0, point },
+    })
+}
+
 // Three points of a switch: its position, whether it is open, and whether it may be opened.
 fn points(alloc: Global) -> Result<Vec<Point>, AllocError> {
-    let mut points = Vec::new(alloc);
-    points.push(Point {
-        name: Text::from_str(alloc, "QA1_POS")?,
-        kind: PointKind::Int,
-        writable: false,
-    })?;
-    points.push(Point {
-        name: Text::from_str(alloc, "QA1_OPEN")?,
-        kind: PointKind::Bool,
-        writable: false,
-    })?;
-    points.push(Point {
-        name: Text::from_str(alloc, "QA1_ENA_OPN")?,
-        kind: PointKind::Bool,
-        writable: true,
-    })?;
-    Ok(points)
+    let (whole, truth) = (ElementaryType::Int, ElementaryType::Bool);
+    let position = point(alloc, "QA1_POS", whole, false, SwitchPoint::Position)?;
+    let open = point(alloc, "QA1_OPEN", truth, false, SwitchPoint::Open)?;
+    let enable = point(alloc, "QA1_ENA_OPN", truth, true, SwitchPoint::EnableOpen)?;
+    Ok(vec![in alloc; position, open, enable]?)
 }
 
 // The fault's number and line; 0 and 0 where the program passes.
@@ -36,8 +40,7 @@ fn outcome(alloc: Global, text: &str) -> Result<(u8, usize), Fail> {
     let program = read_program(alloc, text)?;
     match check(alloc, &program, points.as_slice()) {
         Ok(_) => Ok((0, 0)),
-        Err(CheckFault::OutOfMemory) => Err(Fail::from(CheckFault::OutOfMemory)),
-        Err(fault) => Ok((fault.code(), fault.line())),
+        Err(fault) => Ok((fault.code().ok_or(fault)?, fault.line())),
     }
 }
 
@@ -153,7 +156,11 @@ fn slots(rt: HostRuntime) -> Result<(), Fail> {
     assert_eq!(rt; typed.names.len(), 3);
     assert_eq!(rt; typed.names[0].as_str(), "QA1_ENA_OPN");
     assert_eq!(rt; typed.names[1].as_str(), "X");
-    assert!(rt; typed.points.as_slice() == [Some(2), None, None].as_slice());
+    let enable = Origin::Switch {
+        switch: 0,
+        point: SwitchPoint::EnableOpen,
+    };
+    assert!(rt; typed.origins.as_slice() == [Some(enable), None, None].as_slice());
     assert!(rt; typed.initial.as_slice() == [false, true, false].as_slice());
     let expected = [
         TypedInstruction::Load {
@@ -171,5 +178,39 @@ fn slots(rt: HostRuntime) -> Result<(), Fail> {
         TypedInstruction::Store { slot: 0 },
     ];
     assert!(rt; typed.instructions.as_slice() == expected.as_slice());
+    Ok(())
+}
+
+#[test]
+fn messages(rt: HostRuntime) -> Result<(), Fail> {
+    let faults = [
+        (
+            CheckFault::OutsideSubset { line: 1 },
+            "the line is outside the language that is checked",
+        ),
+        (CheckFault::UnknownName { line: 1 }, "the name is unknown"),
+        (
+            CheckFault::DuplicateName { line: 1 },
+            "the name is declared twice",
+        ),
+        (
+            CheckFault::TypeMismatch { line: 1 },
+            "the type is not the point's",
+        ),
+        (CheckFault::UnsetResult { line: 1 }, "the result is not set"),
+        (
+            CheckFault::ReadOnly { line: 1 },
+            "the point may only be read",
+        ),
+        (
+            CheckFault::TooMany { line: 1 },
+            "too many names are declared",
+        ),
+        (CheckFault::OutOfMemory, "out of memory"),
+    ];
+    for (fault, message) in faults {
+        let text = format!(in rt.alloc(); "{fault}")?;
+        assert_eq!(rt; text.as_str(), message);
+    }
     Ok(())
 }

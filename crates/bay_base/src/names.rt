@@ -1,6 +1,6 @@
-// How names are compared.
+// How Instruction List compares names.
 ghost use Rattle.std.specs.Prelude.{◌≡◌};
-ghost use Rattle.il_text.specs.Names as spec;
+ghost use Rattle.bay_base.specs.Names as spec;
 
 /// Whether two names are the same: the case of letters isn't significant (IEC 61131-3:2003, 2.1.2).
 pub fn same_name(a: &str, b: &str) -> bool
@@ -9,9 +9,9 @@ pub fn same_name(a: &str, b: &str) -> bool
     same_letters(a.as_bytes(), b.as_bytes())
 }
 
-/// The same of octets.
+/// Whether two lists of octets are the same, ASCII letters in either case.
 #[tactic(auto, using(crate::proofs::NameLemmas::other_lengths, crate::proofs::NameLemmas::same_from, crate::proofs::NameLemmas::other_from, crate::proofs::NameLemmas::same_at_end))]
-pub(crate) fn same_letters(a: &[u8], b: &[u8]) -> bool
+pub fn same_letters(a: &[u8], b: &[u8]) -> bool
     ensures { result ≡ spec.same_name a.now b.now }
 {
     if a.len() != b.len() {

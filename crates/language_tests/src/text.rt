@@ -1,15 +1,16 @@
 // Tables of texts with their refusals, and one program read whole.
-use crate::name::same_name;
-use crate::program::{Instruction, Item, Operand, Operator, Scope};
-use crate::read::read_program;
+use bay_base::names::same_name;
+use il_text::fault::TextFault;
+use il_text::program::{Instruction, Item, Operand, Operator, Scope};
+use il_text::read::read_program;
 use std::alloc::Global;
 use std::test::Fail;
 
 // The fault's number and line; 0 and 0 where the text is read.
-fn outcome(alloc: Global, text: &str) -> (u8, usize) {
+fn outcome(alloc: Global, text: &str) -> Result<(u8, usize), Fail> {
     match read_program(alloc, text) {
-        Ok(_) => (0, 0),
-        Err(fault) => (fault.code(), fault.line()),
+        Ok(_) => Ok((0, 0)),
+        Err(fault) => Ok((fault.code().ok_or(fault)?, fault.line())),
     }
 }
 
@@ -21,7 +22,7 @@ const OPERANDS: [(&str, u8); 64] = [
     ("Q", 0),
     ("et", 0),
     ("_1", 0),
-    ("DINT_TO_LINT", 0),
+    ("DINT_TO_LINT", 61),
     ("5", 61),
     ("+5", 61),
     ("-2147483648", 61),
@@ -85,7 +86,7 @@ const OPERANDS: [(&str, u8); 64] = [
 fn operands(rt: HostRuntime) -> Result<(), Fail> {
     for (operand, code) in OPERANDS {
         let text = format!(in rt.alloc(); "PROGRAM P\nLD {operand}\nEND_PROGRAM\n")?;
-        let (found, line) = outcome(rt.alloc(), text.as_str());
+        let (found, line) = outcome(rt.alloc(), text.as_str())?;
         assert_eq!(rt; found, code, "{operand}");
         assert_eq!(rt; line, if code == 0 { 0 } else { 2 }, "{operand}");
     }
@@ -200,7 +201,7 @@ const TEXTS: [(&str, u8, usize); 62] = [
 #[test]
 fn texts(rt: HostRuntime) -> Result<(), Fail> {
     for (text, code, line) in TEXTS {
-        let (found_code, found_line) = outcome(rt.alloc(), text);
+        let (found_code, found_line) = outcome(rt.alloc(), text)?;
         assert_eq!(rt; found_code, code, "{text}");
         assert_eq!(rt; found_line, line, "{text}");
     }
@@ -220,13 +221,13 @@ fn long_text(alloc: Global, lines: usize, end: &str) -> Result<String, std::allo
 #[test]
 fn lengths(rt: HostRuntime) -> Result<(), Fail> {
     let fits = long_text(rt.alloc(), 4_000, "END_PROGRAM\n")?;
-    assert_eq!(rt; outcome(rt.alloc(), fits.as_str()), (0, 0));
+    assert_eq!(rt; outcome(rt.alloc(), fits.as_str())?, (0, 0));
     let long = long_text(rt.alloc(), 4_001, "END_PROGRAM\n")?;
-    assert_eq!(rt; outcome(rt.alloc(), long.as_str()), (64, 4_002));
+    assert_eq!(rt; outcome(rt.alloc(), long.as_str())?, (64, 4_002));
     let bad = long_text(rt.alloc(), 4_000, "LD\nEND_PROGRAM\n")?;
-    assert_eq!(rt; outcome(rt.alloc(), bad.as_str()), (61, 4_002));
+    assert_eq!(rt; outcome(rt.alloc(), bad.as_str())?, (61, 4_002));
     let cut_off = long_text(rt.alloc(), 4_001, "")?;
-    assert_eq!(rt; outcome(rt.alloc(), cut_off.as_str()), (61, 4_002));
+    assert_eq!(rt; outcome(rt.alloc(), cut_off.as_str())?, (61, 4_002));
     Ok(())
 }
 
@@ -254,5 +255,24 @@ fn program(rt: HostRuntime) -> Result<(), Fail> {
     };
     assert!(rt; *instruction == expected);
     assert!(rt; same_name(program.declarations[0].name, "QA1_OPEN"));
+    Ok(())
+}
+
+#[test]
+fn messages(rt: HostRuntime) -> Result<(), Fail> {
+    let faults = [
+        (TextFault::BadToken { line: 1 }, "a token cannot be read"),
+        (TextFault::BadLine { line: 1 }, "a line cannot be read"),
+        (
+            TextFault::BadLiteral { line: 1 },
+            "a literal is out of range",
+        ),
+        (TextFault::TooLong { line: 1 }, "the program is too long"),
+        (TextFault::OutOfMemory, "out of memory"),
+    ];
+    for (fault, message) in faults {
+        let text = format!(in rt.alloc(); "{fault}")?;
+        assert_eq!(rt; text.as_str(), message);
+    }
     Ok(())
 }

@@ -1,5 +1,5 @@
 // The names of a bay with a breaker, controlled by select before operate, and a disconnector, controlled directly.
-use crate::leaf::Kind;
+use bay_tree::leaf::Kind;
 
 /// Each name, with the kind of its value; None for a structure.
 pub static ROWS: [(&str, Option<Kind>); 154] = [

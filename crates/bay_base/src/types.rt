@@ -1,0 +1,27 @@
+// The elementary types that this controller has.
+ghost use Rattle.std.specs.Prelude.{◌≡◌};
+ghost use Rattle.bay_base.specs.Types.{same_type};
+
+/// An elementary type (IEC 61131-3:2003, table 10). Points, variables and slots have one.
+#[derive(Clone, Copy, Debug, PartialEq, Eq)]
+pub enum ElementaryType {
+    /// FALSE or TRUE.
+    Bool,
+    /// A signed number of 16 bits.
+    Int,
+    /// A signed number of 32 bits.
+    Dint,
+    /// A signed number of 64 bits.
+    Lint,
+    /// A duration of 0 to 2,147,483,647 milliseconds.
+    Time,
+}
+
+impl ElementaryType {
+    /// Whether two types are one.
+    pub fn is(self, other: ElementaryType) -> bool
+        ensures { result ≡ same_type self other }
+    {
+        self == other
+    }
+}

@@ -1,0 +1,10 @@
+// Tests of the crates of the device, by their public calls: `tree` of bay_tree over the names of a bay
+// (`bay_rows`), `bay` of bay_config.
+#![tactic(auto)]
+
+#[cfg(test)]
+mod bay;
+#[cfg(test)]
+mod bay_rows;
+#[cfg(test)]
+mod tree;
