@@ -1,5 +1,5 @@
 -- What load makes of a bay and a checked program.
-use Rattle.std.proofs.Common.{◌≡◌, ℕ, zero, suc, ◌+◌, ◌<◌, Bool, List, [], ◌∷◌, ◌++◌, length, map, get_or, slice_get, Option, Some, None, option_map, refl, ap, sym, ◌∙◌, subst, arith}
+use Rattle.std.proofs.Common.{◌≡◌, ℕ, zero, suc, ◌+◌, ◌<◌, Bool, List, [], ◌∷◌, ◌++◌, length, get_or, slice_get, Option, Some, refl, ap, sym, ◌∙◌, arith}
 use Rattle.std.proofs.lemmas.Option.{slice_get_within}
 use Rattle.bay_tree.specs.declared.row.Row.{Row}
 use Rattle.bay_config.specs.declared.bay.Bay.{Bay}
@@ -8,10 +8,9 @@ use Rattle.il_check.specs.Slots.{items_named}
 use Rattle.il_check.specs.WellTyped.{Checked}
 use Rattle.bay_device.specs.Bound.{IsProgram, bound_from}
 use Rattle.bay_device.specs.Load.{initial_device}
-use Rattle.bay_device.specs.Device.{Variable}
-use Rattle.bay_device.specs.Layout.{Layout, switches_of, switch_in, IsBound, AreBound}
-use Rattle.bay_device.specs.Names.{SwitchNames, switch_names, names_by_nodes, node_of, interlocking_of}
-use Rattle.bay_device.specs.Nodes.{AreAllNodes, AreRowsOf, AreAllRows, nodes_names}
+use Rattle.bay_device.specs.Layout.{Layout, switches_of, AreBound}
+use Rattle.bay_device.specs.Names.{switch_names, names_by_nodes, node_of}
+use Rattle.bay_device.specs.Nodes.{AreAllNodes, AreAllRows}
 use Rattle.bay_device.specs.Slots.{outputs_at, variables_of, declared_of}
 use Rattle.bay_device.specs.declared.nodes.Nodes.{Nodes}
 use Rattle.bay_device.specs.declared.program.BoundProgram.{BoundProgram}

@@ -1,5 +1,5 @@
 -- The rows that a bay has for its switches, and the handles of their names.
-use Rattle.std.proofs.Common.{◌≡◌, ◌≢◌, ℕ, Bool, true, false, cond, zero, suc, ◌+◌, ◌<◌, List, [], ◌∷◌, ◌++◌, length, map, find, slice_get, slice_index_or, Option, Some, None, option_map, option_and_then, codes, Contains, refl, ap, sym, ◌∙◌, subst, arith, ⊎_elim, ◌⊎◌, All, Err}
+use Rattle.std.proofs.Common.{◌≡◌, ◌≢◌, ℕ, Bool, true, false, cond, zero, suc, List, [], ◌∷◌, ◌++◌, length, find, slice_get, slice_index_or, Option, Some, None, option_map, option_and_then, codes, Contains, refl, ap, sym, ◌∙◌, subst, arith, ⊎_elim, All, Err}
 use Rattle.std.specs.Option.{ok_or}
 use Rattle.std.specs.Str.{bytes_eq}
 use Rattle.std.proofs.lemmas.List.{get_or_default}
@@ -8,7 +8,7 @@ use Rattle.bay_tree.specs.declared.row.Row.{Row}
 use Rattle.bay_tree.specs.declared.leaf.Leaf.{Leaf}
 use Rattle.bay_tree.specs.declared.leaf.Kind.{Kind}
 use Rattle.bay_tree.specs.Kinds.{kind_of}
-use Rattle.bay_tree.specs.Rows.{IsTree, row_at, name_at, leaf_at, leaf_of, kind_at, names_of, kinds_of}
+use Rattle.bay_tree.specs.Rows.{IsTree, row_at, name_at, leaf_of, kind_at, kinds_of}
 use Rattle.bay_tree.specs.declared.leaf.Leaf.TheVariants as leaf
 use Rattle.bay_tree.specs.declared.leaf.Quality.TheVariants.{Good}
 use Rattle.bay_tree.proofs.NamedLemmas.{leaf-named}

@@ -1,19 +1,18 @@
 -- What a scan makes of a device.
-use Rattle.std.proofs.Common.{◌≡◌, ℕ, zero, suc, ◌+◌, ◌<◌, Bool, true, false, cond, List, [], ◌∷◌, length, map, take, get_or, slice_get, slice_set, unwrap_or, Option, Some, None, option_map, All, refl, ap, sym, ◌∙◌, subst, arith, add-one}
+use Rattle.std.proofs.Common.{◌≡◌, ℕ, zero, suc, ◌+◌, ◌<◌, Bool, true, false, cond, List, [], ◌∷◌, length, take, get_or, slice_get, slice_set, unwrap_or, Option, Some, None, option_map, refl, ap, sym, ◌∙◌, subst, arith, add-one}
 use Rattle.std.proofs.lemmas.Iterator.Adapters.{position_from-zero}
 use Rattle.std.proofs.lemmas.Option.{slice_get-map, slice_get-get_or}
 use Rattle.std.specs.List.{position_from}
 use Rattle.bay_tree.specs.declared.row.Row.{Row}
-use Rattle.bay_tree.specs.declared.leaf.Leaf.{Leaf}
 use Rattle.bay_tree.specs.Rows.{leaf_of}
 use Rattle.bay_config.specs.declared.bay.Switch.{Switch}
 use Rattle.il_text.specs.Meaning.{Value, truth, Variables, mean}
 use Rattle.il_check.specs.Slots.{AreApart, items_named}
-use Rattle.bay_device.specs.Device.{State, is_point, input_of, input_of_switch, input_value, or_else, with_inputs, output_of, with_output, with_outputs, scanned}
-use Rattle.bay_device.specs.Layout.{Layout, layout_of, name_in, switch_in, switches_of, IsBound, AreBound, AreKinded, AreSwitchRows}
+use Rattle.bay_device.specs.Device.{is_point, input_of, input_of_switch, input_value, or_else, with_inputs, output_of, with_output, with_outputs, scanned}
+use Rattle.bay_device.specs.Layout.{Layout, layout_of, switches_of, IsBound, AreBound, AreKinded}
 use Rattle.bay_device.specs.Names.{SwitchNames, switch_names}
 use Rattle.bay_device.specs.Scans.{switch_input, slot_input, inputs_put, outputs_put}
-use Rattle.bay_device.specs.Slots.{variables_of, declared_of, output_slot, outputs_at, slot_value}
+use Rattle.bay_device.specs.Slots.{variables_of, declared_of, output_slot, slot_value}
 use Rattle.bay_device.specs.StateView.{state_view}
 use Rattle.bay_device.specs.declared.state.DeviceState.{DeviceState}
 use Rattle.bay_device.specs.declared.switch.BoundSwitch.{BoundSwitch}

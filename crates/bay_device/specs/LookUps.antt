@@ -1,7 +1,6 @@
 -- What the look-ups of a device answer.
 use Rattle.std.specs.Prelude.{ℕ, Bool, true, cond, nat_lt, List, length, position, Option, None, Some, codes}
 use Rattle.bay_tree.specs.Rows.{leaf_of}
-use Rattle.bay_config.specs.declared.bay.Switch.{Switch}
 use Rattle.bay_base.specs.Names.{same_name}
 use Rattle.bay_device.specs.Device.{State, is_truth}
 use Rattle.bay_device.specs.Names.{status_names, interlocking_of}

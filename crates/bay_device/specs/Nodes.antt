@@ -1,5 +1,5 @@
 -- The rows of a bay's switches by the names of their nodes, and the handles that a tree gives for them.
-use Rattle.std.specs.Prelude.{◌≡◌, ◌≢◌, ℕ, List, length, Option, Some, None, option_map, slice_get}
+use Rattle.std.specs.Prelude.{◌≡◌, ◌≢◌, ℕ, List, Some, None, option_map, slice_get}
 use Rattle.bay_tree.specs.Kinds.{kind_of}
 use Rattle.bay_tree.specs.Rows.{name_at, leaf_at, leaf_of}
 use Rattle.bay_tree.specs.declared.row.Row.{Row}
@@ -7,7 +7,7 @@ use Rattle.bay_tree.specs.declared.leaf.Kind.{Kind}
 use Rattle.bay_tree.specs.declared.leaf.Kind.TheVariants as kind
 use Rattle.bay_config.specs.declared.bay.Bay.{Bay}
 use Rattle.bay_config.specs.Laws.{NamesPosition, NamesInterlocking}
-use Rattle.bay_device.specs.Layout.{Layout, layout_of, switch_in, AreSwitchRows}
+use Rattle.bay_device.specs.Layout.{Layout, switch_in, AreSwitchRows}
 use Rattle.bay_device.specs.Names.{StatusNames, SwitchNames, names_by_nodes}
 use Rattle.bay_device.specs.declared.nodes.Nodes.{Nodes}
 use Rattle.bay_device.specs.declared.rows.StatusRows.{StatusRows}

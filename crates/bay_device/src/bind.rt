@@ -9,8 +9,8 @@ use crate::program::{BoundProgram, SwitchOutputs};
 use crate::rows::SwitchRows;
 use crate::switch::BoundSwitch;
 use crate::values::Values;
-use bay_config::bay::{Origin, Switch, SwitchPoint};
 use bay_base::listing::Listing;
+use bay_config::bay::{Origin, Switch, SwitchPoint};
 use il_check::typed::Typed;
 use std::alloc::{AllocError, Global};
 

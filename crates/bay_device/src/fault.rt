@@ -26,10 +26,7 @@ impl From<BayFault> for LoadFault {
 
     fn from(fault: BayFault) -> LoadFault {
         match fault.code() {
-            Some(code) => LoadFault::Refused {
-                code,
-                line: 0,
-            },
+            Some(code) => LoadFault::Refused { code, line: 0 },
             None => LoadFault::OutOfMemory,
         }
     }

@@ -6,9 +6,9 @@ ghost use Rattle.bay_device.specs.Names.{status_names};
 ghost use Rattle.bay_device.specs.Nodes.{AreNodesOf, AreAllNodes, nodes_names, HasSwitch, HasSwitches, AreThere, IsFound, AreFound, AreRowsOf, AreAllRows};
 
 use crate::rows::{StatusRows, SwitchRows};
+use bay_base::text::Text;
 use bay_config::bay::Bay;
 use bay_config::nodes::{interlocking_name, node_name};
-use bay_base::text::Text;
 use bay_tree::tree::{Handle, Tree};
 use std::alloc::{AllocError, Global};
 

@@ -37,12 +37,7 @@ impl DeviceState {
             &self.program,
             &mut self.values,
         );
-        write_outputs(
-            &mut self.tree,
-            self.switches.as_slice(),
-            &self.values,
-            now,
-        );
+        write_outputs(&mut self.tree, self.switches.as_slice(), &self.values, now);
         self.last_scan = Some(now);
         self.is_stale = false;
         self.moment = now;

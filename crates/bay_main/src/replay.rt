@@ -1,19 +1,18 @@
 // Reads a scenario, replays it, and writes its report.
 ghost use Rattle.std.specs.Prelude.{◌≡◌, ◌+◌, ◌≤◌, length, true, OnErr, OnOk, IfOk};
 ghost use Rattle.std.specs.Io.KnownBytes.{Appends};
-ghost use Rattle.bay_main.specs.DeviceView.{device_view};
 ghost use Rattle.bay_main.specs.Report.{DeviceReport, MayRefuse, LoadsReport, IsReport, IsReplay, Reports, ReportsPart};
 ghost use Rattle.bay_main.specs.Scenario.{lines_of};
 ghost use Rattle.bay_main.specs.ScenarioView.{scenario_view};
 ghost use Rattle.bay_main.specs.Sent.{SendsPart};
 
-use crate::device::Device;
-use crate::fault::LoadFault;
 use crate::input::{ReadFault, SCENARIO_LIMIT, Watched, read_all};
 use crate::load::load_octets;
 use crate::outbox::{Outbox, WriteFault, write_out};
 use crate::report::{answer_line, refusal_text};
 use crate::scenario::{Scenario, cut_line, cut_scenario};
+use bay_device::device::Device;
+use bay_device::fault::LoadFault;
 use std::alloc::Global;
 use std::io::{Read, Write};
 
@@ -49,8 +48,8 @@ fn replay_trace<W: Write>(
     writer: &mut W,
 ) -> Result<u8, WriteFault>
     requires { length trace.now ≤ SCENARIO_LIMIT }
-    ensures ok { IfOk result (Reports (DeviceReport (device_view device.old) (lines_of trace.now)) (W.contents writer.old) (W.contents writer.new)) }
-    ensures err { OnErr result (ReportsPart (DeviceReport (device_view device.old) (lines_of trace.now)) (W.contents writer.old) (W.contents writer.new)) }
+    ensures ok { IfOk result (Reports (DeviceReport device.old (lines_of trace.now)) (W.contents writer.old) (W.contents writer.new)) }
+    ensures err { OnErr result (ReportsPart (DeviceReport device.old (lines_of trace.now)) (W.contents writer.old) (W.contents writer.new)) }
 {
     let mut outbox = Outbox::new(alloc);
     match outbox.put(writer, b"loaded\n") {

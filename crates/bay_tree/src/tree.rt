@@ -8,11 +8,11 @@ ghost use Rattle.bay_tree.specs.Page.{page_after, start_after, IsUnknown};
 
 use crate::fault::{NamesFault, TreeFault};
 use crate::leaf::{Kind, Leaf};
-use bay_base::listing::Listing;
 use crate::name::{last_word, parent};
 use crate::page::{Names, first_names};
 use crate::row::Row;
 use crate::search::{first_below_from, place_of, start_after};
+use bay_base::listing::Listing;
 use std::alloc::{AllocError, Global};
 use std::marker::Model;
 

@@ -1,7 +1,7 @@
 use Rattle.std.proofs.Common.{◌≡◌, length, ap, sym, ◌∙◌}
 use Rattle.il_check.specs.TypedView.{typed_view}
 use Rattle.bay_device.specs.Bound.{bound_from}
-use Rattle.bay_device.specs.Layout.{Layout, layout_of, AreBound, switches_of}
+use Rattle.bay_device.specs.Layout.{Layout, layout_of, switches_of}
 use Rattle.bay_device.specs.Nodes.{AreAllRows}
 use Rattle.bay_device.proofs.LoadLemmas.{are-bound, bound-switches, loaded-view}
 use Rattle.bay_device.proofs.NodeLemmas.{has-switches}

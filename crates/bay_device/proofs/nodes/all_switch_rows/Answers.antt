@@ -1,6 +1,5 @@
 use Rattle.std.proofs.Common.{◌≡◌, Some, slice_get, length, refl}
 use Rattle.bay_device.specs.Layout.{layout_of}
-
 use Rattle.std.proofs.lemmas.Option.{slice_get_read}
 use Rattle.bay_device.proofs.ListLemmas.{length-snoc}
 use Rattle.bay_device.proofs.NodeLemmas.{rows-snoc}

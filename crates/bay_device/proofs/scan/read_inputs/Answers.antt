@@ -1,4 +1,4 @@
-use Rattle.std.proofs.Common.{◌≡◌, ◌∙◌, sym, refl}
+use Rattle.std.proofs.Common.{◌∙◌}
 use Rattle.std.proofs.Math.ListN.{length-set}
 use Rattle.bay_device.proofs.ScanLemmas.{inputs-turn, inputs-kept}
 use Rattle.bay_device.proofs.scan.read_inputs.Goals.{in-Some, in-None}
@@ -7,7 +7,7 @@ use Rattle.bay_device.proofs.scan.read_inputs.Goals as goal
 pub loop-i-preserved : goal.loop-i-preserved
 loop-i-preserved c =
     elim c.match-slot_input.branch [
-      in-Some w ↦ record {
+      | in-Some w ↦ record {
         sized = rw (w.values-is, w.set.ensures) (length-set c.loop-i.values c.loop-i.i _ ∙ c.loop-i.invariant.sized);
         read =
             rw (w.values-is, w.set.ensures, c.loop-i.invariant.read)

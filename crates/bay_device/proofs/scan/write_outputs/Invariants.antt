@@ -7,5 +7,5 @@ abbrev pub invariant-loop-bound : goal.invariant-loop-bound
 invariant-loop-bound l = record {
   layout : layout_of l.tree ≡ layout_of l.initial.tree;
   written : outputs_put (layout_of l.initial.tree) l.switches l.values l.now l.initial.tree
-    ≡ outputs_put (layout_of l.initial.tree) (drop l.bound-index l.switches) l.values l.now l.tree;
+      ≡ outputs_put (layout_of l.initial.tree) (drop l.bound-index l.switches) l.values l.now l.tree;
 }

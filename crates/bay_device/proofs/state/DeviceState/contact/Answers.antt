@@ -1,12 +1,11 @@
 use Rattle.std.proofs.Common.{◌≡◌, Some, ap, sym, ◌∙◌, slice_get, option_map}
 use Rattle.std.proofs.lemmas.Option.{slice_get-map}
-use Rattle.bay_config.specs.declared.bay.Switch.{Switch}
-use Rattle.bay_device.specs.Device.{Outcome, contact_outcome}
-use Rattle.bay_device.specs.Layout.{layout_of, switch_in, switches_of, IsBound}
+use Rattle.bay_device.specs.Device.{contact_outcome}
+use Rattle.bay_device.specs.Layout.{layout_of, switch_in, switches_of}
 use Rattle.bay_device.specs.StateView.{state_view}
 use Rattle.bay_device.specs.declared.switch.BoundSwitch.{BoundSwitch}
 use Rattle.bay_device.proofs.ContactLemmas.{contact-done}
-use Rattle.bay_device.proofs.ListLemmas.{got-some, got-none}
+use Rattle.bay_device.proofs.ListLemmas.{got-some}
 use Rattle.bay_device.proofs.state.DeviceState.contact.Goals as goal
 
 pub take_position-changed-requires : goal.take_position-changed-requires

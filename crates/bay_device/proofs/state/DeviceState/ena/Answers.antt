@@ -1,13 +1,12 @@
 use Rattle.std.proofs.Common.{◌≡◌, ◌<◌, Bool, true, cond, nat_lt, Option, Some, None, option_map, slice_get, length, ap, ◌∙◌, arith, ℕ}
 use Rattle.std.proofs.lemmas.Bool.Decides.{nat_tests}
 use Rattle.std.proofs.lemmas.Option.{slice_get-map, slice_get_within}
-use Rattle.bay_config.specs.declared.bay.Switch.{Switch}
 use Rattle.bay_tree.specs.Rows.{leaf_of}
 use Rattle.bay_device.specs.Device.{is_truth}
 use Rattle.bay_device.specs.LookUps.{may_open}
 use Rattle.bay_device.specs.Names.{SwitchNames}
 use Rattle.bay_device.specs.StateView.{state_view}
-use Rattle.bay_device.specs.Layout.{layout_of, IsBound, switches_of}
+use Rattle.bay_device.specs.Layout.{switches_of}
 use Rattle.bay_device.specs.declared.switch.BoundSwitch.{BoundSwitch}
 use Rattle.bay_device.proofs.ListLemmas.{got-some}
 use Rattle.bay_device.proofs.state.DeviceState.ena.Goals as goal

@@ -1,4 +1,3 @@
-use Rattle.std.proofs.Common.{◌≡◌}
 use Rattle.bay_device.specs.Layout.{layout_of}
 use Rattle.bay_device.proofs.ScanLemmas.{kinded, scan-done}
 use Rattle.bay_device.proofs.state.DeviceState.scan.Goals as goal
