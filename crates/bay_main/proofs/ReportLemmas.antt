@@ -1,10 +1,11 @@
 -- How far a report has come.
-use Rattle.std.proofs.Common.{◌≡◌, ℕ, suc, ◌+◌, ◌<◌, Bool, true, false, List, [], ◌∷◌, ◌++◌, length, map, drop, get_or, codes, Option, Result, Ok, Err, IsErr, subst, refl, ap, sym, ◌∙◌, arith, add-one, append-nil, append_assoc, inl, inr, MatchBool}
+use Rattle.std.proofs.Common.{◌≡◌, ℕ, zero, suc, ◌+◌, ◌<◌, Bool, true, false, List, [], ◌∷◌, ◌++◌, length, map, drop, get_or, codes, Option, Some, slice_get, Result, Ok, Err, IsErr, subst, refl, ap, sym, ◌∙◌, arith, add-one, append-nil, append_assoc, inl, inr, MatchBool}
 use Rattle.std.proofs.Math.Seq.{drop-cons}
+use Rattle.std.proofs.lemmas.Option.{get_or_from_slice_get}
 use Rattle.std.specs.Io.KnownBytes.{Appends}
 use Rattle.bay_config.specs.declared.bay.Switch.{Switch}
-use Rattle.bay_main.specs.Device.{State}
-use Rattle.bay_main.specs.Report.{switch_text, enabled, switches_text, LineAnswer, line_answer, TraceReport, DeviceReport, Reports, ReportsPart, Prints}
+use Rattle.bay_device.specs.Device.{State}
+use Rattle.bay_main.specs.Report.{switch_part, switches_text, LineAnswer, line_answer, TraceReport, DeviceReport, Reports, ReportsPart, Prints}
 use Rattle.bay_main.specs.Scenario.{content, lines_of, CutsLine}
 use Rattle.bay_main.specs.Sent.{Sends, SendsPart}
 use Rattle.bay_main.specs.Trace.{trace_line_of}
@@ -12,12 +13,20 @@ use Rattle.bay_main.specs.Watched.{Writing}
 use Rattle.bay_main.specs.declared.outbox.WriteFault.{WriteFault}
 use Rattle.bay_main.proofs.SentLemmas.{Sends-more, SendsPart-of_more, SendsPart-more, Sends-trans}
 
+within : (ss : List Switch) (j : ℕ) → j < length ss → (x : Switch) × (slice_get ss j ≡ Some x)
+within [] j h = absurd (omega arith)
+within (x ∷ ss) zero h = (x, refl)
+within (x ∷ ss) (suc j) h = within ss j (omega arith)
+
 -- one switch more is told
-pub switches-turn : (s : State) (k : ℕ) (switches : List Switch) (switch : Switch) (old all : List ℕ) → k < length switches → switch ≡ get_or switches k switch → all ≡ old ++ switches_text s k (drop k switches)
-    → all ≡ (old ++ switch_text switch.id (enabled s k (codes "$ST$EnaOpn")) (enabled s k (codes "$ST$EnaCls"))) ++ switches_text s (k + 1) (drop (k + 1) switches)
-switches-turn s k switches switch old all lt is e =
-    let next : drop k switches ≡ switch ∷ drop (k + 1) switches = rw (add-one, drop-cons switches k switch) (ap (λ x. x ∷ drop (suc k) switches) (sym is)) in
-    e ∙ ap (λ ss. old ++ switches_text s k ss) next ∙ sym (append_assoc old _ _)
+pub switches-turn : (s : State) (k : ℕ) (switches : List Switch) (old all : List ℕ) → k < length switches → all ≡ old ++ switches_text s k (drop k switches)
+    → all ≡ (old ++ switch_part s k (slice_get switches k)) ++ switches_text s (k + 1) (drop (k + 1) switches)
+switches-turn s k switches old all lt e =
+    let w = within switches k lt in
+    let here : get_or switches k w.0 ≡ w.0 = get_or_from_slice_get switches k w.0 w.0 w.1 in
+    let next : drop k switches ≡ w.0 ∷ drop (k + 1) switches = rw (add-one, drop-cons switches k w.0) (ap (λ x. x ∷ drop (suc k) switches) here) in
+    let part : switch_part s k (slice_get switches k) ≡ switch_part s k (Some w.0) = ap (switch_part s k) w.1 in
+    e ∙ ap (λ ss. old ++ switches_text s k ss) next ∙ sym (append_assoc old _ _) ∙ ap (λ p. (old ++ p) ++ switches_text s (k + 1) (drop (k + 1) switches)) (sym part)
 
 -- what was printed so far, and what may follow it
 pub record Progress (May : List ℕ → ℕ → Type 0) (s : State) (k : ℕ) (rest : List (List ℕ)) (old new : Option (List ℕ)) (pending : List ℕ) : Type 0 where

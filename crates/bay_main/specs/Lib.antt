@@ -1,17 +1,8 @@
-pub mod Bound
-pub mod Code
-pub mod Device
-pub mod DeviceView
-pub mod Kinds
 pub mod Load
-pub mod Nodes
-pub mod NodesOf
-pub mod Places
 pub mod Report
 pub mod Scenario
 pub mod ScenarioView
 pub mod Sent
-pub mod Slots
 pub mod Trace
 pub mod TraceView
 pub mod Ending

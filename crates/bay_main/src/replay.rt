@@ -1,14 +1,11 @@
 // Reads a scenario, replays it, and writes its report.
 ghost use Rattle.std.specs.Prelude.{◌≡◌, ◌+◌, ◌≤◌, length, true, OnOk, is_err};
-ghost use Rattle.bay_main.specs.DeviceView.{device_view};
 ghost use Rattle.bay_main.specs.Input.{scenario_limit};
 ghost use Rattle.bay_main.specs.Ending.{ending_of};
 ghost use Rattle.bay_main.specs.Report.{DeviceReport, IsLast, MayRefuse, LoadsReport, IsReport, IsReplay, Prints};
 ghost use Rattle.bay_main.specs.Scenario.{lines_of};
 ghost use Rattle.bay_main.specs.ScenarioView.{scenario_view};
 
-use crate::device::Device;
-use crate::fault::LoadFault;
 use crate::input::{ReadFault, read_all};
 use crate::load::load_octets;
 use crate::outbox::{Outbox, WriteFault, write_last};
@@ -16,6 +13,8 @@ use crate::reader::WatchedReader;
 use crate::report::{answer_line, refusal_text};
 use crate::scenario::{Scenario, cut_line, cut_scenario};
 use crate::writer::WatchedWriter;
+use bay_device::device::Device;
+use bay_device::fault::LoadFault;
 use std::alloc::Global;
 use std::io::{Read, Write};
 
@@ -48,7 +47,7 @@ fn replay_trace<W: Write>(
     writer: &mut WatchedWriter<W>,
 ) -> Result<u8, WriteFault>
     requires { length trace.now ≤ scenario_limit }
-    ensures { Prints W.contents (DeviceReport (device_view device.old) (lines_of trace.now)) writer.old writer.new result }
+    ensures { Prints W.contents (DeviceReport device.old (lines_of trace.now)) writer.old writer.new result }
 {
     let mut outbox = Outbox::new(alloc);
     outbox.put(writer, b"loaded\n")?;

@@ -2,9 +2,9 @@
 ghost use Rattle.std.specs.Prelude.{◌≡◌, take, IfOk};
 ghost use Rattle.bay_tree.specs.Rows.{names_of};
 
+use crate::row::Row;
 use bay_base::listing::Listing;
 use bay_base::text::Text;
-use crate::row::Row;
 use std::alloc::{AllocError, Global};
 
 /// The first names that follow a name, and whether there are more.

@@ -1,6 +1,5 @@
 use Rattle.std.proofs.Common.{◌≡◌, ◌∙◌, sym, ap, length, arith}
 use Rattle.std.proofs.lemmas.Bool.Decides.{nat_tests}
-use Rattle.bay_main.specs.DeviceView.{device_view}
 use Rattle.bay_main.specs.Report.{DeviceReport}
 use Rattle.bay_main.specs.Scenario.{lines_of}
 use Rattle.bay_main.proofs.SentLemmas.{Sends-as, SendsPart-as, Appends-as}
@@ -9,13 +8,13 @@ use Rattle.bay_main.proofs.replay.replay_trace.Goals as goal
 
 pub returns-in_err-put : goal.returns-in_err-put
 returns-in_err-put g c =
-    Prints-err g.W.Write.contents (DeviceReport (device_view c.args.device.now) (lines_of c.args.trace.now)) c.args.writer.now c.put.new.writer c.from_residual.result c.from_residual.ensures.0
+    Prints-err g.W.Write.contents (DeviceReport c.args.device.now (lines_of c.args.trace.now)) c.args.writer.now c.put.new.writer c.from_residual.result c.from_residual.ensures.0
     (Progress-load_cut _ _ _ _ _ c.new-outbox.ensures c.in_err-put.ensures.err)
     c.in_err-put.ensures.fault
 
 pub returns-in_err-finish : goal.returns-in_err-finish
 returns-in_err-finish g c =
-    Prints-err g.W.Write.contents (DeviceReport (device_view c.args.device.now) (lines_of c.args.trace.now)) c.args.writer.now c.finish.new.writer c.from_residual-in_err-finish.result c.from_residual-in_err-finish.ensures.0
+    Prints-err g.W.Write.contents (DeviceReport c.args.device.now (lines_of c.args.trace.now)) c.args.writer.now c.finish.new.writer c.from_residual-in_err-finish.result c.from_residual-in_err-finish.ensures.0
     (Progress-memory_cut _ _ _ _ _ _ _ _ c.loop-rest.invariant.progress c.in_err-finish.ensures.err)
     c.in_err-finish.ensures.fault
 
@@ -26,7 +25,7 @@ returns-in_default g c =
 pub returns-in_err-finish-2 : goal.returns-in_err-finish-2
 returns-in_err-finish-2 g c =
     let said = c.as_bytes.ensures.value ∙ c.in-Ok.ensures.text in
-    Prints-err g.W.Write.contents (DeviceReport (device_view c.args.device.now) (lines_of c.args.trace.now)) c.args.writer.now c.finish-then-answer.new.writer c.from_residual-in_err-finish-2.result c.from_residual-in_err-finish-2.ensures.0
+    Prints-err g.W.Write.contents (DeviceReport c.args.device.now (lines_of c.args.trace.now)) c.args.writer.now c.finish-then-answer.new.writer c.from_residual-in_err-finish-2.result c.from_residual-in_err-finish-2.ensures.0
     (Progress-fault_cut _ _ _ _ _ _ _ _ _ _ (lines-cut _ _ _ c.cut_line.ensures.cuts) c.loop-rest.invariant.progress (sym c.in-Ok.ensures.last ∙ c.if-answer.true) (SendsPart-as _ _ _ _ _ said c.in_err-finish-2.ensures.err))
     c.in_err-finish-2.ensures.fault
 
@@ -39,7 +38,7 @@ returns-then-answer g c =
 pub returns-in_err-put-2 : goal.returns-in_err-put-2
 returns-in_err-put-2 g c =
     let said = c.as_bytes-in-loop-rest.ensures.value ∙ c.in-Ok.ensures.text in
-    Prints-err g.W.Write.contents (DeviceReport (device_view c.args.device.now) (lines_of c.args.trace.now)) c.args.writer.now c.put-in-loop-rest.new.writer c.from_residual-in_err-put-2.result c.from_residual-in_err-put-2.ensures.0
+    Prints-err g.W.Write.contents (DeviceReport c.args.device.now (lines_of c.args.trace.now)) c.args.writer.now c.put-in-loop-rest.new.writer c.from_residual-in_err-put-2.result c.from_residual-in_err-put-2.ensures.0
     (Progress-line_cut _ _ _ _ _ _ _ _ _ _ (lines-cut _ _ _ c.cut_line.ensures.cuts) c.loop-rest.invariant.progress (SendsPart-as _ _ _ _ _ said c.in_err-put-2.ensures.err))
     c.in_err-put-2.ensures.fault
 
@@ -56,7 +55,7 @@ pub returns-in_err-finish-3 : goal.returns-in_err-finish-3
 returns-in_err-finish-3 g c =
     let zero : length c.loop-rest.rest.now ≡ 0 = grind (arith, nat_tests) in
     let none = nil_from_length c.loop-rest.rest.now zero in
-    Prints-err g.W.Write.contents (DeviceReport (device_view c.args.device.now) (lines_of c.args.trace.now)) c.args.writer.now c.finish-2.new.writer c.from_residual-in_err-finish-3.result c.from_residual-in_err-finish-3.ensures.0
+    Prints-err g.W.Write.contents (DeviceReport c.args.device.now (lines_of c.args.trace.now)) c.args.writer.now c.finish-2.new.writer c.from_residual-in_err-finish-3.result c.from_residual-in_err-finish-3.ensures.0
     (Progress-end_cut _ _ _ _ _ _ _ _ c.loop-rest.invariant.progress (ap lines_of none) c.in_err-finish-3.ensures.err)
     c.in_err-finish-3.ensures.fault
 
