@@ -5,3 +5,6 @@ pub mod ScenarioView
 pub mod Sent
 pub mod Trace
 pub mod TraceView
+pub mod Ending
+pub mod Input
+pub mod Watched

@@ -9,6 +9,8 @@ use Rattle.bay_device.specs.LookUps.{switch_place, may_open, may_close}
 use Rattle.bay_main.specs.Load.{load_of}
 use Rattle.bay_main.specs.Scenario.{ScenarioParts, scenario_of, lines_of}
 use Rattle.bay_main.specs.Sent.{SendsPart}
+use Rattle.bay_main.specs.Watched.{Writing}
+use Rattle.bay_main.specs.declared.outbox.WriteFault.{WriteFault}
 use Rattle.bay_main.specs.Trace.{LineData, blank, contact, scan, trace_line_of}
 use Rattle.bay_device.specs.declared.event.Event.{Event}
 use Rattle.bay_device.specs.declared.event.Event.TheVariants.{Contact, Scan}
@@ -16,7 +18,7 @@ use Rattle.bay_device.specs.declared.event.Step.{Step}
 use Rattle.bay_device.specs.declared.fault.LoadFault.{LoadFault}
 use Rattle.bay_device.specs.declared.fault.LoadFault.TheVariants.{Refused, OutOfMemory}
 use Rattle.bay_device.specs.declared.fault.StepFault.{StepFault}
-use Rattle.bay_main.specs.declared.input.TheConstants.{SCENARIO_LIMIT}
+use Rattle.bay_main.specs.Input.{scenario_limit}
 
 -- a refusal at a line of the program, or one that has none
 abbrev pub numbered_refusal : ℕ → ℕ → List ℕ
@@ -127,13 +129,17 @@ PartsReport (Some parts) text status = LoadsReport parts text status
 abbrev pub IsReport : List ℕ → List ℕ → ℕ → Type 0
 IsReport scenario text status = PartsReport (scenario_of scenario) text status
 
--- the text and the status for what a reader had: the report of it; a fault where a read failed or there was
--- too much; or that memory ran out
-abbrev pub IsReplay : Option (List ℕ) → Bool → List ℕ → ℕ → Type 0
-IsReplay input has_failed text status =
-    ((scenario : List ℕ) × IfSome input (λ octets. scenario ≡ octets) × (length scenario ≤ SCENARIO_LIMIT) × IsReport scenario text status)
-    ⊎ (((text ≡ codes "fault 121\n") × (status ≡ 3) × ((has_failed ≡ true) ⊎ IfSome input (λ octets. SCENARIO_LIMIT < length octets)))
+-- the text and the status for what a reader had, of which no read failed: the report of it; a fault where there
+-- was too much; or that memory ran out
+abbrev pub ReadReport : Option (List ℕ) → List ℕ → ℕ → Type 0
+ReadReport input text status =
+    ((scenario : List ℕ) × IfSome input (λ octets. scenario ≡ octets) × (length scenario ≤ scenario_limit) × IsReport scenario text status)
+    ⊎ (((text ≡ codes "fault 121\n") × (status ≡ 3) × IfSome input (λ octets. scenario_limit < length octets))
     ⊎ ran_out text status)
+
+-- the text and the status for what a reader had; a fault exactly where a read failed
+abbrev pub IsReplay : Option (List ℕ) → Bool → List ℕ → ℕ → Type 0
+IsReplay input has_failed text status = MatchBool has_failed ((text ≡ codes "fault 121\n") × (status ≡ 3)) (ReadReport input text status)
 
 -- the writer took a whole text of those that may be printed
 pub record Reports (May : List ℕ → ℕ → Type 0) (old new : Option (List ℕ)) (status : ℕ) : Type 0 where
@@ -147,3 +153,14 @@ pub record ReportsPart (May : List ℕ → ℕ → Type 0) (old new : Option (Li
   pub status : ℕ
   pub told : May text status
   pub part : SendsPart old new text
+
+-- this text and this status alone
+abbrev pub IsLast : List ℕ → ℕ → List ℕ → ℕ → Type 0
+IsLast last answered text status = (text ≡ last) × (status ≡ answered)
+
+-- a replay answers the status of a text that may be printed, after all of it reached the writer and was flushed;
+-- or a write or a flush failed, and the writer took a front of such a text
+abbrev pub Prints : {W : Type 0} → (W → Option (List ℕ)) → (List ℕ → ℕ → Type 0) → Writing W → Writing W → Result ℕ WriteFault → Type 0
+Prints contents May old new (Ok status) =
+    Reports May (contents old.inner) (contents new.inner) status × ((new.has_failed ≡ false) × (new.is_flushed ≡ true))
+Prints contents May old new (Err fault) = ReportsPart May (contents old.inner) (contents new.inner) × (new.has_failed ≡ true)

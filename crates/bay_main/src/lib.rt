@@ -9,7 +9,10 @@
 pub mod input;
 mod load;
 pub mod outbox;
+pub mod program;
+pub mod reader;
 pub mod replay;
 mod report;
 mod scenario;
 mod trace;
+pub mod writer;

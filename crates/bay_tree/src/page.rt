@@ -15,7 +15,7 @@ pub struct Names {
     pub more: bool,
 }
 
-// The first rows, as many as there are up to the count.
+/// The first rows, as many as there are up to the count.
 fn first_rows(rows: &[Row], count: usize) -> &[Row]
     ensures { result.now ≡ take count rows.now }
 {

@@ -167,7 +167,7 @@ impl Tree {
         })
     }
 
-    // The name of a row.
+    /// The name of a row.
     fn name(&self, handle: Handle) -> &str
         requires { IsHandle self.now handle }
         ensures { result.now ≡ name_at self.now handle }

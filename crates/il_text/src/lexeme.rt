@@ -5,9 +5,9 @@ ghost use Rattle.il_text.specs.TokenViews.{piece_of};
 
 use crate::character::{begins_name, begins_word, byte_at, is_blank};
 use crate::literal::{Judged, decimal, halves, prefixed, untyped};
-use bay_base::names::same_name;
 use crate::reserved::reserved_form;
 use crate::token::{Mark, Token};
+use bay_base::names::same_name;
 
 /// A piece of a text.
 #[derive(Clone, Copy)]
