@@ -1,6 +1,6 @@
 use Rattle.std.proofs.Common.{Err, sym, ◌∙◌, ap}
 use Rattle.il_text.proofs.ListingLemmas.{block_tail, block_ok, block_err}
-use Rattle.il_text.proofs.listing.Listing.take_block_line.Goals as goal
+use Rattle.il_text.proofs.listing.Draft.take_block_line.Goals as goal
 
 pub returns-in_default-clause-refused : goal.returns-in_default-clause-refused
 returns-in_default-clause-refused c = λ _.
