@@ -2,10 +2,10 @@
 use Rattle.bay_mms.specs.declared.fault.WriteFault.{WriteFault}
 use Rattle.bay_mms.specs.declared.fault.WriteFault.TheVariants.{TooLong, OutOfMemory}
 use Rattle.bay_mms.specs.Writing.{IsFaultOf}
-use Rattle.std.proofs.Common.{◌≡◌, ℕ, ℤ, ◌+◌, ◌*◌, ◌<◌, ◌≤◌, Bool, true, false, List, ◌++◌, length, take, drop, refl, sym, ap, ◌∙◌, arith}
+use Rattle.std.proofs.Common.{◌≡◌, ℕ, ℤ, ◌+◌, ◌*◌, ◌<◌, ◌≤◌, Bool, true, false, List, ◌++◌, length, take, drop, refl, sym, ap, ◌∙◌, arith, inl, inr}
 use Rattle.std.proofs.lemmas.List.{append_assoc, length-append, take_at, drop_at}
 use Rattle.bay_mms.specs.Tags.{context, constructed, sequence}
-use Rattle.std.proofs.lemmas.Bool.{le-ltb}
+use Rattle.std.proofs.lemmas.Bool.{cases_lt, lt-ltb, le-ltb}
 use Rattle.bay_ber.specs.declared.tag.Tag.{Tag}
 use Rattle.bay_ber.specs.Writing.{octets_needed, element, element_length, integer_octets, truth_octets, bit_string_octets}
 use Rattle.bay_ber.proofs.SizeLemmas.{length-element, length-element-is, length-integer_octets, length-bit_octets}
@@ -15,11 +15,14 @@ use Rattle.bay_ber.proofs.WriteLemmas.{octets_needed-4}
 pub element_fits : (tag : Tag) (content : List ℕ) → length content ≤ 4294967289 → length (element tag content) < 4294967296
 element_fits tag content few = omega (arith, length-element tag content)
 
-long_is : (count : ℕ) → 4294967289 < count → element_length count ≡ count + 2 + octets_needed count
-long_is count many = rw (le-ltb count 128 (omega arith))
+short_is : (count : ℕ) → count < 128 → element_length count ≡ count + 2
+short_is count few = rw (lt-ltb count 128 few)
+
+long_is : (count : ℕ) → 128 ≤ count → element_length count ≡ count + 2 + octets_needed count
+long_is count many = rw (le-ltb count 128 many)
 
 pub element_over : (tag : Tag) (content : List ℕ) → 4294967289 < length content → 4294967296 ≤ length (element tag content)
-element_over tag content many = omega (arith, length-element-is tag content, long_is (length content) many, octets_needed-4 (length content) (omega arith))
+element_over tag content many = omega (arith, length-element-is tag content, long_is (length content) (omega arith), octets_needed-4 (length content) (omega arith))
 
 pub integer_fits : (tag : Tag) (value : ℤ) → length (element tag (integer_octets value)) < 4294967296
 integer_fits tag value = element_fits tag (integer_octets value) (omega (arith, length-integer_octets value))
@@ -69,3 +72,11 @@ component_is start inner front one two name type s i o t =
     let d : drop inner two ≡ type = ap (drop inner) t ∙ drop_at one type inner (sym i) in
     let e : drop start (take inner two) ≡ name = ap (drop start) (b ∙ o) ∙ drop_at front name start (sym s) in
     (a, rw (e, d) refl)
+
+-- a content is shorter than its value
+pub content_less : (tag : Tag) (content : List ℕ) → length content < length (element tag content)
+content_less tag content =
+    elim (cases_lt (length content) 128) [
+      | inl small ↦ omega (arith, length-element-is tag content, short_is (length content) small)
+      | inr ge ↦ omega (arith, length-element-is tag content, long_is (length content) ge)
+    ]

@@ -61,3 +61,11 @@ pub behind : (start : ℕ) (front one two first second : List ℕ) → start ≡
 behind start front one two first second s o t =
     let all : two ≡ front ++ (first ++ second) = t ∙ ap (λ (ys : List ℕ). ys ++ second) o ∙ append_assoc front first second in
     (ap (take start) all ∙ take_at front (first ++ second) start (sym s), ap (drop start) all ∙ drop_at front (first ++ second) start (sym s))
+
+-- what is behind a place, once its last part has a tag around it
+pub wrapped : (start inner : ℕ) (tag : Tag) (front one two three first second : List ℕ) → start ≡ length front → inner ≡ length one → one ≡ front ++ first → two ≡ one ++ second → three ≡ take inner two ++ element tag (drop inner two)
+    → (take start three ≡ front) × (drop start three ≡ first ++ element tag second)
+wrapped start inner tag front one two three first second s i o t u =
+    let a : take inner two ≡ one = ap (take inner) t ∙ take_at one second inner (sym i) in
+    let b : drop inner two ≡ second = ap (drop inner) t ∙ drop_at one second inner (sym i) in
+    behind start front one three first (element tag second) s o (u ∙ ap (λ (ys : List ℕ). ys ++ element tag (drop inner two)) a ∙ ap (λ (ys : List ℕ). one ++ element tag ys) b)

@@ -1,12 +1,13 @@
 -- The canonical texts of responses (ISO 9506-2).
-use Rattle.std.specs.Prelude.{ℕ, pos, false, Option, Some, None, List, [], ◌∷◌, ◌++◌, All}
+use Rattle.std.specs.Prelude.{ℕ, ℤ, pos, ◌*◌, ◌/◌, false, Option, Some, None, List, [], ◌∷◌, ◌++◌, All}
 use Rattle.bay_ber.specs.declared.tag.Tag.{Tag}
 use Rattle.bay_ber.specs.declared.tag.Class.TheVariants.{Universal}
-use Rattle.bay_ber.specs.Writing.{element, integer_octets, truth_octets}
+use Rattle.bay_ber.specs.Writing.{element, integer_octets, truth_octets, bit_string_octets}
 use Rattle.bay_tree.specs.declared.row.Row.{Row}
 use Rattle.bay_tree.specs.Rows.{IsHandle}
 use Rattle.bay_mms.specs.declared.response.Response.{Response}
 use Rattle.bay_mms.specs.declared.response.Response.TheVariants as response
+use Rattle.bay_mms.specs.declared.response.Agreed.{Agreed}
 use Rattle.bay_mms.specs.declared.response.Service.{Service}
 use Rattle.bay_mms.specs.declared.response.Service.TheVariants as service
 use Rattle.bay_mms.specs.declared.response.ReadResult.{ReadResult}
@@ -92,8 +93,34 @@ content_text (service.Write results) = writes_text results.now
 abbrev pub service_text : Service → List ℕ
 service_text s = element (constructed (service_number s)) (content_text s)
 
+-- ---- an initiate's answer
+
+abbrev pub nesting_text : Option ℤ → List ℕ
+nesting_text None = []
+nesting_text (Some nesting) = element (context 3) (integer_octets nesting)
+
+abbrev pub limits_text : Agreed → List ℕ
+limits_text a = element (context 0) (integer_octets (pos a.size)) ++ (element (context 1) (integer_octets (pos a.calling)) ++ (element (context 2) (integer_octets (pos a.called)) ++ nesting_text a.nesting))
+
+-- the first three parameter conformance blocks, of eleven
+abbrev pub parameters_text : ℕ → List ℕ
+parameters_text parameters = element (context 1) (bit_string_octets (parameters / 32 * 32 ∷ 0 ∷ []) 11)
+
+-- of 85 services those that are offered: getNameList, identify, read, write, getVariableAccessAttributes, informationReport and
+-- conclude (ISO 9506-2, ServiceSupportOptions)
+abbrev pub services_text : List ℕ
+services_text = element (context 2) (bit_string_octets (0x6E ∷ 0 ∷ 0 ∷ 0 ∷ 0 ∷ 0 ∷ 0 ∷ 0 ∷ 0 ∷ 0x01 ∷ 0x10 ∷ []) 85)
+
+-- the version 1, the parameters and the services
+abbrev pub detail_text : ℕ → List ℕ
+detail_text parameters = element (context 0) (integer_octets (pos 1)) ++ (parameters_text parameters ++ services_text)
+
+abbrev pub agreed_text : Agreed → List ℕ
+agreed_text a = element (constructed 9) (limits_text a ++ element (constructed 4) (detail_text a.parameters))
+
 -- the response
 abbrev pub response_text : Response → List ℕ
+response_text (response.Initiate agreed) = agreed_text agreed
 response_text response.Conclude = element (context 12) []
 response_text (response.Confirmed id s) = confirmed id (service_text s)
 response_text (response.Error id class) = error_text id class
@@ -113,6 +140,7 @@ IsOfTree (service.Read tree results) = All (IsReadOf tree.now) results.now
 IsOfTree (service.Write results) = Unit {0}
 
 abbrev pub IsAnswerable : Response → Type 0
+IsAnswerable (response.Initiate agreed) = Unit {0}
 IsAnswerable response.Conclude = Unit {0}
 IsAnswerable (response.Confirmed id s) = IsOfTree s
 IsAnswerable (response.Error id class) = Unit {0}

@@ -1,5 +1,5 @@
 // The data and the type of a leaf.
-ghost use Rattle.std.specs.Prelude.{◌≡◌, ◌<◌, ℤ, OnOk};
+ghost use Rattle.std.specs.Prelude.{[], ◌∷◌, ◌≡◌, ◌<◌, ℤ, OnOk};
 ghost use Rattle.bay_ber.specs.Writing.{element, integer_octets};
 ghost use Rattle.bay_mms.specs.Utc.{utc_octets};
 ghost use Rattle.bay_mms.specs.Tags.{context};
@@ -26,23 +26,25 @@ pub(crate) fn utc_octets(ms: u64) -> [u8; 8]
     [s1, s2, s3, s4, f1, f2, f3, 0x2A]
 }
 
-fn position_octet(position: Dbpos) -> u8
-    ensures { result ≡ position_octet position }
+/// The octet of a position's two bits.
+pub(crate) fn position_octets(position: Dbpos) -> &'static [u8]
+    ensures { result.now ≡ position_octet position ∷ [] }
 {
     match position {
-        Dbpos::Intermediate => 0x00,
-        Dbpos::Off => 0x40,
-        Dbpos::On => 0x80,
-        Dbpos::Bad => 0xC0,
+        Dbpos::Intermediate => &[0x00],
+        Dbpos::Off => &[0x40],
+        Dbpos::On => &[0x80],
+        Dbpos::Bad => &[0xC0],
     }
 }
 
-fn quality_octet(quality: Quality) -> u8
-    ensures { result ≡ quality_octet quality }
+/// The octets of a quality's thirteen bits.
+pub(crate) fn quality_octets(quality: Quality) -> &'static [u8]
+    ensures { result.now ≡ quality_octet quality ∷ 0 ∷ [] }
 {
     match quality {
-        Quality::Good => 0x00,
-        Quality::Invalid => 0x40,
+        Quality::Good => &[0x00, 0x00],
+        Quality::Invalid => &[0x40, 0x00],
     }
 }
 
@@ -56,7 +58,7 @@ pub(crate) fn put_leaf(writer: &mut Writer, leaf: &Leaf) -> Result<(), WriteFaul
             writer,
             4,
             Bits {
-                octets: &[position_octet(*value)],
+                octets: position_octets(*value),
                 count: 2,
             },
         ),
@@ -64,7 +66,7 @@ pub(crate) fn put_leaf(writer: &mut Writer, leaf: &Leaf) -> Result<(), WriteFaul
             writer,
             4,
             Bits {
-                octets: &[quality_octet(*value), 0],
+                octets: quality_octets(*value),
                 count: 13,
             },
         ),

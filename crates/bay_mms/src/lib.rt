@@ -4,7 +4,9 @@
 // `value`: the data and the type of a row of the tree, written as they stand. `fault`: why nothing is written.
 #![tactic(auto)]
 
+pub mod data;
 pub mod fault;
+pub mod laws;
 mod leaf;
 mod put;
 pub mod response;

@@ -6,13 +6,14 @@ ghost use Rattle.bay_tree.specs.Rows.{IsHandle};
 ghost use Rattle.bay_mms.specs.Tags.{context, constructed};
 ghost use Rattle.bay_mms.specs.Types.{type_text};
 ghost use Rattle.bay_mms.specs.Nodes.{type_at};
-ghost use Rattle.bay_mms.specs.Responses.{int_tag, confirmed, error_text, identity_text, names_text, read_text, reads_text, wrote_text, writes_text, class_text, id_text, reason_text, service_number, content_text, service_text, response_text, IsReadOf, IsOfTree, IsAnswerable};
+ghost use Rattle.bay_mms.specs.Responses.{nesting_text, parameters_text, services_text, limits_text, detail_text, agreed_text, int_tag, confirmed, error_text, identity_text, names_text, read_text, reads_text, wrote_text, writes_text, class_text, id_text, reason_text, service_number, content_text, service_text, response_text, IsReadOf, IsOfTree, IsAnswerable};
 ghost use Rattle.bay_mms.specs.Writing.{Adds, Appends, written};
 
 use crate::fault::WriteFault;
 use crate::put::{put_around, put_integer, put_octets, put_truth};
 use crate::value::{put_type, put_value};
 use bay_base::text::Text;
+use bay_ber::content::Bits;
 use bay_ber::tag::Tag;
 use bay_ber::writer::Writer;
 use bay_tree::tree::{Handle, Tree};
@@ -86,9 +87,25 @@ pub enum Service<'a> {
     },
 }
 
+/// What is agreed of an association (ISO 9506-2, InitiateResponsePDU), in version 1 of the protocol.
+#[derive(Clone, Copy)]
+pub struct Agreed {
+    /// The octets of the largest PDU.
+    pub size: u32,
+    /// How many requests of the one who called may be outstanding, and how many of the one called.
+    pub calling: u32,
+    pub called: u32,
+    /// How deep data may nest, where it was proposed.
+    pub nesting: Option<i64>,
+    /// The first three parameter conformance blocks, in the three highest bits. The other bits are not looked at.
+    pub parameters: u8,
+}
+
 /// A response to a client.
 #[derive(Clone, Copy)]
 pub enum Response<'a> {
+    /// The answer to an initiate.
+    Initiate(Agreed),
     /// The answer to a conclude.
     Conclude,
     /// The answer to a confirmed request of this invoke id.
@@ -309,11 +326,77 @@ fn put_reject(writer: &mut Writer, id: Option<u32>, reason: RejectReason) -> Res
     put_around(writer, start, Tag::context_constructed(4))
 }
 
+fn put_nesting(writer: &mut Writer, nesting: Option<i64>) -> Result<(), AllocError>
+    ensures { OnOk result (writer.new ≡ writer.old ++ nesting_text nesting) }
+{
+    if let Some(nesting) = nesting {
+        writer.int(Tag::context(3), nesting)?;
+    }
+    Ok(())
+}
+
+// Writes the first parameter conformance blocks, of eleven.
+fn put_parameters(writer: &mut Writer, parameters: u8) -> Result<(), AllocError>
+    ensures { OnOk result (writer.new ≡ writer.old ++ parameters_text parameters) }
+{
+    let first = parameters / 32 * 32;
+    let bits = Bits {
+        octets: &[first, 0],
+        count: 11,
+    };
+    writer.bits(Tag::context(1), bits)?;
+    Ok(())
+}
+
+// Writes the services that are offered.
+fn put_services(writer: &mut Writer) -> Result<(), AllocError>
+    ensures { OnOk result (writer.new ≡ writer.old ++ services_text) }
+{
+    let bits = Bits {
+        octets: &[0x6E, 0, 0, 0, 0, 0, 0, 0, 0, 0x01, 0x10],
+        count: 85,
+    };
+    writer.bits(Tag::context(2), bits)?;
+    Ok(())
+}
+
+fn put_limits(writer: &mut Writer, agreed: Agreed) -> Result<(), AllocError>
+    ensures { OnOk result (writer.new ≡ writer.old ++ limits_text agreed) }
+{
+    put_number(writer, 0, agreed.size)?;
+    put_number(writer, 1, agreed.calling)?;
+    put_number(writer, 2, agreed.called)?;
+    put_nesting(writer, agreed.nesting)?;
+    Ok(())
+}
+
+// The version, the parameters and the services (ISO 9506-2, InitResponseDetail).
+fn put_detail(writer: &mut Writer, parameters: u8) -> Result<(), AllocError>
+    ensures { OnOk result (writer.new ≡ writer.old ++ detail_text parameters) }
+{
+    put_number(writer, 0, 1)?;
+    put_parameters(writer, parameters)?;
+    put_services(writer)?;
+    Ok(())
+}
+
+fn put_agreed(writer: &mut Writer, agreed: Agreed) -> Result<(), WriteFault>
+    ensures { Appends writer.old result writer.new (agreed_text agreed) }
+{
+    let start = writer.len();
+    put_limits(writer, agreed)?;
+    let inner = writer.len();
+    put_detail(writer, agreed.parameters)?;
+    put_around(writer, inner, Tag::context_constructed(4))?;
+    put_around(writer, start, Tag::context_constructed(9))
+}
+
 fn put_response(writer: &mut Writer, response: &Response<'_>) -> Result<(), WriteFault>
     requires { IsAnswerable response.now }
     ensures { Appends writer.old result writer.new (response_text response.now) }
 {
     match response {
+        Response::Initiate(agreed) => put_agreed(writer, *agreed),
         Response::Conclude => put_octets(writer, Tag::context(12), &[]),
         Response::Confirmed { id, service } => put_confirmed(writer, *id, service),
         Response::Error { id, class } => put_error(writer, *id, *class),

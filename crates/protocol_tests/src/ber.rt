@@ -286,6 +286,7 @@ fn nested_in_place(rt: HostRuntime) -> Result<(), Fail> {
     let start = writer.len();
     assert_eq!(rt; start, 3);
     writer.octets(Tag::universal(4), &[5; 200])?;
+    assert!(rt; writer.len() < 1_000);
     writer.nest_from(start, Tag::sequence())?;
     assert_eq!(rt; writer.len(), 209);
     let written = writer.finish();

@@ -5,4 +5,6 @@
 #[cfg(test)]
 mod ber;
 #[cfg(test)]
+mod mms;
+#[cfg(test)]
 mod transport;
