@@ -1,0 +1,3 @@
+pub mod Arithmetic
+pub mod Timers
+pub mod Values
