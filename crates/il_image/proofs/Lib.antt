@@ -1,2 +1,7 @@
+pub mod InstrLemmas
+pub mod OctetLemmas
+pub mod PlaceLemmas
+pub mod ReadLemmas
 pub mod TimerLemmas
+pub mod ValueLemmas
 pub mod WrapLemmas

@@ -1,3 +1,9 @@
 pub mod Arithmetic
+pub mod Codes
+pub mod Growth
+pub mod Octets
+pub mod Opcodes
+pub mod Reading
+pub mod Spelling
 pub mod Timers
 pub mod Values

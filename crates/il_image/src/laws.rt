@@ -1,5 +1,11 @@
 // Laws of the definitions. Each function does nothing, and its contract is the law.
-ghost use Rattle.std.specs.Prelude.{◌≡◌, ◌∷◌, ◌⊎◌, ◌↔◌, IsTrue, List, true};
+ghost use Rattle.std.specs.Prelude.{◌≡◌, ◌∷◌, ◌++◌, ◌⊎◌, ◌↔◌, IsTrue, List, Ok, Some, true, ℕ};
+ghost use Rattle.il_image.specs.Octets.{AreOctets};
+ghost use Rattle.il_image.specs.Reading.{StandsAt, instr_at, instr_from};
+ghost use Rattle.il_image.specs.Spelling.{IsInstr, spelling};
+ghost use Rattle.il_image.specs.declared.instr.Instr.{Instr};
+ghost use Rattle.il_image.specs.declared.opcode.Version.{Version};
+ghost use Rattle.il_image.specs.declared.opcode.Version.TheVariants.{One, Two};
 ghost use Rattle.il_image.specs.Timers.{Call, HasNotPassed, HasPassed, after};
 ghost use Rattle.il_image.specs.declared.timer.TimerKind.TheVariants.{OnDelay, OffDelay};
 
@@ -14,4 +20,13 @@ pub fn on_delay_timer()
 /// with IN FALSE.
 pub fn off_delay_timer()
     ensures { (last : Call) (earlier : List Call) → IsTrue (after OffDelay (last ∷ earlier)).output ↔ ((last.input ≡ true) ⊎ HasNotPassed last earlier) }
+{}
+
+/// Each instruction has one spelling, which is read back whatever follows it: what is read is spelled by the front of the
+/// octets, and at a place of code stands the one instruction that is spelled there.
+pub fn one_spelling_of_instructions()
+    ensures written { (i : Instr) (rest : List ℕ) → IsInstr i → instr_from Two (spelling i ++ rest) ≡ Ok (i, rest) }
+    ensures read { (version : Version) (octets : List ℕ) (i : Instr) (rest : List ℕ) → AreOctets octets → instr_from version octets ≡ Ok (i, rest) → IsInstr i × (octets ≡ spelling i ++ rest) }
+    ensures newer { (octets : List ℕ) (i : Instr) (rest : List ℕ) → AreOctets octets → instr_from One octets ≡ Ok (i, rest) → instr_from Two octets ≡ Ok (i, rest) }
+    ensures places { (code : List ℕ) (place : ℕ) (i : Instr) (next : ℕ) → AreOctets code → (instr_at code place ≡ Some (i, next)) ↔ StandsAt code place i next }
 {}

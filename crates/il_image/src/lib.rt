@@ -4,6 +4,11 @@
 #![tactic(auto)]
 
 pub mod arithmetic;
+pub mod fault;
+pub mod instr;
 pub mod laws;
+pub mod opcode;
+pub mod read;
 pub mod timer;
 pub mod value;
+pub(crate) mod write;
