@@ -1,6 +1,8 @@
 pub mod Arithmetic
 pub mod Codes
+pub mod Decoding
 pub mod Growth
+pub mod Images
 pub mod Octets
 pub mod Opcodes
 pub mod Reading

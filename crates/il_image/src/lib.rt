@@ -4,7 +4,10 @@
 #![tactic(auto)]
 
 pub mod arithmetic;
+pub mod decode;
+pub mod encode;
 pub mod fault;
+pub mod image;
 pub mod instr;
 pub mod laws;
 pub mod opcode;
