@@ -1,6 +1,6 @@
 -- Images: what is read is spelled so, and what is spelled is read back.
 use Rattle.std.proofs.Common.{◌≡◌, ℕ, zero, suc, ◌+◌, ◌<◌, ◌≤◌, ◌^◌, ◌||◌, Bool, true, false, cond, eqb, ltb, List, [], ◌∷◌, ◌++◌, length, take, drop, Option, Some, None, refl, sym, subst, ap, ◌∙◌, arith}
-use Rattle.std.specs.Prelude.{Result, Ok, Err, IsSome, IsTrue}
+use Rattle.std.specs.Prelude.{Result, Ok, Err, slice_index}
 use Rattle.std.specs.List.{list_all}
 use Rattle.il_image.specs.declared.fault.ImageFault.{ImageFault}
 use Rattle.il_image.specs.declared.image.ImagePoint.{ImagePoint}
@@ -60,3 +60,26 @@ took_decoded octets i fits e =
     let b = bind_ok (version_at a.0) (λ (v : Version × List ℕ). counted_at (point_at v.0) v.1 >>= (λ (p : List ImagePoint × List ℕ). counted_at (variable_at v.0) p.1 >>= (λ (x : List Value × List ℕ). counted_at (timer_at v.0) x.1 >>= (λ (t : List TimerKind × List ℕ). code_at v.0 t.1 >>= (λ (code : List ℕ). Ok (record { points = p.0; variables = x.0; timers = t.0; code = code })))))) i a.2 in
     took_parts octets a.0 b.0.0 b.0.1 i fits a.1 b.1 b.2
 
+-- ---- no second spelling
+
+fifth : (version : Version) (i : Image) → slice_index (encoded version i) 4 ≡ version_octet version
+unfolding encoded
+fifth version i = refl
+
+same_version : (a b : Version) → version_octet a ≡ version_octet b → a ≡ b
+same_version One One e = refl
+same_version One Two e = absurd (omega arith)
+same_version Two One e = absurd (omega arith)
+same_version Two Two e = refl
+
+pub one_of_each : (octets others : List ℕ) (i : Image) → AreOctets octets → AreOctets others → decoded octets ≡ Ok i → decoded others ≡ Ok i → slice_index octets 4 ≡ slice_index others 4 → octets ≡ others
+one_of_each octets others i fits good e f same =
+    let a = took_decoded octets i fits e in
+    let b = took_decoded others i good f in
+    let here : slice_index octets 4 ≡ version_octet a.0 = ap (λ (xs : List ℕ). slice_index xs 4) a.1.spelled ∙ fifth a.0 i in
+    let there : slice_index others 4 ≡ version_octet b.0 = ap (λ (xs : List ℕ). slice_index xs 4) b.1.spelled ∙ fifth b.0 i in
+    let version = same_version a.0 b.0 (sym here ∙ same ∙ there) in
+    a.1.spelled ∙ ap (λ (v : Version). encoded v i) version ∙ sym b.1.spelled
+
+pub spelled_image : (octets : List ℕ) (i : Image) → AreOctets octets → decoded octets ≡ Ok i → IsImage i × ((version : Version) × (octets ≡ encoded version i))
+spelled_image octets i fits e = let took = took_decoded octets i fits e in (took.1.good, (took.0, took.1.spelled))

@@ -1,3 +1,4 @@
+pub mod BackLemmas
 pub mod CodeLemmas
 pub mod EachLemmas
 pub mod ImageLemmas

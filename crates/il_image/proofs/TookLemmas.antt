@@ -92,6 +92,7 @@ type_is version octet t e = go version octet t (eqb octet 1) (eqb octet 2) (eqb 
     last : (version : Version) (octet : ℕ) (t : ElementaryType) → eqb octet 5 ≡ true → newest_type version ≡ Some t → octet ≡ type_octet t
     last One octet t is e = absurd cc
     last Two octet t is e = eqb-true octet 5 is ∙ ap type_octet (some_if_same elementary.Lint t e)
+
     go : (version : Version) (octet : ℕ) (t : ElementaryType) (a b d f g : Bool) → eqb octet 1 ≡ a → eqb octet 2 ≡ b → eqb octet 3 ≡ d → eqb octet 4 ≡ f → eqb octet 5 ≡ g → cond a (Some elementary.Bool) (cond b (Some elementary.Int) (cond d (Some elementary.Dint) (cond f (Some elementary.Time) (cond g (newest_type version) None)))) ≡ Some t → octet ≡ type_octet t
     go version octet t true b d f g h i j k l e = eqb-true octet 1 h ∙ ap type_octet (some_if_same elementary.Bool t e)
     go version octet t false true d f g h i j k l e = eqb-true octet 2 i ∙ ap type_octet (some_if_same elementary.Int t e)

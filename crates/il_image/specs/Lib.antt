@@ -3,6 +3,7 @@ pub mod Codes
 pub mod Decoding
 pub mod Growth
 pub mod Images
+pub mod Kinds
 pub mod Octets
 pub mod Opcodes
 pub mod Reading

@@ -1,5 +1,7 @@
 // Laws of the definitions. Each function does nothing, and its contract is the law.
-ghost use Rattle.std.specs.Prelude.{◌≡◌, ◌∷◌, ◌++◌, ◌⊎◌, ◌↔◌, IsTrue, List, Ok, Some, true, ℕ};
+ghost use Rattle.std.specs.Prelude.{◌≡◌, ◌∷◌, ◌++◌, ◌⊎◌, ◌↔◌, IsTrue, List, Ok, Some, slice_index, true, ℕ};
+ghost use Rattle.il_image.specs.Decoding.{decoded};
+ghost use Rattle.il_image.specs.Images.{Image, IsImage, encoded};
 ghost use Rattle.il_image.specs.Octets.{AreOctets};
 ghost use Rattle.il_image.specs.Reading.{StandsAt, instr_at, instr_from};
 ghost use Rattle.il_image.specs.Spelling.{IsInstr, spelling};
@@ -29,4 +31,12 @@ pub fn one_spelling_of_instructions()
     ensures read { (version : Version) (octets : List ℕ) (i : Instr) (rest : List ℕ) → AreOctets octets → instr_from version octets ≡ Ok (i, rest) → IsInstr i × (octets ≡ spelling i ++ rest) }
     ensures newer { (octets : List ℕ) (i : Instr) (rest : List ℕ) → AreOctets octets → instr_from One octets ≡ Ok (i, rest) → instr_from Two octets ≡ Ok (i, rest) }
     ensures places { (code : List ℕ) (place : ℕ) (i : Instr) (next : ℕ) → AreOctets code → (instr_at code place ≡ Some (i, next)) ↔ StandsAt code place i next }
+{}
+
+/// What is written of an image in version 2 is read as that image. What is read of octets is an image, and the format spells
+/// it so in one of its versions; octets with the same fifth octet, the version, that are read as the same image are the same.
+pub fn one_spelling_of_images()
+    ensures written { (i : Image) → IsImage i → decoded (encoded Two i) ≡ Ok i }
+    ensures read { (octets : List ℕ) (i : Image) → AreOctets octets → decoded octets ≡ Ok i → IsImage i × ((version : Version) × (octets ≡ encoded version i)) }
+    ensures one { (octets others : List ℕ) (i : Image) → AreOctets octets → AreOctets others → decoded octets ≡ Ok i → decoded others ≡ Ok i → slice_index octets 4 ≡ slice_index others 4 → octets ≡ others }
 {}

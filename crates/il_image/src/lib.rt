@@ -9,6 +9,7 @@ pub mod encode;
 pub mod fault;
 pub mod image;
 pub mod instr;
+pub mod kind;
 pub mod laws;
 pub mod opcode;
 pub mod read;
