@@ -4,6 +4,7 @@ pub mod EachLemmas
 pub mod ImageLemmas
 pub mod InstrLemmas
 pub mod ItemLemmas
+pub mod KindLemmas
 pub mod NameLemmas
 pub mod OctetLemmas
 pub mod PlaceLemmas

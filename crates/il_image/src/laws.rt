@@ -2,10 +2,13 @@
 ghost use Rattle.std.specs.Prelude.{◌≡◌, ◌∷◌, ◌++◌, ◌⊎◌, ◌↔◌, IsTrue, List, Ok, Some, slice_index, true, ℕ};
 ghost use Rattle.il_image.specs.Decoding.{decoded};
 ghost use Rattle.il_image.specs.Images.{Image, IsImage, encoded};
+ghost use Rattle.il_image.specs.Kinds.{HasKind, is_within, join};
 ghost use Rattle.il_image.specs.Octets.{AreOctets};
 ghost use Rattle.il_image.specs.Reading.{StandsAt, instr_at, instr_from};
 ghost use Rattle.il_image.specs.Spelling.{IsInstr, spelling};
 ghost use Rattle.il_image.specs.declared.instr.Instr.{Instr};
+ghost use Rattle.il_image.specs.declared.kind.Kind.{Kind};
+ghost use Rattle.il_image.specs.declared.value.Value.{Value};
 ghost use Rattle.il_image.specs.declared.opcode.Version.{Version};
 ghost use Rattle.il_image.specs.declared.opcode.Version.TheVariants.{One, Two};
 ghost use Rattle.il_image.specs.Timers.{Call, HasNotPassed, HasPassed, after};
@@ -39,4 +42,13 @@ pub fn one_spelling_of_images()
     ensures written { (i : Image) → IsImage i → decoded (encoded Two i) ≡ Ok i }
     ensures read { (octets : List ℕ) (i : Image) → AreOctets octets → decoded octets ≡ Ok i → IsImage i × ((version : Version) × (octets ≡ encoded version i)) }
     ensures one { (octets others : List ℕ) (i : Image) → AreOctets octets → AreOctets others → decoded octets ≡ Ok i → decoded others ≡ Ok i → slice_index octets 4 ≡ slice_index others 4 → octets ≡ others }
+{}
+
+/// The kinds are in order, by the values that they have, and the join of two is the least kind above both.
+pub fn join_is_least()
+    ensures same { (a : Kind) → IsTrue (is_within a a) }
+    ensures along { (a b c : Kind) → IsTrue (is_within a b) → IsTrue (is_within b c) → IsTrue (is_within a c) }
+    ensures values { (v : Value) (a b : Kind) → IsTrue (is_within a b) → HasKind v a → HasKind v b }
+    ensures above { (a b : Kind) → IsTrue (is_within a (join a b)) × IsTrue (is_within b (join a b)) }
+    ensures least { (a b top : Kind) → IsTrue (is_within a top) → IsTrue (is_within b top) → IsTrue (is_within (join a b) top) }
 {}
