@@ -1,9 +1,10 @@
 -- The comparison of names, octet by octet.
-use Rattle.std.proofs.Common.{◌≡◌, ◌≢◌, ℕ, ◌+◌, ◌<◌, ◌≤◌, true, false, List, [], ◌∷◌, length, drop, slice_index, eqb, refl, arith}
+use Rattle.std.proofs.Common.{◌≡◌, ◌≢◌, ℕ, ◌+◌, ◌<◌, ◌≤◌, true, false, List, [], ◌∷◌, length, drop, slice_index, eqb, refl, ap, ◌∙◌, arith}
 use Rattle.std.specs.Char.{to_ascii_uppercase}
 use Rattle.std.specs.Str.{bytes_eq}
 use Rattle.std.proofs.Math.Bool.{and-false}
 use Rattle.std.proofs.lemmas.Bool.{eq-eqb, ne_eqb}
+use Rattle.std.proofs.lemmas.Str.Ascii.{uppercase-uppercase}
 use Rattle.bay_base.specs.Names.{upper, same_name}
 use Rattle.bay_base.proofs.ListLemmas.{front_of, none_left}
 
@@ -35,3 +36,12 @@ other_from a b i h k e = rw (front_of a i h, front_of b i k) (other_front _ _ _ 
 pub same_at_end : (a b : List ℕ) (i : ℕ) → length a ≤ i → length b ≤ i → same_name (drop i a) (drop i b) ≡ true
 unfolding same_name
 same_at_end a b i h k = rw (none_left a i h, none_left b i k) refl
+
+pub upper-upper : (name : List ℕ) → upper (upper name) ≡ upper name
+upper-upper [] = refl
+upper-upper (c ∷ name) = ap (λ d. d ∷ upper (upper name)) (uppercase-uppercase c) ∙ ap (λ (ds : List ℕ). to_ascii_uppercase c ∷ ds) (upper-upper name)
+
+-- a name in upper case is the same name
+pub same-upper : (a b : List ℕ) → same_name (upper a) b ≡ same_name a b
+unfolding same_name
+same-upper a b = ap (λ (u : List ℕ). bytes_eq u (upper b)) (upper-upper a)

@@ -1,3 +1,4 @@
 pub mod Exact
 pub mod Names
+pub mod Types
 pub mod Words

@@ -9,9 +9,9 @@ pub fn same_name(a: &str, b: &str) -> bool
     same_letters(a.as_bytes(), b.as_bytes())
 }
 
-/// The same of octets.
+/// Whether two lists of octets are the same, ASCII letters in either case.
 #[tactic(auto, using(crate::proofs::NameLemmas::other_lengths, crate::proofs::NameLemmas::same_from, crate::proofs::NameLemmas::other_from, crate::proofs::NameLemmas::same_at_end))]
-fn same_letters(a: &[u8], b: &[u8]) -> bool
+pub fn same_letters(a: &[u8], b: &[u8]) -> bool
     ensures { result ≡ spec.same_name a.now b.now }
 {
     if a.len() != b.len() {

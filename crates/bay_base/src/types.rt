@@ -1,4 +1,6 @@
 // The elementary types that this controller has.
+ghost use Rattle.std.specs.Prelude.{◌≡◌};
+ghost use Rattle.bay_base.specs.Types.{same_type};
 
 /// An elementary type (IEC 61131-3:2003, table 10). Points, variables and slots have one.
 #[derive(Clone, Copy, Debug, PartialEq, Eq)]
@@ -13,4 +15,13 @@ pub enum ElementaryType {
     Lint,
     /// A duration of 0 to 2,147,483,647 milliseconds.
     Time,
+}
+
+impl ElementaryType {
+    /// Whether two types are one.
+    pub fn is(self, other: ElementaryType) -> bool
+        ensures { result ≡ same_type self other }
+    {
+        self == other
+    }
 }

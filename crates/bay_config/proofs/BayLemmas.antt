@@ -4,7 +4,7 @@ use Rattle.toml.specs.Data.{Members}
 use Rattle.bay_config.specs.declared.bay.Bay.{Bay}
 use Rattle.bay_config.specs.declared.fault.BayFault.{BayFault}
 use Rattle.bay_config.specs.Bay.{bay_section, switch_section, sections, bay_table, nameplate_in, switches_in, bay_with, bay_in, bay_of_table}
-use Rattle.bay_config.specs.Gives.{judged}
+use Rattle.bay_base.specs.Exact.{judged}
 use Rattle.bay_config.specs.Key.{unknown_refusal}
 use Rattle.bay_config.specs.Point.{points_of_all, names_refusal}
 use Rattle.bay_config.specs.Section.{section_refusal}
@@ -13,10 +13,10 @@ use Rattle.bay_config.proofs.KeyLemmas.{then, judged-step}
 -- the bay, read section by section
 abbrev pub bay_by_sections : Members → Result Bay BayFault
 bay_by_sections f =
-    then (judged {S = Unit {0}} (unknown_refusal (map (λ section. section.name) sections) f) tt)
+    then (judged {B = Unit {0}} (unknown_refusal (map (λ section. section.name) sections) f) tt)
     (λ _. then (judged (section_refusal f bay_section) (nameplate_in (bay_table f)))
     (λ nameplate. then (judged (section_refusal f switch_section) (switches_in f))
-    (λ switches. then (judged {S = Unit {0}} (names_refusal (points_of_all switches)) tt)
+    (λ switches. then (judged {B = Unit {0}} (names_refusal (points_of_all switches)) tt)
     (λ _. Ok (bay_with nameplate switches)))))
 
 pub by_sections : (f : Members) → bay_of_table f ≡ bay_by_sections f

@@ -11,7 +11,7 @@ use Rattle.toml.specs.Data.{Data, Members, no_members, member, get_member}
 use Rattle.toml.specs.View.{members_view}
 use Rattle.toml.proofs.Views.{Entry}
 use Rattle.bay_config.specs.declared.fault.BayFault.{BayFault}
-use Rattle.bay_config.specs.Gives.{judged}
+use Rattle.bay_base.specs.Exact.{judged}
 use Rattle.bay_config.specs.Key.{first_of, is_among, has_unknown, named}
 
 pub among-map : (known : List (Bor (List ℕ))) (k : List ℕ) → list_any (λ o. bytes_eq k o.now) known ≡ is_among (map (λ o. o.now) known) k

@@ -1,5 +1,5 @@
 -- What holds of every bay that is read.
-use Rattle.std.proofs.Common.{◌≡◌, ◌≢◌, ℕ, zero, suc, ◌<◌, ◌≤◌, Bool, true, false, cond, nat_lt, List, [], ◌∷◌, ◌++◌, length, map, get_or, slice_get, Option, None, Some, is_some, option_to_list, option_and_then, unwrap_or, Ok, codes, All, Contains, refl, sym, ap, subst, inl, inr, arith}
+use Rattle.std.proofs.Common.{◌≡◌, ◌≢◌, ℕ, zero, suc, ◌+◌, ◌<◌, ◌≤◌, Bool, true, false, cond, nat_lt, List, [], ◌∷◌, ◌++◌, length, map, drop, get_or, slice_get, Option, None, Some, is_some, option_to_list, option_and_then, unwrap_or, Ok, codes, All, Contains, refl, sym, ap, subst, inl, inr, arith, lit<, suc-add}
 use Rattle.std.proofs.lemmas.Bool.{and_parts, ltb-false}
 use Rattle.std.proofs.lemmas.List.{length-map}
 use Rattle.std.proofs.lemmas.List.Elements.{All-from_recursion, All-contains, Contains-append_left, Contains-append_right, Contains-append_cases, Contains-get_or}
@@ -14,8 +14,8 @@ use Rattle.bay_config.specs.declared.fault.BayFault.{BayFault}
 use Rattle.bay_config.specs.declared.fault.BayFault.TheVariants.{DuplicateName, TooMany}
 use Rattle.bay_config.specs.Bay.{bay_section, switch_section, sections, switches_in, switch_tables, bay_in, bay_of_table, file_refusal}
 use Rattle.bay_config.specs.Key.{first_of, is_among, unknown_refusal}
-use Rattle.bay_config.specs.Laws.{Owns, BelongsToOne, IsBay}
-use Rattle.bay_config.specs.Point.{points_of, points_of_all, has_twin, names_refusal, refused_if}
+use Rattle.bay_config.specs.Laws.{Owns, IsOwned, IsBay}
+use Rattle.bay_config.specs.Point.{points_of, points_from, points_of_all, has_twin, names_refusal, refused_if}
 use Rattle.bay_config.specs.Section.{some, are_tables, tables_of, list_refusal, shape_refusal, section_refusal}
 use Rattle.bay_config.specs.Switch.{switch_keys, switch_in}
 use Rattle.bay_config.proofs.KeyLemmas.{judged-Ok, or-false_parts}
@@ -51,56 +51,50 @@ pairs-differ (p ∷ ps) h i zero d lt within = absurd (omega arith)
 pairs-differ (p ∷ ps) h zero (suc j) d lt within = one-other p.name ps (get_or ps j d) h.0 (Contains-get_or ps j d (omega arith))
 pairs-differ (p ∷ ps) h (suc i) (suc j) d lt within = pairs-differ ps h.1 i j d (omega arith) (omega arith)
 
--- a point of the front and a point of the back have two names
-parts-differ : (xs ys : List Point) (p q : Point) → AllDiffer (names_of (xs ++ ys)) → (k : ℕ) → k < length xs → get_or xs k p ≡ p → Contains ys q → p.name ≢ q.name
-parts-differ [] ys p q h k lt at back = absurd (omega arith)
-parts-differ (x ∷ xs) ys p q h zero lt at back =
-    subst (λ (z : Point). z.name ≢ q.name) at (one-other x.name (xs ++ ys) q h.0 (Contains-append_right xs ys q back))
-parts-differ (x ∷ xs) ys p q h (suc k) lt at back = parts-differ xs ys p q h.1 k (omega arith) at back
+-- what holds of each point of the front and of the back
+each-append : (P : Point → Type 0) (xs ys : List Point) → AllByRecursion P xs → AllByRecursion P ys → AllByRecursion P (xs ++ ys)
+each-append P [] ys front back = back
+each-append P (x ∷ xs) ys front back = (front.0, each-append P xs ys front.1 back)
 
-in-all : (ss : List Switch) (place : ℕ) (s : Switch) (p : Point) → slice_get ss place ≡ Some s → Contains (points_of s) p → Contains (points_of_all ss) p
-in-all [] place s p here has = cc
-in-all (t ∷ ss) zero s p here has =
-    let same : t ≡ s = cc in
-    Contains-append_left (points_of t) (points_of_all ss) p (subst (λ u. Contains (points_of u) p) (sym same) has)
-in-all (t ∷ ss) (suc place) s p here has =
-    Contains-append_right (points_of t) (points_of_all ss) p (in-all ss place s p here has)
+-- where a list goes on with an item from a place on, the item stands there, and behind it the rest
+first-of-rest : (all : List Switch) (k : ℕ) (s : Switch) (ss : List Switch) → drop k all ≡ s ∷ ss → slice_get all k ≡ Some s
+first-of-rest [] zero s ss rest = cc
+first-of-rest [] (suc k) s ss rest = cc
+first-of-rest (t ∷ all) zero s ss rest = cc
+first-of-rest (t ∷ all) (suc k) s ss rest = first-of-rest all k s ss rest
 
-apart : (s : Switch) (ss : List Switch) (t : Switch) (place : ℕ) (p : Point) → AllDiffer (names_of (points_of_all (s ∷ ss))) → Contains (points_of s) p → slice_get ss place ≡ Some t → Contains (points_of t) p → ⊥
-apart s ss t place p h one here two =
-    parts-differ (points_of s) (points_of_all ss) p p h one.0 one.1 one.2 (in-all ss place t p here two) refl
+rest-of-rest : (all : List Switch) (k : ℕ) (s : Switch) (ss : List Switch) → drop k all ≡ s ∷ ss → drop (k + 1) all ≡ ss
+rest-of-rest [] zero s ss rest = cc
+rest-of-rest [] (suc k) s ss rest = cc
+rest-of-rest (t ∷ all) zero s ss rest = cc
+rest-of-rest (t ∷ all) (suc k) s ss rest = rw (suc-add k 1) (rest-of-rest all k s ss rest)
 
-rest-differs : (xs ys : List Point) → AllDiffer (names_of (xs ++ ys)) → AllDiffer (names_of ys)
-rest-differs [] ys h = h
-rest-differs (x ∷ xs) ys h = rest-differs xs ys h.1
+-- the points of a switch belong to it
+own-points : (all : List Switch) (k : ℕ) (s : Switch) → slice_get all k ≡ Some s → AllByRecursion (IsOwned all) (points_of k s)
+own-points all k s here = (
+  record { switch = s; here = here; has = (0, lit< tt, refl) },
+  (
+    record { switch = s; here = here; has = (1, lit< tt, refl) },
+    (
+      record { switch = s; here = here; has = (2, lit< tt, refl) },
+      (
+        record { switch = s; here = here; has = (3, lit< tt, refl) },
+        (record { switch = s; here = here; has = (4, lit< tt, refl) }, tt),
+      ),
+    ),
+  ),
+)
 
--- no point belongs to two switches
-one-owner : (ss : List Switch) (p : Point) → AllDiffer (names_of (points_of_all ss)) → (i j : ℕ) → Owns ss i p → Owns ss j p → i ≡ j
-one-owner [] p h i j a b = let none = a.here in cc
-one-owner (s ∷ ss) p h zero zero a b = refl
-one-owner (s ∷ ss) p h zero (suc j) a b =
-    let same : s ≡ a.switch = let here = a.here in cc in
-    absurd (apart s ss b.switch j p h (subst (λ u. Contains (points_of u) p) (sym same) a.has) b.here b.has)
-one-owner (s ∷ ss) p h (suc i) zero a b =
-    let same : s ≡ b.switch = let here = b.here in cc in
-    absurd (apart s ss a.switch i p h (subst (λ u. Contains (points_of u) p) (sym same) b.has) a.here a.has)
-one-owner (s ∷ ss) p h (suc i) (suc j) a b =
-    ap suc (one-owner ss p (rest-differs (points_of s) (points_of_all ss) h) i j (record { switch = a.switch; here = a.here; has = a.has }) (record { switch = b.switch; here = b.here; has = b.has }))
+-- so do those of the switches from a place on
+own-points-from : (all : List Switch) (k : ℕ) (ss : List Switch) → drop k all ≡ ss → AllByRecursion (IsOwned all) (points_from k ss)
+own-points-from all k [] rest = tt
+own-points-from all k (s ∷ ss) rest =
+    each-append (IsOwned all) (points_of k s) (points_from (k + 1) ss)
+    (own-points all k s (first-of-rest all k s ss rest))
+    (own-points-from all (k + 1) ss (rest-of-rest all k s ss rest))
 
--- each point belongs to a switch
-some-owner : (ss : List Switch) (p : Point) → Contains (points_of_all ss) p → (place : ℕ) × Owns ss place p
-some-owner [] p at = absurd (omega (arith, at.1))
-some-owner (s ∷ ss) p at =
-    elim (Contains-append_cases (points_of s) (points_of_all ss) p at) [
-      | inl one ↦ (0, record { switch = s; here = refl; has = one })
-      | inr two ↦ let w = some-owner ss p two in (suc w.0, record { switch = w.1.switch; here = w.1.here; has = w.1.has })
-    ]
-
-owners-all : (ss : List Switch) → AllDiffer (names_of (points_of_all ss)) → All (BelongsToOne ss) (points_of_all ss)
-owners-all ss h k d lt =
-    let p = get_or (points_of_all ss) k d in
-    let w = some-owner ss p (Contains-get_or (points_of_all ss) k d lt) in
-    record { owner = w.0; owns = w.1; only = λ place owns. one-owner ss p h place w.0 owns w.1 }
+all-owned : (ss : List Switch) → All (IsOwned ss) (points_of_all ss)
+all-owned ss = All-from_recursion (IsOwned ss) (points_of_all ss) (own-points-from ss 0 ss refl)
 
 -- what checks without a refusal say
 first_of-None : (check : Option BayFault) (rest : List (Option BayFault)) → first_of (check ∷ rest) ≡ None → (check ≡ None) × (first_of rest ≡ None)
@@ -154,7 +148,7 @@ sound-bay f h =
       points = refl;
       rows = refl;
       names = pairs-differ (points_of_all ss) differ;
-      owners = owners-all ss differ;
+      owners = all-owned ss;
       tree = rows_make_tree ss (omega (arith, counts.1));
     }
 

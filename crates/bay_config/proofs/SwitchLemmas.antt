@@ -11,7 +11,7 @@ use Rattle.bay_config.specs.declared.bay.SwitchKind.TheVariants.{Breaker}
 use Rattle.bay_config.specs.declared.bay.Control.{Control}
 use Rattle.bay_config.specs.declared.bay.Control.TheVariants.{Status, Direct}
 use Rattle.bay_config.specs.declared.fault.BayFault.{BayFault}
-use Rattle.bay_config.specs.Gives.{judged}
+use Rattle.bay_base.specs.Exact.{judged}
 use Rattle.bay_config.specs.Key.{first_of, unknown_refusal, key_refusal, entry_refusal, text_in, number_in, natural, has_unknown, is_among}
 use Rattle.bay_config.specs.declared.fault.BayFault.TheVariants.{BadValue, TooMany}
 use Rattle.bay_config.specs.Section.{are_tables, tables_of, list_refusal}
@@ -24,7 +24,7 @@ times_in t = (number_in t (codes "sbo_timeout_ms"), number_in t (codes "travel_m
 -- the switch, read key by key
 abbrev pub switch_by_keys : Members → Result Switch BayFault
 switch_by_keys t =
-    then (judged {S = Unit {0}} (unknown_refusal (map (λ k. k.name) (switch_keys t)) t) tt)
+    then (judged {B = Unit {0}} (unknown_refusal (map (λ k. k.name) (switch_keys t)) t) tt)
     (λ _. then (judged (key_refusal t id_key) (text_in t (codes "id")))
     (λ id. then (judged (key_refusal t kind_key) (unwrap_or (kind_of t) Breaker))
     (λ kind. then (judged (key_refusal t control_key) (unwrap_or (control_of t) Status))

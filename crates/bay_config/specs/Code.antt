@@ -1,13 +1,13 @@
 -- The number of each fault.
-use Rattle.std.specs.Prelude.{ℕ}
+use Rattle.std.specs.Prelude.{ℕ, Option, Some, None}
 use Rattle.bay_config.specs.declared.fault.BayFault.{BayFault}
 use Rattle.bay_config.specs.declared.fault.BayFault.TheVariants.{BadToml, MissingKey, UnknownKey, BadValue, DuplicateName, TooMany, OutOfMemory}
 
-abbrev pub code_of : BayFault → ℕ
-code_of BadToml = 50
-code_of MissingKey = 51
-code_of UnknownKey = 52
-code_of BadValue = 53
-code_of DuplicateName = 54
-code_of TooMany = 55
-code_of OutOfMemory = 0
+abbrev pub code_of : BayFault → Option ℕ
+code_of BadToml = Some 50
+code_of MissingKey = Some 51
+code_of UnknownKey = Some 52
+code_of BadValue = Some 53
+code_of DuplicateName = Some 54
+code_of TooMany = Some 55
+code_of OutOfMemory = None

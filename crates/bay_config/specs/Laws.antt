@@ -9,19 +9,17 @@ use Rattle.bay_config.specs.declared.bay.Bay.{Bay}
 use Rattle.bay_config.specs.declared.bay.Point.{Point}
 use Rattle.bay_config.specs.declared.bay.Switch.{Switch}
 use Rattle.bay_config.specs.Node.{Node, row, node_rows, node_name, class_of, number_of, position_parts, interlocking_parts, rows_of_all}
-use Rattle.bay_config.specs.Point.{points_of, points_of_all}
+use Rattle.bay_config.specs.Point.{place_in, points_of, points_of_all}
 
 -- the switch at a place has the point
 pub record Owns (switches : List Switch) (place : ℕ) (point : Point) : Type 0 where
   pub switch : Switch
   pub here : slice_get switches place ≡ Some switch
-  pub has : Contains (points_of switch) point
+  pub has : Contains (points_of place switch) point
 
--- the point belongs to one switch, and to no other
-pub record BelongsToOne (switches : List Switch) (point : Point) : Type 0 where
-  pub owner : ℕ
-  pub owns : Owns switches owner point
-  pub only : (place : ℕ) → Owns switches place point → place ≡ owner
+-- the point is one of the switch that its origin names
+abbrev pub IsOwned : List Switch → Point → Type 0
+IsOwned switches point = Owns switches (place_in point.origin) point
 
 pub record IsBay (bay : Bay) : Type 0 where
   -- 1 to 32 switches
@@ -30,9 +28,9 @@ pub record IsBay (bay : Bay) : Type 0 where
   -- its points and rows are those of its switches
   pub points : bay.points ≡ points_of_all bay.switches
   pub rows : bay.rows ≡ rows_of_all bay.switches
-  -- no two points have one name, and each belongs to exactly one switch
+  -- no two points have one name, and each belongs to the switch that its origin names
   pub names : AllPairs (λ p q. p.name ≢ q.name) bay.points
-  pub owners : All (BelongsToOne bay.switches) bay.points
+  pub owners : All (IsOwned bay.switches) bay.points
   -- names of rows are distinct, and each row's parent is a structure before it
   pub tree : IsTree bay.rows
 

@@ -1,11 +1,9 @@
 pub mod Bay
 pub mod Code
-pub mod Gives
 pub mod Key
 pub mod Laws
 pub mod Node
 pub mod NodeRows
 pub mod Point
-pub mod Reserved
 pub mod Section
 pub mod Switch

@@ -58,7 +58,12 @@ switch_type Earthing = part (status (codes "SwTyp") (Int8 (pos 3)) Good) end
 abbrev pub position_parts : SwitchKind → Parts
 position_parts kind =
     part
-    (structure (codes "ST") (part (status (codes "Pos") (Dbpos Intermediate) Invalid) (part (status (codes "BlkOpn") (Truth false) Good) (part (status (codes "BlkCls") (Truth false) Good) (part (status (codes "OpCnt") (Int32 (pos 0)) Good) (switch_type kind))))))
+    (structure (codes "ST")
+    (part (status (codes "Pos") (Dbpos Intermediate) Invalid)
+    (part (status (codes "BlkOpn") (Truth false) Good)
+    (part (status (codes "BlkCls") (Truth false) Good)
+    (part (status (codes "OpCnt") (Int32 (pos 0)) Good)
+    (switch_type kind))))))
     (part (structure (codes "CF") (part (structure (codes "Pos") (part (value (codes "ctlModel") (Int8 (pos 0))) end)) end)) end)
 
 -- the parts of CILO

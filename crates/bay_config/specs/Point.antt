@@ -1,32 +1,60 @@
 -- The points of switches, and the refusal of their names.
-use Rattle.std.specs.Prelude.{ℕ, Bool, true, false, ◌||◌, cond, List, [], ◌∷◌, ◌++◌, map, codes, Option, None, Some}
-use Rattle.std.specs.List.{list_any, flat_map}
+use Rattle.std.specs.Prelude.{ℕ, ◌+◌, Bool, true, false, ◌||◌, cond, List, [], ◌∷◌, ◌++◌, map, codes, Option, None, Some, is_some}
+use Rattle.std.specs.List.{list_any}
 use Rattle.std.specs.Str.{str_to_ascii_uppercase}
 use Rattle.bay_config.specs.declared.bay.Switch.{Switch}
 use Rattle.bay_config.specs.declared.bay.Point.{Point}
-use Rattle.bay_config.specs.declared.bay.PointKind.{PointKind}
-use Rattle.bay_config.specs.declared.bay.PointKind.TheVariants.{Bool as Truth, Int}
+use Rattle.bay_config.specs.declared.bay.Origin.{Origin}
+use Rattle.bay_config.specs.declared.bay.Origin.TheVariants as origins
+use Rattle.bay_config.specs.declared.bay.SwitchPoint.{SwitchPoint}
+use Rattle.bay_config.specs.declared.bay.SwitchPoint.TheVariants.{Position, Open, Closed, EnableOpen, EnableClose}
+use Rattle.bay_base.specs.Words.{reserved_of}
+use Rattle.bay_base.specs.declared.types.ElementaryType.{ElementaryType}
+use Rattle.bay_base.specs.declared.types.ElementaryType.TheVariants.{Bool as Truth, Int}
 use Rattle.bay_config.specs.declared.fault.BayFault.{BayFault}
 use Rattle.bay_config.specs.declared.fault.BayFault.TheVariants.{BadValue, DuplicateName}
 use Rattle.bay_config.specs.Key.{is_among, first_of}
-use Rattle.bay_config.specs.Reserved.{reserved_words}
 
--- what follows the switch's name in a point's name, the point's type, and whether it may be written
-abbrev pub switch_points : List (List ℕ × PointKind × Bool)
-switch_points =
-    (codes "_POS", Int, false)
-    ∷ (codes "_OPEN", Truth, false)
-    ∷ (codes "_CLOSED", Truth, false)
-    ∷ (codes "_ENA_OPN", Truth, true)
-    ∷ (codes "_ENA_CLS", Truth, true)
+-- a point of the switch at a place with this id: what follows the id in its name, its type, whether it may
+-- be written, and which of the switch's points it is
+abbrev pub point_of : ℕ → List ℕ → List ℕ → ElementaryType → Bool → SwitchPoint → Point
+point_of place id ending kind writable which = record {
+  name = str_to_ascii_uppercase id ++ ending;
+  kind = kind;
+  writable = writable;
+  origin = origins.Switch place which;
+}
+
+-- the points that tell its position
+abbrev pub position_points : ℕ → List ℕ → List Point
+position_points place id =
+    point_of place id (codes "_POS") Int false Position
+    ∷ point_of place id (codes "_OPEN") Truth false Open
+    ∷ point_of place id (codes "_CLOSED") Truth false Closed
     ∷ []
 
-abbrev pub points_of : Switch → List Point
-points_of switch =
-    map (λ p. record { name = str_to_ascii_uppercase switch.id ++ p.0; kind = p.1; writable = p.2 }) switch_points
+-- the points that allow it to move
+abbrev pub enable_points : ℕ → List ℕ → List Point
+enable_points place id =
+    point_of place id (codes "_ENA_OPN") Truth true EnableOpen
+    ∷ point_of place id (codes "_ENA_CLS") Truth true EnableClose
+    ∷ []
+
+-- the points of the switch at a place
+abbrev pub points_of : ℕ → Switch → List Point
+points_of place switch = position_points place switch.id ++ enable_points place switch.id
+
+-- the points of switches, of which the first stands at a place
+abbrev pub points_from : ℕ → List Switch → List Point
+points_from place [] = []
+points_from place (switch ∷ switches) = points_of place switch ++ points_from (place + 1) switches
 
 abbrev pub points_of_all : List Switch → List Point
-points_of_all switches = flat_map points_of switches
+points_of_all switches = points_from 0 switches
+
+-- the place of the switch that a point belongs to
+abbrev pub place_in : Origin → ℕ
+place_in (origins.Switch place which) = place
 
 -- some text stands twice in the list
 abbrev pub has_twin : List (List ℕ) → Bool
@@ -40,4 +68,4 @@ refused_if test fault = cond test (Some fault) None
 abbrev pub names_refusal : List Point → Option BayFault
 names_refusal points =
     let names = map (λ p. p.name) points in
-    first_of (refused_if (has_twin names) DuplicateName ∷ refused_if (list_any (is_among reserved_words) names) BadValue ∷ [])
+    first_of (refused_if (has_twin names) DuplicateName ∷ refused_if (list_any (λ name. is_some (reserved_of name)) names) BadValue ∷ [])

@@ -1,5 +1,7 @@
 // What a bay is.
-use bay_tree::list::{Listing, Text};
+use bay_base::listing::Listing;
+use bay_base::text::Text;
+use bay_base::types::ElementaryType;
 use bay_tree::row::Row;
 
 /// A bay: one logical device with its switches.
@@ -63,14 +65,31 @@ pub enum Control {
 pub struct Point {
     /// The name in upper case.
     pub name: Text,
-    pub kind: PointKind,
+    pub kind: ElementaryType,
     /// Whether the program may write it.
     pub writable: bool,
+    /// What it stands for.
+    pub origin: Origin,
 }
 
-/// The type of a point (IEC 61131-3:2003, table 10).
+/// What a point stands for.
 #[derive(Clone, Copy, Debug, PartialEq, Eq)]
-pub enum PointKind {
-    Bool,
-    Int,
+pub enum Origin {
+    /// A point of the switch at this place, counted from 0 in the order of the file.
+    Switch { switch: usize, point: SwitchPoint },
+}
+
+/// A point of a switch.
+#[derive(Clone, Copy, Debug, PartialEq, Eq)]
+pub enum SwitchPoint {
+    /// Its position as a number.
+    Position,
+    /// Whether it is open.
+    Open,
+    /// Whether it is closed.
+    Closed,
+    /// Whether it may be opened, which the program writes.
+    EnableOpen,
+    /// Whether it may be closed, which the program writes.
+    EnableClose,
 }

@@ -33,18 +33,18 @@ pub enum BayFault {
 }
 
 impl BayFault {
-    /// The number of the fault: 50 to 55, and 0 for want of memory.
-    pub fn code(self) -> u8
+    /// The number of the fault, 50 to 55; want of memory has none.
+    pub fn code(self) -> Option<u8>
         ensures { result ≡ code_of self }
     {
         match self {
-            BayFault::BadToml => 50,
-            BayFault::MissingKey => 51,
-            BayFault::UnknownKey => 52,
-            BayFault::BadValue => 53,
-            BayFault::DuplicateName => 54,
-            BayFault::TooMany => 55,
-            BayFault::OutOfMemory => 0,
+            BayFault::BadToml => Some(50),
+            BayFault::MissingKey => Some(51),
+            BayFault::UnknownKey => Some(52),
+            BayFault::BadValue => Some(53),
+            BayFault::DuplicateName => Some(54),
+            BayFault::TooMany => Some(55),
+            BayFault::OutOfMemory => None,
         }
     }
 }

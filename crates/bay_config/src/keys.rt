@@ -7,11 +7,11 @@ ghost use Rattle.std.specs.Str.{bytes_eq};
 ghost use Rattle.toml.specs.Data.{get_member};
 ghost use Rattle.toml.specs.View.{view, table_view};
 ghost use Rattle.bay_config.specs.declared.fault.BayFault.TheVariants.{OutOfMemory};
-ghost use Rattle.bay_config.specs.Gives.{Gives, judged};
+ghost use Rattle.bay_base.specs.Exact.{Gives, judged};
 ghost use Rattle.bay_config.specs.Key.{identifier, description, number, begins_with_letter, is_name_character, is_identifier, is_description, unknown_refusal, key_refusal, text_in, number_in};
 
 use crate::fault::BayFault;
-use bay_tree::list::Text;
+use bay_base::text::Text;
 use std::alloc::Global;
 use toml::{Table, Value};
 
@@ -87,22 +87,14 @@ fn is_description(text: &str) -> bool
     1 <= bytes.len() && bytes.len() <= 64 && has_printable_characters(bytes)
 }
 
-/// A copy of the text.
-fn own(alloc: Global, text: &str) -> Result<Text, BayFault>
-    ensures ok { IfOk result (λ t. t ≡ text.now) }
-    ensures err { IfErr result (λ e. e ≡ OutOfMemory) }
-{
-    Ok(Text::new(String::from_str(alloc, text)?))
-}
-
 /// The identifier at a key, of at most so many characters.
 pub fn identifier_at(alloc: Global, table: &Table, key: &str, most: usize) -> Result<Text, BayFault>
     ensures { let file = table_view table.now in
-        Gives result (judged (key_refusal file (record { name = key.now; form = identifier most })) (text_in file key.now)) }
+        Gives OutOfMemory (λ x. x) result (judged (key_refusal file (record { name = key.now; form = identifier most })) (text_in file key.now)) }
 {
     match find(table, key) {
         Some(value) => match value.as_str() {
-            Some(text) if is_identifier(text, most) => own(alloc, text),
+            Some(text) if is_identifier(text, most) => Ok(Text::from_str(alloc, text)?),
             _ => Err(BayFault::BadValue),
         },
         None => Err(BayFault::MissingKey),
@@ -112,17 +104,12 @@ pub fn identifier_at(alloc: Global, table: &Table, key: &str, most: usize) -> Re
 /// The description at a key.
 pub fn description_at(alloc: Global, table: &Table, key: &str) -> Result<Text, BayFault>
     ensures { let file = table_view table.now in
-        Gives result (judged (key_refusal file (record { name = key.now; form = description })) (text_in file key.now)) }
+        Gives OutOfMemory (λ x. x) result (judged (key_refusal file (record { name = key.now; form = description })) (text_in file key.now)) }
 {
     match find(table, key) {
         Some(value) => match value.as_str() {
-            Some(text) => {
-                if !is_description(text) {
-                    return Err(BayFault::BadValue);
-                }
-                own(alloc, text)
-            }
-            None => Err(BayFault::BadValue),
+            Some(text) if is_description(text) => Ok(Text::from_str(alloc, text)?),
+            _ => Err(BayFault::BadValue),
         },
         None => Err(BayFault::MissingKey),
     }

@@ -1,78 +1,31 @@
 // The points of the switches, and their names.
-ghost use Rattle.std.specs.Prelude.{◌≡◌, ◌∷◌, [], ◌++◌, map, IfOk};
+ghost use Rattle.std.specs.Prelude.{◌≡◌, ◌∷◌, [], ◌++◌, map, is_some, IfOk};
 ghost use Rattle.std.specs.List.{list_any};
 ghost use Rattle.std.specs.Str.{bytes_eq, str_to_ascii_uppercase};
-ghost use Rattle.bay_config.specs.Gives.{judged};
-ghost use Rattle.bay_config.specs.Key.{is_among};
-ghost use Rattle.bay_config.specs.Point.{points_of, points_of_all, has_twin, names_refusal};
-ghost use Rattle.bay_config.specs.Reserved.{reserved_words};
+ghost use Rattle.bay_base.specs.Exact.{judged};
+ghost use Rattle.bay_config.specs.Point.{position_points, enable_points, points_of, points_of_all, has_twin, names_refusal};
+ghost use Rattle.bay_base.specs.Words.{reserved_of};
 
-use crate::bay::{Point, PointKind, Switch};
+use crate::bay::{Origin, Point, Switch, SwitchPoint};
 use crate::fault::BayFault;
-use crate::keys::is_known;
-use bay_tree::list::{Listing, Text};
+use bay_base::listing::Listing;
+use bay_base::text::Text;
+use bay_base::types::ElementaryType;
+use bay_base::words::reserved_word;
 use std::alloc::{AllocError, Global};
 
-/// The reserved words of Instruction List, in upper case.
-const RESERVED_WORDS: [&str; 46] = [
-    "LD",
-    "LDN",
-    "ST",
-    "STN",
-    "S",
-    "R",
-    "AND",
-    "ANDN",
-    "OR",
-    "ORN",
-    "XOR",
-    "XORN",
-    "NOT",
-    "ADD",
-    "SUB",
-    "MUL",
-    "DIV",
-    "MOD",
-    "GT",
-    "GE",
-    "EQ",
-    "NE",
-    "LE",
-    "LT",
-    "JMP",
-    "JMPC",
-    "JMPCN",
-    "CAL",
-    "RET",
-    "RETC",
-    "RETCN",
-    "INT_TO_DINT",
-    "PROGRAM",
-    "END_PROGRAM",
-    "VAR",
-    "VAR_EXTERNAL",
-    "END_VAR",
-    "BOOL",
-    "INT",
-    "DINT",
-    "LINT",
-    "TIME",
-    "TON",
-    "TOF",
-    "TRUE",
-    "FALSE",
-];
-
-/// The point of a switch whose name ends so.
+/// Adds a point of a switch: what follows the switch's id in its name, and what it is.
 fn push_point(
     alloc: Global,
     points: &mut Vec<Point>,
     id: &str,
     ending: &str,
-    kind: PointKind,
+    kind: ElementaryType,
     writable: bool,
+    origin: Origin,
 ) -> Result<(), AllocError>
-    ensures { IfOk result (λ _. points.new.items ≡ points.old.items ++ record { name = str_to_ascii_uppercase id.now ++ ending.now; kind = kind; writable = writable } ∷ []) }
+    ensures { IfOk result (λ _. points.new.items ≡ points.old.items
+        ++ record { name = str_to_ascii_uppercase id.now ++ ending.now; kind = kind; writable = writable; origin = origin } ∷ []) }
 {
     let mut name = String::from_str(alloc, id)?;
     name.make_ascii_uppercase();
@@ -81,19 +34,112 @@ fn push_point(
         name: Text::new(name),
         kind,
         writable,
+        origin,
     })?;
     Ok(())
 }
 
-fn push_points(alloc: Global, points: &mut Vec<Point>, switch: &Switch) -> Result<(), AllocError>
-    ensures { IfOk result (λ _. points.new.items ≡ points.old.items ++ points_of switch.now) }
+/// Adds the points that tell a switch's position, which the program reads.
+fn push_position(
+    alloc: Global,
+    points: &mut Vec<Point>,
+    switch: usize,
+    id: &str,
+) -> Result<(), AllocError>
+    ensures { IfOk result (λ _. points.new.items ≡ points.old.items ++ position_points switch id.now) }
+{
+    let position = Origin::Switch {
+        switch,
+        point: SwitchPoint::Position,
+    };
+    let open = Origin::Switch {
+        switch,
+        point: SwitchPoint::Open,
+    };
+    let closed = Origin::Switch {
+        switch,
+        point: SwitchPoint::Closed,
+    };
+    push_point(
+        alloc,
+        points,
+        id,
+        "_POS",
+        ElementaryType::Int,
+        false,
+        position,
+    )?;
+    push_point(
+        alloc,
+        points,
+        id,
+        "_OPEN",
+        ElementaryType::Bool,
+        false,
+        open,
+    )?;
+    push_point(
+        alloc,
+        points,
+        id,
+        "_CLOSED",
+        ElementaryType::Bool,
+        false,
+        closed,
+    )?;
+    Ok(())
+}
+
+/// Adds the points that allow a switch to move, which the program writes.
+fn push_enables(
+    alloc: Global,
+    points: &mut Vec<Point>,
+    switch: usize,
+    id: &str,
+) -> Result<(), AllocError>
+    ensures { IfOk result (λ _. points.new.items ≡ points.old.items ++ enable_points switch id.now) }
+{
+    let opens = Origin::Switch {
+        switch,
+        point: SwitchPoint::EnableOpen,
+    };
+    let closes = Origin::Switch {
+        switch,
+        point: SwitchPoint::EnableClose,
+    };
+    push_point(
+        alloc,
+        points,
+        id,
+        "_ENA_OPN",
+        ElementaryType::Bool,
+        true,
+        opens,
+    )?;
+    push_point(
+        alloc,
+        points,
+        id,
+        "_ENA_CLS",
+        ElementaryType::Bool,
+        true,
+        closes,
+    )?;
+    Ok(())
+}
+
+/// Adds the points of the switch at a place.
+fn push_points(
+    alloc: Global,
+    points: &mut Vec<Point>,
+    place: usize,
+    switch: &Switch,
+) -> Result<(), AllocError>
+    ensures { IfOk result (λ _. points.new.items ≡ points.old.items ++ points_of place switch.now) }
 {
     let id = switch.id.as_str();
-    push_point(alloc, points, id, "_POS", PointKind::Int, false)?;
-    push_point(alloc, points, id, "_OPEN", PointKind::Bool, false)?;
-    push_point(alloc, points, id, "_CLOSED", PointKind::Bool, false)?;
-    push_point(alloc, points, id, "_ENA_OPN", PointKind::Bool, true)?;
-    push_point(alloc, points, id, "_ENA_CLS", PointKind::Bool, true)?;
+    push_position(alloc, points, place, id)?;
+    push_enables(alloc, points, place, id)?;
     Ok(())
 }
 
@@ -102,8 +148,8 @@ pub fn points_of(alloc: Global, switches: &[Switch]) -> Result<Listing<Point>, A
     ensures { IfOk result (λ points. points ≡ points_of_all switches.now) }
 {
     let mut points = Vec::new(alloc);
-    for switch in switches {
-        push_points(alloc, &mut points, switch)?;
+    for place in 0..switches.len() {
+        push_points(alloc, &mut points, place, &switches[place])?;
     }
     Ok(Listing::new(points))
 }
@@ -129,23 +175,13 @@ fn has_twin(points: &[Point]) -> bool
     false
 }
 
-fn reserved_words() -> &'static [&'static str]
-    ensures { map (λ word. word.now) result.now ≡ reserved_words }
-{
-    &RESERVED_WORDS
-}
-
-fn is_reserved(name: &str) -> bool
-    ensures { result ≡ is_among reserved_words name.now }
-{
-    is_known(reserved_words(), name)
-}
-
 /// Whether a point is named as a reserved word.
 fn has_reserved_name(points: &[Point]) -> bool
-    ensures { result ≡ list_any (λ p. is_among reserved_words p.name) points.now }
+    ensures { result ≡ list_any (λ p. is_some (reserved_of p.name)) points.now }
 {
-    points.iter().any(|point| is_reserved(point.name.as_str()))
+    points
+        .iter()
+        .any(|point| reserved_word(point.name.as_str()).is_some())
 }
 
 /// Refuses two points of one name, and then a point that is named as a reserved word.

@@ -2,7 +2,8 @@
 ghost use Rattle.std.specs.Prelude.{IfOk};
 ghost use Rattle.toml.specs.View.{table_view};
 ghost use Rattle.bay_config.specs.Bay.{bay_of_table, bay_of};
-ghost use Rattle.bay_config.specs.Gives.{Gives};
+ghost use Rattle.bay_config.specs.declared.fault.BayFault.TheVariants.{OutOfMemory};
+ghost use Rattle.bay_base.specs.Exact.{Gives};
 ghost use Rattle.bay_config.specs.Laws.{IsBay};
 
 use crate::bay::Bay;
@@ -16,7 +17,7 @@ use toml::Table;
 
 /// The bay of a file's table.
 fn bay_from(alloc: Global, file: &Table) -> Result<Bay, BayFault>
-    ensures read { Gives result (bay_of_table (table_view file.now)) }
+    ensures read { Gives OutOfMemory (λ x. x) result (bay_of_table (table_view file.now)) }
     ensures sound { IfOk result IsBay }
 {
     check_keys(file, &["bay", "switch"])?;
@@ -40,7 +41,7 @@ fn bay_from(alloc: Global, file: &Table) -> Result<Bay, BayFault>
 /// Reads a bay from the text of its file, or says why the text is none.
 pub fn read_bay(alloc: Global, text: &str) -> Result<Bay, BayFault>
     // The bay that the text describes, or its first refusal, unless memory ran out.
-    ensures read { Gives result (bay_of text.now) }
+    ensures read { Gives OutOfMemory (λ x. x) result (bay_of text.now) }
     ensures sound { IfOk result IsBay }
 {
     match toml::table_from_str(alloc, text) {
@@ -57,6 +58,3 @@ pub fn read_bay(alloc: Global, text: &str) -> Result<Bay, BayFault>
         }
     }
 }
-
-#[cfg(test)]
-mod tests;

@@ -4,9 +4,10 @@ ghost use Rattle.std.specs.List.{list_all};
 ghost use Rattle.toml.specs.Data.{as_table};
 ghost use Rattle.toml.specs.View.{view, table_view, items_view};
 ghost use Rattle.bay_config.specs.declared.bay.SwitchKind.TheVariants.{Breaker};
+ghost use Rattle.bay_config.specs.declared.fault.BayFault.TheVariants.{OutOfMemory};
 ghost use Rattle.bay_config.specs.declared.bay.Control.TheVariants.{Status};
 ghost use Rattle.bay_config.specs.Bay.{bay_keys, bay_section, switch_section, bay_table, nameplate_in, switches_in};
-ghost use Rattle.bay_config.specs.Gives.{Gives, judged};
+ghost use Rattle.bay_base.specs.Exact.{Gives, judged};
 ghost use Rattle.bay_config.specs.Key.{first_of, has_unknown, key_refusal, entry_refusal, named, number_in};
 ghost use Rattle.bay_config.specs.Section.{tables_of, list_refusal, section_refusal};
 ghost use Rattle.bay_config.specs.Switch.{kinds, controls, kind_of, control_of, kind_key, control_key, time_keys, switch_keys, switch_in};
@@ -14,7 +15,8 @@ ghost use Rattle.bay_config.specs.Switch.{kinds, controls, kind_of, control_of, 
 use crate::bay::{Control, Switch, SwitchKind};
 use crate::fault::BayFault;
 use crate::keys::{check_keys, description_at, find, identifier_at, number_at};
-use bay_tree::list::{Listing, Text};
+use bay_base::listing::Listing;
+use bay_base::text::Text;
 use std::alloc::Global;
 use toml::{Table, Value};
 
@@ -124,7 +126,7 @@ fn times_at(table: &Table, control: Control) -> Result<(u32, u32), BayFault>
 
 /// The switch of a table.
 fn switch_from(alloc: Global, table: &Table) -> Result<Switch, BayFault>
-    ensures { let t = table_view table.now in Gives result (judged (entry_refusal (switch_keys t) t) (switch_in t)) }
+    ensures { let t = table_view table.now in Gives OutOfMemory (λ x. x) result (judged (entry_refusal (switch_keys t) t) (switch_in t)) }
 {
     check_keys(table, switch_key_names(readable_control(table)))?;
     let id = identifier_at(alloc, table, "id", 16)?;
@@ -143,7 +145,7 @@ fn switch_from(alloc: Global, table: &Table) -> Result<Switch, BayFault>
 /// The switches of a list's tables.
 fn switches_from(alloc: Global, values: &[Value]) -> Result<Listing<Switch>, BayFault>
     ensures { let tables = tables_of (items_view values.now) in
-        Gives result (judged (first_of (map (λ t. entry_refusal (switch_keys t) t) tables)) (map switch_in tables)) }
+        Gives OutOfMemory (λ x. x) result (judged (first_of (map (λ t. entry_refusal (switch_keys t) t) tables)) (map switch_in tables)) }
 {
     let mut switches = Vec::new(alloc);
     for i in 0..values.len() {
@@ -165,7 +167,7 @@ fn are_tables(values: &[Value]) -> bool
 /// The switches of a list, which is not empty and has tables alone, at most 32.
 fn switches_of(alloc: Global, values: &[Value]) -> Result<Listing<Switch>, BayFault>
     ensures { let items = items_view values.now in
-        Gives result (judged (list_refusal 32 switch_keys (Some items)) (map switch_in (tables_of items))) }
+        Gives OutOfMemory (λ x. x) result (judged (list_refusal 32 switch_keys (Some items)) (map switch_in (tables_of items))) }
 {
     if values.is_empty() {
         return Err(BayFault::MissingKey);
@@ -182,7 +184,7 @@ fn switches_of(alloc: Global, values: &[Value]) -> Result<Listing<Switch>, BayFa
 /// The section `switch`.
 pub fn switches_at(alloc: Global, file: &Table) -> Result<Listing<Switch>, BayFault>
     ensures { let f = table_view file.now in
-        Gives result (judged (section_refusal f switch_section) (switches_in f)) }
+        Gives OutOfMemory (λ x. x) result (judged (section_refusal f switch_section) (switches_in f)) }
 {
     match find(file, "switch") {
         Some(value) => match value.as_array() {
@@ -204,7 +206,7 @@ pub struct Nameplate {
 }
 
 fn nameplate_from(alloc: Global, table: &Table) -> Result<Nameplate, BayFault>
-    ensures { let t = table_view table.now in Gives result (judged (entry_refusal bay_keys t) (nameplate_in t)) }
+    ensures { let t = table_view table.now in Gives OutOfMemory (λ x. x) result (judged (entry_refusal bay_keys t) (nameplate_in t)) }
 {
     check_keys(
         table,
@@ -227,7 +229,7 @@ fn nameplate_from(alloc: Global, table: &Table) -> Result<Nameplate, BayFault>
 /// The section `bay`.
 pub fn nameplate_at(alloc: Global, file: &Table) -> Result<Nameplate, BayFault>
     ensures { let f = table_view file.now in
-        Gives result (judged (section_refusal f bay_section) (nameplate_in (bay_table f))) }
+        Gives OutOfMemory (λ x. x) result (judged (section_refusal f bay_section) (nameplate_in (bay_table f))) }
 {
     match find(file, "bay") {
         Some(value) => match value.as_table() {

@@ -1,5 +1,5 @@
 -- The number of each fault.
-use Rattle.std.specs.Prelude.{ℕ}
+use Rattle.std.specs.Prelude.{ℕ, Option, Some, None}
 use Rattle.bay_tree.specs.declared.fault.TreeFault.{TreeFault}
 use Rattle.bay_tree.specs.declared.fault.TreeFault.TheVariants.{NoSuchName, WrongType}
 use Rattle.bay_tree.specs.declared.fault.NamesFault.{NamesFault}
@@ -9,6 +9,6 @@ abbrev pub code_of : TreeFault → ℕ
 code_of NoSuchName = 40
 code_of WrongType = 41
 
-abbrev pub names_code_of : NamesFault → ℕ
-names_code_of names.NoSuchName = 40
-names_code_of names.OutOfMemory = 0
+abbrev pub names_code_of : NamesFault → Option ℕ
+names_code_of names.NoSuchName = Some 40
+names_code_of names.OutOfMemory = None

@@ -41,13 +41,13 @@ pub enum NamesFault {
 }
 
 impl NamesFault {
-    /// The fault's number: 40 for an unknown name, 0 for want of memory.
-    pub fn code(self) -> u8
+    /// The fault's number: 40 for an unknown name; want of memory has none.
+    pub fn code(self) -> Option<u8>
         ensures { result ≡ names_code_of self }
     {
         match self {
-            NamesFault::NoSuchName => 40,
-            NamesFault::OutOfMemory => 0,
+            NamesFault::NoSuchName => Some(40),
+            NamesFault::OutOfMemory => None,
         }
     }
 }

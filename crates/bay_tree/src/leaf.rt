@@ -2,7 +2,8 @@
 ghost use Rattle.std.specs.Prelude.{◌≡◌};
 ghost use Rattle.bay_tree.specs.Kinds.{kind_of};
 
-use crate::list::{Listing, Text};
+use bay_base::listing::Listing;
+use bay_base::text::Text;
 
 /// A double-point position (IEC 61850-7-3, DPC: stVal), in the order of its two bits.
 #[derive(Clone, Copy, Debug, PartialEq, Eq)]

@@ -1,6 +1,6 @@
 // A row of the tree.
 use crate::leaf::Leaf;
-use crate::list::Text;
+use bay_base::text::Text;
 
 /// A named value, or the name of a structure.
 #[derive(Debug, Drop)]

@@ -10,7 +10,8 @@ use Rattle.std.specs.Str.{bytes_eq}
 use Rattle.bay_config.specs.declared.bay.Point.{Point}
 use Rattle.std.proofs.Common.{subst}
 use Rattle.il_text.specs.declared.program.Operator.{Operator}
-use Rattle.il_text.specs.Names.{upper, same_name}
+use Rattle.bay_base.specs.Names.{upper, same_name}
+use Rattle.bay_base.proofs.NameLemmas.{upper-upper, same-upper}
 use Rattle.il_text.specs.Listing as listing
 use Rattle.il_text.specs.Listing.{Declared, constant, variable, Action, load, store, combine, Entry, action, block}
 use Rattle.il_check.specs.Places.{place_in, source_at, instruction_at, entry_at, may_not_write, action_faults_at, entry_faults_at, entries_faults_at}
@@ -244,14 +245,6 @@ module _ (names : List (List ℕ)) (places : List ℕ → Option ℕ) (leads_to 
       ∙ ap (λ (x : Entry). x ∷ items_named names rest) (entry_named e found.0 found.1)
       ∙ ap (λ (xs : List Entry). plain_entry e ∷ xs) (all_named writable true es split.1)
 
-upper-upper : (name : List ℕ) → upper (upper name) ≡ upper name
-upper-upper [] = refl
-upper-upper (c ∷ name) = ap (λ d. d ∷ upper (upper name)) (uppercase-uppercase c) ∙ ap (λ (ds : List ℕ). to_ascii_uppercase c ∷ ds) (upper-upper name)
-
-same_left : (a b : List ℕ) → same_name (upper a) b ≡ same_name a b
-unfolding same_name
-same_left a b = ap (λ (u : List ℕ). bytes_eq u (upper b)) (upper-upper a)
-
 declared_right : (declared : List Declared) (name : List ℕ) → is_declared declared (upper name) ≡ is_declared declared name
 unfolding same_name
 declared_right declared name = ap (λ (u : List ℕ). list_any (λ (d : Declared). bytes_eq (upper d.name) u) declared) (upper-upper name)
@@ -290,7 +283,7 @@ pub all_apart : (of_bay : List Point) (before ds : List Declared) → declaratio
 all_apart of_bay before [] none i j below within = absurd (omega arith)
 all_apart of_bay before (d ∷ ds) none zero zero below within = absurd (omega arith)
 all_apart of_bay before (d ∷ ds) none zero (suc j) below within =
-    same_left d.name (name_at (map (λ (x : Declared). upper x.name) ds) j)
+    same-upper d.name (name_at (map (λ (x : Declared). upper x.name) ds) j)
     ∙ (any_more (λ (y : Declared). same_name y.name (name_at (map (λ (x : Declared). upper x.name) ds) j)) before d
     (apart_before of_bay (before ++ d ∷ []) ds j (append-none _ _ none).1 (omega (arith, length-map ds (λ (x : Declared). upper x.name))))).1
 all_apart of_bay before (d ∷ ds) none (suc i) zero below within = absurd (omega arith)

@@ -4,18 +4,19 @@ use Rattle.std.specs.BTreeMap.{get_by_text}
 use Rattle.std.specs.List.{filter_map}
 use Rattle.std.proofs.lemmas.List.{length-map}
 use Rattle.bay_config.specs.declared.bay.Point.{Point}
-use Rattle.il_text.specs.Names.{upper}
+use Rattle.bay_config.specs.declared.bay.Origin.{Origin}
+use Rattle.bay_base.specs.Names.{upper}
 use Rattle.il_text.specs.Listing.{Declared, Entry, Listing}
 use Rattle.il_text.specs.Views.{declared_of, entry_of, listing_of}
 use Rattle.il_text.specs.declared.program.Declaration.{Declaration}
 use Rattle.il_text.specs.declared.program.Item.{Item}
 use Rattle.il_text.specs.declared.program.Program.{Program}
-use Rattle.il_check.specs.Gives.{judged}
+use Rattle.bay_base.specs.Exact.{judged}
 use Rattle.il_check.specs.Noted.{noted}
 use Rattle.il_check.specs.Places.{entry_at, entries_faults_at}
 use Rattle.il_check.specs.Slots.{AreApart, IsWithin, items_named}
 use Rattle.il_check.specs.Standing.{StandsFor}
-use Rattle.il_check.specs.WellTyped.{Checked, place_of_point, initial_value, plain_entry, declarations_faults, entries_faults, faults_of, first_fault, checked_of, checked_program}
+use Rattle.il_check.specs.WellTyped.{Checked, origin_of, initial_value, plain_entry, declarations_faults, entries_faults, faults_of, first_fault, checked_of, checked_program}
 use Rattle.il_check.specs.declared.declare.Declarations.{Declarations}
 use Rattle.il_check.specs.declared.resolve.Resolved.{Resolved}
 use Rattle.il_check.specs.declared.fault.CheckFault.{CheckFault}
@@ -59,9 +60,9 @@ module _ (of_bay : List Point) (program : Listing) (d : Declarations) (r : Resol
       subst (λ xs. All (IsWithin (length d.names.items)) xs) (sym read.instructions) (all_within d.names.items (places_of d) leads_to program.items) in
       subst (λ n. All (IsWithin n) r.instructions.items) (sym d.names.ok.0) them
 
-  pub pointed : vec_len d.points ≡ vec_len d.names
+  pub pointed : vec_len d.origins ≡ vec_len d.names
   pointed =
-      d.points.ok.0 ∙ ap length read.stands.points ∙ length-map program.declarations (place_of_point of_bay)
+      d.origins.ok.0 ∙ ap length read.stands.origins ∙ length-map program.declarations (origin_of of_bay)
       ∙ sym (length-map program.declarations (λ (x : Declared). upper x.name)) ∙ sym (ap length read.stands.names) ∙ sym d.names.ok.0
 
   pub begun : vec_len d.initial ≡ vec_len d.names
@@ -85,14 +86,14 @@ module _ (of_bay : List Point) (program : Listing) (d : Declarations) (r : Resol
 
   -- without a fault, the answer is the program on slots
   pub passed : r.found ≡ None
-      → checked_of of_bay program ≡ Ok (record { names = d.names.items; points = d.points.items; initial = d.initial.items; items = items_named d.names.items r.instructions.items })
+      → checked_of of_bay program ≡ Ok (record { names = d.names.items; origins = d.origins.items; initial = d.initial.items; items = items_named d.names.items r.instructions.items })
   passed none =
-      let with_names : List (List ℕ) → Checked = λ ns. record { names = ns; points = map (place_of_point of_bay) program.declarations; initial = map initial_value program.declarations; items = map plain_entry program.items } in
-      let with_points : List (Option ℕ) → Checked = λ ps. record { names = d.names.items; points = ps; initial = map initial_value program.declarations; items = map plain_entry program.items } in
-      let with_initial : List Bool → Checked = λ bs. record { names = d.names.items; points = d.points.items; initial = bs; items = map plain_entry program.items } in
-      let with_items : List Entry → Checked = λ es. record { names = d.names.items; points = d.points.items; initial = d.initial.items; items = es } in
+      let with_names : List (List ℕ) → Checked = λ ns. record { names = ns; origins = map (origin_of of_bay) program.declarations; initial = map initial_value program.declarations; items = map plain_entry program.items } in
+      let with_points : List (Option Origin) → Checked = λ ps. record { names = d.names.items; origins = ps; initial = map initial_value program.declarations; items = map plain_entry program.items } in
+      let with_initial : List Bool → Checked = λ bs. record { names = d.names.items; origins = d.origins.items; initial = bs; items = map plain_entry program.items } in
+      let with_items : List Entry → Checked = λ es. record { names = d.names.items; origins = d.origins.items; initial = d.initial.items; items = es } in
       ap (λ (o : Option CheckFault). judged o (checked_program of_bay program)) (sym found-is ∙ none)
-      ∙ ap Ok (ap with_names (sym read.stands.names) ∙ ap with_points (sym read.stands.points) ∙ ap with_initial (sym read.stands.initial) ∙ ap with_items (sym (named none)))
+      ∙ ap Ok (ap with_names (sym read.stands.names) ∙ ap with_points (sym read.stands.origins) ∙ ap with_initial (sym read.stands.initial) ∙ ap with_items (sym (named none)))
 
 pub is_read : (of_bay : List Point) (p : Program) (declarations : List Declaration) (items : List Item) (d : Declarations) (r : Resolved)
     → declarations ≡ p.declarations.items → items ≡ p.items.items

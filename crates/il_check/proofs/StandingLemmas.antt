@@ -7,14 +7,14 @@ use Rattle.std.proofs.lemmas.List.{map-append, length-map, map_more}
 use Rattle.std.specs.BTreeMap.{get_by_text}
 use Rattle.std.specs.Str.{bytes_eq}
 use Rattle.bay_config.specs.declared.bay.Point.{Point}
-use Rattle.il_text.specs.Names.{upper}
+use Rattle.bay_base.specs.Names.{upper}
 use Rattle.il_text.specs.Listing.{Declared}
 use Rattle.il_text.specs.Views.{declared_of}
 use Rattle.il_text.specs.declared.program.Declaration.{Declaration}
 use Rattle.il_check.specs.Noted.{noted, declaration_faults_at}
 use Rattle.il_check.specs.Places.{place_in, with_place}
 use Rattle.il_check.specs.Standing.{StandsFor}
-use Rattle.il_check.specs.WellTyped.{place_of_point, initial_value, can_write, is_declared, declaration_faults, declarations_faults, first_fault}
+use Rattle.il_check.specs.WellTyped.{origin_of, initial_value, can_write, is_declared, declaration_faults, declarations_faults, first_fault}
 use Rattle.il_check.specs.declared.declare.Declarations.{Declarations}
 use Rattle.il_check.specs.declared.fault.CheckFault.{CheckFault}
 use Rattle.il_check.proofs.NotedLemmas.{noted-append, noted-nil}
@@ -23,7 +23,7 @@ use Rattle.il_check.proofs.PlaceLemmas.{place_in-more, is_declared-place}
 -- what taking a declaration changes
 pub record Takes (of_bay : List Point) (x : Declared) (old new : Declarations) : Type 0 where
   pub names : new.names.items ≡ old.names.items ++ upper x.name ∷ []
-  pub points : new.points.items ≡ old.points.items ++ place_of_point of_bay x ∷ []
+  pub origins : new.origins.items ≡ old.origins.items ++ origin_of of_bay x ∷ []
   pub initial : new.initial.items ≡ old.initial.items ++ initial_value x ∷ []
   pub writable : new.writable.items ≡ old.writable.items ++ can_write of_bay (Some x) ∷ []
   pub places : (other : List ℕ) → get_by_text new.places other ≡ with_place (λ q. get_by_text old.places q) (upper x.name) (vec_len old.names) other
@@ -39,7 +39,7 @@ pub stands-more : (of_bay : List Point) (before : List Declared) (x : Declared) 
     → StandsFor of_bay before old → Takes of_bay x old new → StandsFor of_bay (before ++ x ∷ []) new
 stands-more of_bay before x old new sized known taken = record {
   names = one_more (λ (y : Declared). upper y.name) before x _ _ known.names taken.names;
-  points = one_more (place_of_point of_bay) before x _ _ known.points taken.points;
+  origins = one_more (origin_of of_bay) before x _ _ known.origins taken.origins;
   initial = one_more initial_value before x _ _ known.initial taken.initial;
   writable = one_more (λ (y : Declared). can_write of_bay (Some y)) before x _ _ known.writable taken.writable;
   places = λ name.

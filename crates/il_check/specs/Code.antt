@@ -1,17 +1,17 @@
 -- The numbers and lines of the faults.
-use Rattle.std.specs.Prelude.{ℕ}
+use Rattle.std.specs.Prelude.{ℕ, Option, Some, None}
 use Rattle.il_check.specs.declared.fault.CheckFault.{CheckFault}
 use Rattle.il_check.specs.declared.fault.CheckFault.TheVariants.{OutsideSubset, UnknownName, DuplicateName, TypeMismatch, UnsetResult, ReadOnly, TooMany, OutOfMemory}
 
-abbrev pub code_of : CheckFault → ℕ
-code_of (OutsideSubset line) = 61
-code_of (UnknownName line) = 70
-code_of (DuplicateName line) = 71
-code_of (TypeMismatch line) = 72
-code_of (UnsetResult line) = 73
-code_of (ReadOnly line) = 77
-code_of (TooMany line) = 79
-code_of OutOfMemory = 0
+abbrev pub code_of : CheckFault → Option ℕ
+code_of (OutsideSubset line) = Some 61
+code_of (UnknownName line) = Some 70
+code_of (DuplicateName line) = Some 71
+code_of (TypeMismatch line) = Some 72
+code_of (UnsetResult line) = Some 73
+code_of (ReadOnly line) = Some 77
+code_of (TooMany line) = Some 79
+code_of OutOfMemory = None
 
 abbrev pub line_of : CheckFault → ℕ
 line_of (OutsideSubset line) = line

@@ -1,5 +1,4 @@
 pub mod Code
-pub mod Gives
 pub mod Noted
 pub mod Places
 pub mod Slots

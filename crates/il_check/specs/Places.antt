@@ -2,7 +2,7 @@
 use Rattle.std.specs.Prelude.{ℕ, Bool, true, false, not, ◌&&◌, cond, is_none, List, [], ◌∷◌, ◌++◌, Option, None, Some, option_map, slice_index_or}
 use Rattle.std.specs.List.{position_from}
 use Rattle.std.specs.Str.{bytes_eq}
-use Rattle.il_text.specs.Names.{upper}
+use Rattle.bay_base.specs.Names.{upper}
 use Rattle.il_text.specs.Listing.{Declared, Action, load, store, combine, Entry, action, block}
 use Rattle.il_text.specs.Listing as listing
 use Rattle.il_check.specs.WellTyped.{fault_if}

@@ -6,7 +6,7 @@ use Rattle.il_check.specs.declared.typed.Typed.{Typed}
 abbrev pub typed_view : Typed → Checked
 typed_view t = record {
   names = t.names.items;
-  points = t.points.items;
+  origins = t.origins.items;
   initial = t.initial.items;
   items = items_named t.names.items t.instructions.items;
 }

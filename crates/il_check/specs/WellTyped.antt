@@ -1,19 +1,18 @@
 -- What is wrong with a program that can be read: its names, its points and its current result
 -- (IEC 61131-3:2003, 2.4.3 for declarations, 3.2 for the current result); and the program that is left of
 -- one without a fault.
-use Rattle.std.specs.Prelude.{ℕ, Bool, true, false, not, ◌&&◌, cond, nat_lt, nat_le, ◌==◌, is_none, List, [], ◌∷◌, ◌++◌, length, map, find, position, unwrap_or, Option, None, Some, Result}
+use Rattle.std.specs.Prelude.{ℕ, Bool, true, false, not, ◌&&◌, cond, nat_lt, nat_le, ◌==◌, is_none, List, [], ◌∷◌, ◌++◌, length, map, find, unwrap_or, Option, None, Some, option_map, Result}
 use Rattle.std.specs.List.{list_any}
 use Rattle.bay_config.specs.declared.bay.Point.{Point}
-use Rattle.bay_config.specs.declared.bay.PointKind.{PointKind}
-use Rattle.bay_config.specs.declared.bay.PointKind.TheVariants as kind
-use Rattle.il_text.specs.declared.program.ElementaryType.{ElementaryType}
-use Rattle.il_text.specs.declared.program.ElementaryType.TheVariants as elementary
+use Rattle.bay_config.specs.declared.bay.Origin.{Origin}
+use Rattle.bay_base.specs.declared.types.ElementaryType.{ElementaryType}
+use Rattle.bay_base.specs.Types.{same_type}
 use Rattle.il_text.specs.declared.program.Scope.{Scope}
 use Rattle.il_text.specs.declared.program.Scope.TheVariants.{Local, External}
-use Rattle.il_text.specs.Names.{upper, same_name}
+use Rattle.bay_base.specs.Names.{upper, same_name}
 use Rattle.il_text.specs.Listing.{Source, constant, variable, Action, load, store, combine, Entry, action, block, Declared, Listing}
 use Rattle.il_check.specs.Code.{code_of, line_of}
-use Rattle.il_check.specs.Gives.{judged}
+use Rattle.bay_base.specs.Exact.{judged}
 use Rattle.il_check.specs.declared.fault.CheckFault.{CheckFault}
 use Rattle.il_check.specs.declared.fault.CheckFault.TheVariants.{OutsideSubset, UnknownName, DuplicateName, TypeMismatch, UnsetResult, ReadOnly, TooMany}
 
@@ -25,17 +24,12 @@ abbrev pub is_external : Scope → Bool
 is_external Local = false
 is_external External = true
 
--- a declared type is a point's
-abbrev pub is_kind : ElementaryType → PointKind → Bool
-is_kind elementary.Bool kind.Bool = true
-is_kind elementary.Bool kind.Int = false
-
 abbrev pub point_of : List Point → List ℕ → Option Point
 point_of points name = find (λ p. same_name p.name name) points
 
 abbrev pub has_kind : ElementaryType → Option Point → Bool
 has_kind type None = true
-has_kind type (Some p) = is_kind type p.kind
+has_kind type (Some p) = same_type type p.kind
 
 abbrev pub declaration_of : List Declared → List ℕ → Option Declared
 declaration_of declared name = find (λ d. same_name d.name name) declared
@@ -94,9 +88,14 @@ entries_faults points declared is_set (e ∷ es) = entry_faults points declared 
 abbrev pub faults_of : List Point → Listing → List CheckFault
 faults_of points program = declarations_faults points [] program.declarations ++ entries_faults points program.declarations false program.items
 
+-- of two numbers the first is the lower
+abbrev pub is_lower : Option ℕ → Option ℕ → Bool
+is_lower (Some first) (Some second) = nat_lt first second
+is_lower first second = false
+
 -- of a fault and a later one: the later one where it is of the same line and has a lower number
 abbrev pub better : CheckFault → CheckFault → CheckFault
-better f g = cond (line_of g == line_of f && nat_lt (code_of g) (code_of f)) g f
+better f g = cond (line_of g == line_of f && is_lower (code_of g) (code_of f)) g f
 
 abbrev pub best_of : CheckFault → List CheckFault → CheckFault
 best_of f [] = f
@@ -110,13 +109,13 @@ first_fault (f ∷ fs) = Some (best_of f fs)
 -- a program without a fault, slot by slot and item by item
 pub record Checked : Type 0 where
   pub names : List (List ℕ)
-  pub points : List (Option ℕ)
+  pub origins : List (Option Origin)
   pub initial : List Bool
   pub items : List Entry
 
--- the place of the point that a declaration stands for
-abbrev pub place_of_point : List Point → Declared → Option ℕ
-place_of_point points d = cond (is_external d.scope) (position (λ p. same_name p.name d.name) points) None
+-- what a declaration stands for: an external the point of its name
+abbrev pub origin_of : List Point → Declared → Option Origin
+origin_of points d = cond (is_external d.scope) (option_map (λ p. p.origin) (point_of points d.name)) None
 
 -- the value that a variable begins with
 abbrev pub initial_value : Declared → Bool
@@ -139,7 +138,7 @@ plain_entry (block line operator items end) = block 0 operator items 0
 abbrev pub checked_program : List Point → Listing → Checked
 checked_program points program = record {
   names = map (λ d. upper d.name) program.declarations;
-  points = map (place_of_point points) program.declarations;
+  origins = map (origin_of points) program.declarations;
   initial = map initial_value program.declarations;
   items = map plain_entry program.items;
 }

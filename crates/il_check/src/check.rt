@@ -1,8 +1,9 @@
 // The checks of a program, and the typed program that is left of one without a fault.
 ghost use Rattle.il_text.specs.Views.{listing_of};
-ghost use Rattle.il_check.specs.Gives.{Gives};
+ghost use Rattle.bay_base.specs.Exact.{Gives};
 ghost use Rattle.il_check.specs.TypedView.{typed_view};
 ghost use Rattle.il_check.specs.WellTyped.{checked_of};
+ghost use Rattle.il_check.specs.declared.fault.CheckFault.TheVariants.{OutOfMemory};
 
 use crate::declare::{Declarations, declare_all};
 use crate::fault::CheckFault;
@@ -22,7 +23,7 @@ use std::alloc::Global;
 /// fault of the lowest number (IEC 61131-3:2003, 2.4.3 and 3.2).
 pub fn check(alloc: Global, program: &Program<'_>, points: &[Point]) -> Result<Typed, CheckFault>
     // The checked program, or the fault of the first faulty line with the lowest number, unless memory ran out.
-    ensures { Gives typed_view result (checked_of points.now (listing_of program.now)) }
+    ensures { Gives OutOfMemory typed_view result (checked_of points.now (listing_of program.now)) }
 {
     let declared = declare_all(alloc, points, program.declarations.as_slice())?;
     let resolved = resolve_all(alloc, &declared, program.items.as_slice())?;
@@ -32,7 +33,7 @@ pub fn check(alloc: Global, program: &Program<'_>, points: &[Point]) -> Result<T
     } = resolved;
     let Declarations {
         names,
-        points: places,
+        origins,
         initial,
         ..
     } = declared;
@@ -40,7 +41,7 @@ pub fn check(alloc: Global, program: &Program<'_>, points: &[Point]) -> Result<T
         Some(fault) => Err(fault),
         None => Ok(Typed {
             names,
-            points: places,
+            origins,
             initial,
             instructions,
         }),

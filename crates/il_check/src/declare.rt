@@ -1,33 +1,34 @@
 // The declarations of a program (IEC 61131-3:2003, 2.4.3): which names there are, and what is wrong.
-ghost use Rattle.std.specs.Prelude.{◌≡◌, ℕ, List, [], ◌∷◌, ◌++◌, map, position, vec_len, is_some, option_copied, IfOk, OnOk, string_bytes};
+ghost use Rattle.std.specs.Prelude.{◌≡◌, ℕ, List, [], ◌∷◌, ◌++◌, map, option_map, vec_len, is_some, option_copied, IfOk, OnOk, string_bytes};
 ghost use Rattle.std.specs.BTreeMap.{get_by_text};
-ghost use Rattle.il_text.specs.Names as names;
+ghost use Rattle.bay_base.specs.Names as names;
 ghost use Rattle.il_text.specs.Views.{declared_of};
 ghost use Rattle.il_check.specs.Noted.{noted, declaration_faults_at};
 ghost use Rattle.il_check.specs.Places.{with_place};
-ghost use Rattle.il_check.specs.Standing.{StandsFor};
+ghost use Rattle.il_check.specs.Standing.{StandsFor, places_of};
 ghost use Rattle.il_check.specs.WellTyped as spec;
 
 use crate::fault::CheckFault;
 use crate::note::note_if;
-use bay_config::bay::{Point, PointKind};
-use bay_tree::list::Text;
-use il_text::name::same_name;
-use il_text::program::{Declaration, ElementaryType, Scope};
+use bay_base::names::same_name;
+use bay_base::text::Text;
+use bay_base::types::ElementaryType;
+use bay_config::bay::{Origin, Point};
+use il_text::program::{Declaration, Scope};
 use std::alloc::{AllocError, Global};
 use std::collections::BTreeMap;
 
 /// The most names that a program may declare.
 const MAX_NAMES: usize = 512;
 
-/// What is declared: for each declaration its name in upper case, its point, the value that it begins
+/// What is declared: for each declaration its name in upper case, what it stands for, the value that it begins
 /// with and whether it may be written; the place of each name's first declaration; and the fault that is
 /// answered, if there is one.
 #[derive(Drop)]
 pub(crate) struct Declarations {
     pub(crate) places: BTreeMap<String, usize>,
     pub(crate) names: Vec<Text>,
-    pub(crate) points: Vec<Option<usize>>,
+    pub(crate) origins: Vec<Option<Origin>>,
     pub(crate) initial: Vec<bool>,
     pub(crate) writable: Vec<bool>,
     pub(crate) found: Option<CheckFault>,
@@ -60,41 +61,33 @@ fn is_external(scope: Scope) -> bool
     }
 }
 
-/// Whether a declared type is a point's.
-fn is_kind(declared: ElementaryType, kind: PointKind) -> bool
-    ensures { result ≡ spec.is_kind declared kind }
-{
-    match (declared, kind) {
-        (ElementaryType::Bool, PointKind::Bool) => true,
-        (ElementaryType::Bool, PointKind::Int) => false,
-    }
-}
-
+/// Whether a point, if there is one, has the declared type.
 fn has_kind(declared: ElementaryType, point: Option<&Point>) -> bool
     ensures { result ≡ spec.has_kind declared (option_copied point.entry) }
 {
     match point {
         None => true,
-        Some(point) => is_kind(declared, point.kind),
+        Some(point) => declared.is(point.kind),
     }
 }
 
-/// The place of the point with this name.
-fn point_place(points: &[Point], name: &str) -> Option<usize>
-    ensures { result ≡ position (λ p. names.same_name p.name name.now) points.now }
+/// What a point stands for.
+fn origin_in(point: Option<&Point>) -> Option<Origin>
+    ensures { result ≡ option_map (λ p. p.origin) (option_copied point.entry) }
 {
-    points
-        .iter()
-        .position(|point| same_name(point.name.as_str(), name))
+    match point {
+        None => None,
+        Some(point) => Some(point.origin),
+    }
 }
 
-/// The place of the point that a declaration stands for.
-fn place_of_point(points: &[Point], declaration: &Declaration<'_>) -> Option<usize>
-    ensures { result ≡ spec.place_of_point points.now (declared_of declaration.now) }
+/// What a declaration stands for: an external the point of its name.
+fn origin_of(points: &[Point], declaration: &Declaration<'_>) -> Option<Origin>
+    ensures { result ≡ spec.origin_of points.now (declared_of declaration.now) }
 {
     match declaration.scope {
         Scope::Local => None,
-        Scope::External => point_place(points, declaration.name),
+        Scope::External => origin_in(point_of(points, declaration.name)),
     }
 }
 
@@ -179,7 +172,7 @@ impl Declarations {
         Declarations {
             places: BTreeMap::new(alloc),
             names: Vec::new(alloc),
-            points: Vec::new(alloc),
+            origins: Vec::new(alloc),
             initial: Vec::new(alloc),
             writable: Vec::new(alloc),
             found: None,
@@ -194,11 +187,14 @@ impl Declarations {
         declaration: &Declaration<'_>,
     ) -> Result<(), AllocError>
         ensures names { OnOk result (self.new.names.items ≡ self.old.names.items ++ names.upper declaration.now.name.now ∷ []) }
-        ensures points { OnOk result (self.new.points.items ≡ self.old.points.items ++ spec.place_of_point points.now (declared_of declaration.now) ∷ []) }
+        ensures origins { OnOk result (self.new.origins.items ≡ self.old.origins.items ++ spec.origin_of points.now (declared_of declaration.now) ∷ []) }
         ensures initial { OnOk result (self.new.initial.items ≡ self.old.initial.items ++ spec.initial_value (declared_of declaration.now) ∷ []) }
         ensures writable { OnOk result (self.new.writable.items ≡ self.old.writable.items ++ spec.can_write points.now (Some (declared_of declaration.now)) ∷ []) }
-        ensures places { OnOk result ((other : List ℕ) → get_by_text self.new.places other ≡ with_place (λ q. get_by_text self.old.places q) (names.upper declaration.now.name.now) (vec_len self.old.names) other) }
-        ensures found { OnOk result (self.new.found ≡ noted self.old.found (declaration_faults_at points.now (is_some (get_by_text self.old.places (names.upper declaration.now.name.now))) (vec_len self.old.names) (declared_of declaration.now))) }
+        ensures places { OnOk result ((other : List ℕ) → places_of self.new other
+            ≡ with_place (places_of self.old) (names.upper declaration.now.name.now) (vec_len self.old.names) other) }
+        ensures found { OnOk result (self.new.found
+            ≡ noted self.old.found (declaration_faults_at points.now
+            (is_some (places_of self.old (names.upper declaration.now.name.now))) (vec_len self.old.names) (declared_of declaration.now))) }
     {
         let name = upper_case(alloc, declaration.name)?;
         let copy = Text::from_str(alloc, name.as_str())?;
@@ -206,7 +202,7 @@ impl Declarations {
         let is_known = add_place(&mut self.places, name, place)?;
         self.found = declaration_fault(self.found, points, is_known, place, declaration);
         self.names.push(copy)?;
-        self.points.push(place_of_point(points, declaration))?;
+        self.origins.push(origin_of(points, declaration))?;
         self.initial.push(initial_value(declaration))?;
         self.writable.push(can_write(points, declaration))?;
         Ok(())

@@ -37,19 +37,19 @@ pub enum CheckFault {
 
 impl CheckFault {
     /// The fault's number: 61 outside the language that is checked, 70 unknown name, 71 duplicate name,
-    /// 72 type mismatch, 73 unset result, 77 read-only, 79 too many, or 0 for want of memory.
-    pub fn code(self) -> u8
+    /// 72 type mismatch, 73 unset result, 77 read-only, 79 too many; want of memory has none.
+    pub fn code(self) -> Option<u8>
         ensures { result ≡ code_of self }
     {
         match self {
-            CheckFault::OutsideSubset { .. } => 61,
-            CheckFault::UnknownName { .. } => 70,
-            CheckFault::DuplicateName { .. } => 71,
-            CheckFault::TypeMismatch { .. } => 72,
-            CheckFault::UnsetResult { .. } => 73,
-            CheckFault::ReadOnly { .. } => 77,
-            CheckFault::TooMany { .. } => 79,
-            CheckFault::OutOfMemory => 0,
+            CheckFault::OutsideSubset { .. } => Some(61),
+            CheckFault::UnknownName { .. } => Some(70),
+            CheckFault::DuplicateName { .. } => Some(71),
+            CheckFault::TypeMismatch { .. } => Some(72),
+            CheckFault::UnsetResult { .. } => Some(73),
+            CheckFault::ReadOnly { .. } => Some(77),
+            CheckFault::TooMany { .. } => Some(79),
+            CheckFault::OutOfMemory => None,
         }
     }
 

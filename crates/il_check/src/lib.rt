@@ -14,6 +14,4 @@ mod declare;
 pub mod fault;
 mod note;
 mod resolve;
-#[cfg(test)]
-mod tests;
 pub mod typed;

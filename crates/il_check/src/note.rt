@@ -6,11 +6,21 @@ ghost use Rattle.il_check.specs.WellTyped.{fault_if};
 
 use crate::fault::CheckFault;
 
+/// Whether of two numbers the first is the lower.
+fn is_lower(first: Option<u8>, second: Option<u8>) -> bool
+    ensures { result ≡ spec.is_lower first second }
+{
+    match (first, second) {
+        (Some(first), Some(second)) => first < second,
+        _ => false,
+    }
+}
+
 /// Of a fault and a later one: the later one where it is of the same line and has a lower number.
 fn better(first: CheckFault, second: CheckFault) -> CheckFault
     ensures { result ≡ spec.better first second }
 {
-    if second.line() == first.line() && second.code() < first.code() {
+    if second.line() == first.line() && is_lower(second.code(), first.code()) {
         second
     } else {
         first

@@ -2,7 +2,8 @@
 ghost use Rattle.std.specs.Prelude.{◌≡◌, vec_len, All};
 ghost use Rattle.il_check.specs.Slots.{AreApart, IsWithin};
 
-use bay_tree::list::Text;
+use bay_base::text::Text;
+use bay_config::bay::Origin;
 use il_text::program::Operator;
 
 /// What an instruction reads.
@@ -29,13 +30,13 @@ pub enum TypedInstruction {
 pub struct Typed {
     /// The name of each slot, in upper case.
     pub names: Vec<Text>,
-    /// The place of the bay's point that a slot stands for, if it is external.
-    pub points: Vec<Option<usize>>,
+    /// What a slot stands for, if it is external.
+    pub origins: Vec<Option<Origin>>,
     /// The value that each slot begins with; FALSE where the slot is a point's.
     pub initial: Vec<bool>,
     pub instructions: Vec<TypedInstruction>,
     ghost apart: { AreApart names.items },
-    ghost pointed: { vec_len points ≡ vec_len names },
+    ghost pointed: { vec_len origins ≡ vec_len names },
     ghost begun: { vec_len initial ≡ vec_len names },
     ghost within: { All (IsWithin (vec_len names)) instructions.items },
 }

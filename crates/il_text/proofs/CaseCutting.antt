@@ -1,13 +1,14 @@
 -- Letters in upper case: pieces.
-use Rattle.std.proofs.Common.{◌≡◌, ℕ, suc, zero, ◌||◌, Bool, true, false, cond, List, [], ◌∷◌, Option, Some, None, map, length, slice_index, eqb, ltb, leb, codes, refl, ap, ◌∙◌, lit<}
+use Rattle.std.proofs.Common.{◌≡◌, ℕ, suc, zero, ◌||◌, Bool, true, false, cond, List, [], ◌∷◌, Option, Some, None, option_map, map, length, slice_index, eqb, ltb, leb, codes, refl, ap, ◌∙◌, lit<}
 use Rattle.std.specs.List.{list_all}
 use Rattle.std.specs.Str.{bytes_eq}
 use Rattle.std.proofs.lemmas.Bool.{ltb-true}
 use Rattle.il_text.proofs.CutLemmas.{and_left, and_right}
 use Rattle.il_text.specs.Characters.{is_blank, is_sign, is_word, begins_word, begins_name, linked}
-use Rattle.il_text.specs.Names.{same_name}
+use Rattle.bay_base.specs.Names.{same_name}
 use Rattle.il_text.specs.Literals.{halves, prefixed, decimal, untyped}
-use Rattle.il_text.specs.Words.{operator, frame_word, is_type, is_modified_operator, is_logic, is_arithmetic, is_comparison, is_jump, reserved_of}
+use Rattle.bay_base.proofs.WordLemmas.{reserved-upper}
+use Rattle.il_text.specs.Words.{read_form_of, reserved_form}
 use Rattle.il_text.specs.Pieces.{opens, ends, closes, blanked, blank_of, joins, join, pieces}
 use Rattle.il_text.specs.Places.{last_line}
 use Rattle.il_text.specs.Symbols.{Symbol, name, reserved_word, truth, other_literal, mark_symbol, Piece, blank, line_end, token, bad_token, bad_literal, judged_piece, plain_word, word, mark_of, mark_piece, is_line_end, piece, cut}
@@ -156,9 +157,9 @@ mark-up p =
 line_end-up : (p : List ℕ) → is_line_end (map up p) ≡ is_line_end p
 line_end-up p = rw (plain-up p (10 ∷ []) refl, plain-up p (13 ∷ 10 ∷ []) refl) refl
 
-reserved-up : (w : List ℕ) → reserved_of (map up w) ≡ reserved_of w
-unfolding reserved_of operator frame_word is_type is_modified_operator is_logic is_arithmetic is_comparison is_jump
-reserved-up w = simp same_up
+reserved-up : (w : List ℕ) → reserved_form (map up w) ≡ reserved_form w
+unfolding reserved_form
+reserved-up w = ap (option_map read_form_of) (reserved-upper w)
 
 judged-up : (j : Judged) → judged_piece j ≡ upper_piece (judged_piece j)
 judged-up Fine = refl
@@ -169,7 +170,7 @@ named_cond : (w : List ℕ) (b : Bool) → cond b (token (name (map up w))) bad_
 named_cond w true = refl
 named_cond w false = refl
 
-named_by : (w : List ℕ) (o : Option Reserved) → reserved_of w ≡ o → (a b : Bool) → same_name w (codes "TRUE") ≡ a → same_name w (codes "FALSE") ≡ b
+named_by : (w : List ℕ) (o : Option Reserved) → reserved_form w ≡ o → (a b : Bool) → same_name w (codes "TRUE") ≡ a → same_name w (codes "FALSE") ≡ b
     → plain_word (map up w) ≡ upper_piece (plain_word w)
 unfolding plain_word
 named_by w o r true b e f = rw (same_up w (codes "TRUE"), e) refl
@@ -180,7 +181,7 @@ named_by w None r false false e f = rw (same_up w (codes "TRUE"), same_up w (cod
 word_by : (w : List ℕ) (o : Option (List ℕ × List ℕ)) → halves w ≡ o → (b : Bool) → begins_name (slice_index w 0) ≡ b → word (map up w) ≡ upper_piece (word w)
 unfolding word
 word_by w (Some h) e b f = rw (halves-up w, e, prefixed-up h.0 h.1) (judged-up (prefixed h.0 h.1))
-word_by w None e true f = rw (halves-up w, e, index-up w 0, begins_name-up (slice_index w 0), f) (named_by w (reserved_of w) refl _ _ refl refl)
+word_by w None e true f = rw (halves-up w, e, index-up w 0, begins_name-up (slice_index w 0), f) (named_by w (reserved_form w) refl _ _ refl refl)
 word_by w None e false f = rw (halves-up w, e, index-up w 0, begins_name-up (slice_index w 0), f, decimal-up w) (judged-up (untyped (decimal w)))
 
 mark_by : (o : Option Mark) → mark_piece o ≡ upper_piece (mark_piece o)

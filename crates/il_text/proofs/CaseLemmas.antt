@@ -5,7 +5,8 @@ use Rattle.std.proofs.lemmas.List.{drop-map, take-map}
 use Rattle.std.specs.Char.{to_ascii_uppercase, is_ascii_digit, is_ascii_alphabetic, is_ascii_alphanumeric, digit_value}
 use Rattle.std.specs.List.{position_or_len, prefix_len}
 use Rattle.std.specs.Str.Parse.{digits_value_after}
-use Rattle.il_text.specs.Names.{same_name}
+use Rattle.bay_base.specs.Names.{same_name}
+use Rattle.bay_base.proofs.NameLemmas.{same-upper}
 use Rattle.il_text.specs.Literals.{is_underscore, is_hash, is_integer, number, halves, base_of, decimal, based, integer, typed_bool, typed_int, typed_dint, typed_time, Duration, number_len, unit_len, number_of_part, with_part, part, total_of, milliseconds, prefixed}
 
 abbrev pub up : ℕ → ℕ
@@ -32,13 +33,8 @@ up-alphanumeric x = grind (arith, nat_tests)
 pub up-digit_value : (x : ℕ) → digit_value (up x) ≡ digit_value x
 up-digit_value x = grind (arith, nat_tests)
 
-upper-upper : (a : List ℕ) → map up (map up a) ≡ map up a
-upper-upper [] = refl
-upper-upper (x ∷ a) = rw (up-up x, upper-upper a) refl
-
 pub same_up : (a b : List ℕ) → same_name (map up a) b ≡ same_name a b
-unfolding same_name
-same_up a b = rw (upper-upper a) refl
+same_up a b = same-upper a b
 
 pub length-up : (a : List ℕ) → length (map up a) ≡ length a
 length-up [] = refl

@@ -6,10 +6,10 @@ use Rattle.std.proofs.lemmas.Bool.Decides.{nat_tests}
 use Rattle.std.proofs.Math.Bool.{and-false, or-true}
 use Rattle.std.specs.Char.{to_ascii_uppercase}
 use Rattle.il_text.specs.Characters.{linked}
-use Rattle.il_text.specs.Names.{same_name}
+use Rattle.bay_base.specs.Names.{same_name}
 use Rattle.il_text.specs.Pieces.{opens, blanked, closes, joins, join, pieces}
 use Rattle.il_text.specs.Runs.{IsRun, IsPiece, is_negated_and}
-use Rattle.il_text.proofs.Lists.{front_of}
+use Rattle.bay_base.proofs.ListLemmas.{front_of}
 use Rattle.il_text.proofs.PieceLemmas.{index-drop, run_ascii}
 
 abbrev pub first_piece : List (List ℕ) → List ℕ

@@ -2,7 +2,7 @@
 use Rattle.std.proofs.Common.{◌≡◌, ℕ, ◌+◌, ◌*◌, ◌^◌, ◌<◌, ◌≤◌, ◌&&◌, ◌==◌, Bool, true, false, cond, List, Option, Some, None, option_and_then, length, take, drop, min, refl, sym, ap, subst, ◌∙◌, arith, ⊎_elim, lit<}
 use Rattle.std.proofs.lemmas.Bool.{cases_lt}
 use Rattle.std.proofs.Math.Nat.{mul-le-mul_left, mul-le-mul_right}
-use Rattle.il_text.specs.Names.{same_name}
+use Rattle.bay_base.specs.Names.{same_name}
 use Rattle.il_text.specs.Literals.{Duration, number_len, unit_len, number_of_part, part, total_of, judged_span}
 use Rattle.il_text.specs.Runs.{capped}
 use Rattle.il_text.specs.Durations.{capped_one, capped_duration}

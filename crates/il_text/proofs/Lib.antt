@@ -4,10 +4,8 @@ pub mod CaseReading
 pub mod CutLemmas
 pub mod DurationLemmas
 pub mod LexemeLemmas
-pub mod Lists
 pub mod ListingLemmas
 pub mod LiteralLemmas
-pub mod NameLemmas
 pub mod PieceLemmas
 pub mod PlaceLemmas
 pub mod ReadLemmas

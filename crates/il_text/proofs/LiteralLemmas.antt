@@ -9,7 +9,7 @@ use Rattle.std.proofs.Math.Bool.{and-false}
 use Rattle.std.proofs.Math.Nat.{mul-le-mul_left, mul-le-mul_right}
 use Rattle.il_text.specs.Literals.{is_underscore, is_hash, is_integer, number, halves, decimal, based, integer, judged, untyped, Signed}
 use Rattle.il_text.specs.Runs.{capped, capped_signed}
-use Rattle.il_text.proofs.Lists.{front_of, none_left}
+use Rattle.bay_base.proofs.ListLemmas.{front_of, none_left}
 
 abbrev pub kept : List ℕ → List ℕ
 kept = filter (λ x. not (is_underscore x))

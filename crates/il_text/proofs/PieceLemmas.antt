@@ -8,7 +8,7 @@ use Rattle.std.proofs.lemmas.Str.{IsCharBoundary-after_ascii}
 use Rattle.il_text.specs.Characters.{linked}
 use Rattle.il_text.specs.Pieces.{closes, ends}
 use Rattle.il_text.specs.Runs.{IsRun}
-use Rattle.il_text.proofs.Lists.{front_of, none_left}
+use Rattle.bay_base.proofs.ListLemmas.{front_of, none_left}
 
 pub index-drop : (bs : List ℕ) (i k : ℕ) → slice_index (drop i bs) k ≡ slice_index bs (i + k)
 index-drop bs i k = grind (arith, common_steps)

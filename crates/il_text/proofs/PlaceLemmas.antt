@@ -3,7 +3,7 @@ use Rattle.std.proofs.Common.{◌≡◌, ◌≢◌, ℕ, ◌+◌, ◌<◌, ◌�
 use Rattle.std.proofs.lemmas.Bool.{lt-ltb, ne_eqb}
 use Rattle.std.proofs.Math.Bool.{and-false}
 use Rattle.il_text.specs.Places.{last_line}
-use Rattle.il_text.proofs.Lists.{front_of, none_left}
+use Rattle.bay_base.proofs.ListLemmas.{front_of, none_left}
 
 cons_begins : (x : ℕ) (xs : List ℕ) → x ≡ 10 → 0 < length xs → last_line (x ∷ xs) ≡ last_line xs + 1
 unfolding last_line

@@ -12,7 +12,7 @@ use Rattle.il_text.specs.Runs.{IsPiece}
 use Rattle.il_text.specs.Symbols.{Symbol, Piece, blank, line_end, token, bad_token, bad_literal, piece, cut, mark_of}
 use Rattle.il_text.specs.declared.fault.TextFault.{TextFault}
 use Rattle.il_text.specs.declared.fault.TextFault.TheVariants.{BadToken, BadLiteral}
-use Rattle.il_text.proofs.Lists.{front_of, none_left}
+use Rattle.bay_base.proofs.ListLemmas.{front_of, none_left}
 use Rattle.il_text.proofs.PieceLemmas.{index-drop}
 use Rattle.il_text.proofs.CutLemmas.{join_alone, not_N, within_of, and_right}
 

@@ -6,7 +6,7 @@ use Rattle.il_text.specs.Symbols.{Symbol, name, reserved_word, truth, other_lite
 use Rattle.il_text.specs.declared.form.Tail.{Tail}
 use Rattle.il_text.specs.declared.program.Scope.{Scope}
 use Rattle.il_text.specs.declared.program.Scope.TheVariants.{Local, External}
-use Rattle.il_text.specs.declared.program.ElementaryType.TheVariants as kind
+use Rattle.bay_base.specs.declared.types.ElementaryType.TheVariants as kind
 use Rattle.il_text.specs.declared.program.Operator.TheVariants as operator
 use Rattle.il_text.specs.declared.reserved.Reserved.{Reserved}
 use Rattle.il_text.specs.declared.reserved.Reserved.TheVariants as word

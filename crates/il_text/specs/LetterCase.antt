@@ -1,7 +1,7 @@
 -- A program with its names in upper case.
 use Rattle.std.specs.Prelude.{◌≡◌, List, map, Result, Ok, Err}
 use Rattle.il_text.specs.Listing.{Source, constant, variable, Action, load, store, combine, Entry, action, block, Entries, no_entries, entry, Declared, Listing}
-use Rattle.il_text.specs.Names.{upper}
+use Rattle.bay_base.specs.Names.{upper}
 use Rattle.il_text.specs.Reading.{program_of}
 use Rattle.il_text.specs.declared.fault.TextFault.{TextFault}
 use Rattle.std.specs.Prelude.{ℕ}

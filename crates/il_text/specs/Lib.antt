@@ -8,7 +8,6 @@ pub mod Listing
 pub mod ListingViews
 pub mod Literals
 pub mod Meaning
-pub mod Names
 pub mod Pieces
 pub mod Places
 pub mod ReaderViews

@@ -1,7 +1,7 @@
 -- A program as plain data (IEC 61131-3:2003, 2.5.3, 2.4.3 and 3.2): names are octets as spelled.
 use Rattle.std.specs.Prelude.{ℕ, Bool, List, [], ◌∷◌, Option}
 use Rattle.il_text.specs.declared.program.Scope.{Scope}
-use Rattle.il_text.specs.declared.program.ElementaryType.{ElementaryType}
+use Rattle.bay_base.specs.declared.types.ElementaryType.{ElementaryType}
 use Rattle.il_text.specs.declared.program.Operator.{Operator}
 
 -- what an instruction reads

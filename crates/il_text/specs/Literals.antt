@@ -4,7 +4,7 @@ use Rattle.std.specs.Char.{is_digit, is_ascii_digit, is_ascii_alphabetic}
 use Rattle.std.specs.List.{position_or_len, before_first, after_first, prefix_len}
 use Rattle.std.specs.Str.{byte}
 use Rattle.std.specs.Str.Parse.{digits_value}
-use Rattle.il_text.specs.Names.{same_name}
+use Rattle.bay_base.specs.Names.{same_name}
 use Rattle.il_text.specs.declared.literal.Judged.{Judged}
 use Rattle.il_text.specs.declared.literal.Judged.TheVariants.{Fine, Malformed, OutOfRange}
 

@@ -1,7 +1,7 @@
 -- What the items of a program mean (IEC 61131-3:2003, 3.2.2 and table 52): by structure, on a current
 -- result and a map of names.
 use Rattle.std.specs.Prelude.{ℕ, Bool, not, ◌&&◌, ◌||◌, if◌then◌else◌, List, [], ◌∷◌, Option, Some, None}
-use Rattle.il_text.specs.Names.{upper, same_name}
+use Rattle.bay_base.specs.Names.{upper, same_name}
 use Rattle.il_text.specs.Listing.{Source, constant, variable, Action, load, store, combine, Entry, action, block, Entries, no_entries, entry}
 use Rattle.il_text.specs.declared.program.Operator.{Operator}
 use Rattle.il_text.specs.declared.program.Operator.TheVariants.{And, Or}

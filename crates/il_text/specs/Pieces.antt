@@ -2,7 +2,7 @@
 use Rattle.std.specs.Prelude.{ℕ, Bool, true, false, ◌&&◌, ◌||◌, ◌==◌, if◌then◌else◌, List, [], ◌∷◌, slice_index, codes}
 use Rattle.std.specs.Str.{byte}
 use Rattle.il_text.specs.Characters.{linked}
-use Rattle.il_text.specs.Names.{same_name}
+use Rattle.bay_base.specs.Names.{same_name}
 
 -- the text begins with `(*`
 abbrev pub opens : List ℕ → Bool

@@ -2,8 +2,8 @@
 use Rattle.std.specs.Prelude.{ℕ, Bool, true, false, ◌||◌, ◌==◌, nat_le, if◌then◌else◌, List, [], ◌∷◌, length, slice_index, codes, map, Option, Some, None}
 use Rattle.std.specs.Str.{byte, bytes_eq}
 use Rattle.il_text.specs.Characters.{is_blank, begins_word, begins_name}
-use Rattle.il_text.specs.Names.{same_name}
-use Rattle.il_text.specs.Words.{reserved_of}
+use Rattle.bay_base.specs.Names.{same_name}
+use Rattle.il_text.specs.Words.{reserved_form}
 use Rattle.il_text.specs.Literals.{halves, prefixed, decimal, untyped}
 use Rattle.il_text.specs.Pieces.{pieces, blanked}
 use Rattle.il_text.specs.declared.literal.Judged.{Judged}
@@ -42,7 +42,7 @@ unfoldable pub plain_word : List ℕ → Piece
 plain_word w =
     if same_name w (codes "TRUE") then token (truth true)
     else if same_name w (codes "FALSE") then token (truth false)
-    else name_or_reserved w (reserved_of w)
+    else name_or_reserved w (reserved_form w)
 
 abbrev word_by_halves : List ℕ → Option (List ℕ × List ℕ) → Piece
 word_by_halves w (Some h) = judged_piece (prefixed h.0 h.1)

@@ -28,16 +28,16 @@ pub enum TextFault {
 }
 
 impl TextFault {
-    /// The fault's number, 60 to 64, or 0 for want of memory.
-    pub fn code(self) -> u8
+    /// The fault's number, 60 to 64; want of memory has none.
+    pub fn code(self) -> Option<u8>
         ensures { result ≡ code_of self }
     {
         match self {
-            TextFault::BadToken { .. } => 60,
-            TextFault::BadLine { .. } => 61,
-            TextFault::BadLiteral { .. } => 63,
-            TextFault::TooLong { .. } => 64,
-            TextFault::OutOfMemory => 0,
+            TextFault::BadToken { .. } => Some(60),
+            TextFault::BadLine { .. } => Some(61),
+            TextFault::BadLiteral { .. } => Some(63),
+            TextFault::TooLong { .. } => Some(64),
+            TextFault::OutOfMemory => None,
         }
     }
 

@@ -6,9 +6,10 @@ ghost use Rattle.il_text.specs.Forms as spec;
 ghost use Rattle.il_text.specs.TokenViews.{symbol_of, symbols_of};
 ghost use Rattle.il_text.specs.Views.{source_of, action_of};
 
-use crate::program::{ElementaryType, Instruction, Operand, Operator, Scope};
+use crate::program::{Instruction, Operand, Operator, Scope};
 use crate::reserved::Reserved;
 use crate::token::{Mark, Token};
+use bay_base::types::ElementaryType;
 
 /// What the lines before a line make of the text.
 #[derive(Clone, Copy, Debug, PartialEq, Eq)]
@@ -61,8 +62,8 @@ fn truth_of(token: Token<'_>) -> Option<bool>
     }
 }
 
-#[tactic(auto, unfolding(crate::specs::Forms::header))]
 /// `PROGRAM name`
+#[tactic(auto, unfolding(crate::specs::Forms::header))]
 pub(crate) fn header<'a>(tokens: &[Token<'a>]) -> Option<&'a str>
     ensures { option_map (λ n. n.now) result ≡ spec.header (symbols_of tokens.now) }
 {
@@ -72,8 +73,8 @@ pub(crate) fn header<'a>(tokens: &[Token<'a>]) -> Option<&'a str>
     }
 }
 
-#[tactic(auto, unfolding(crate::specs::Forms::is_alone))]
 /// Whether the line is this reserved word alone.
+#[tactic(auto, unfolding(crate::specs::Forms::is_alone))]
 pub(crate) fn is_alone(tokens: &[Token<'_>], word: Reserved) -> bool
     ensures { result ≡ spec.is_alone word (symbols_of tokens.now) }
 {
@@ -83,8 +84,8 @@ pub(crate) fn is_alone(tokens: &[Token<'_>], word: Reserved) -> bool
     }
 }
 
-#[tactic(auto, unfolding(crate::specs::Forms::opened))]
 /// `VAR` or `VAR_EXTERNAL`
+#[tactic(auto, unfolding(crate::specs::Forms::opened))]
 pub(crate) fn opened_block(tokens: &[Token<'_>]) -> Option<Scope>
     ensures { result ≡ spec.opened (symbols_of tokens.now) }
 {
@@ -107,8 +108,8 @@ fn operand(token: Token<'_>) -> Option<Operand<'_>>
     }
 }
 
-#[tactic(auto, unfolding(crate::specs::Forms::instruction))]
 /// An operator with its operand.
+#[tactic(auto, unfolding(crate::specs::Forms::instruction))]
 pub(crate) fn instruction<'a>(tokens: &[Token<'a>]) -> Option<Instruction<'a>>
     ensures { option_map action_of result ≡ spec.instruction (symbols_of tokens.now) }
 {
@@ -155,8 +156,8 @@ pub(crate) struct Tail {
     pub(crate) initial: Option<bool>,
 }
 
-#[tactic(auto, unfolding(crate::specs::Forms::tail))]
 /// `BOOL ;` or `BOOL := literal ;`, where an external has no literal.
+#[tactic(auto, unfolding(crate::specs::Forms::tail))]
 pub(crate) fn declared_tail(tokens: &[Token<'_>], scope: Scope) -> Option<Tail>
     ensures { result ≡ spec.tail scope (symbols_of tokens.now) }
 {

@@ -5,9 +5,9 @@ ghost use Rattle.il_text.specs.TokenViews.{piece_of};
 
 use crate::character::{begins_name, begins_word, byte_at, is_blank};
 use crate::literal::{Judged, decimal, halves, prefixed, untyped};
-use crate::name::same_name;
-use crate::reserved::reserved_word;
+use crate::reserved::reserved_form;
 use crate::token::{Mark, Token};
+use bay_base::names::same_name;
 
 /// A piece of a text.
 #[derive(Clone, Copy)]
@@ -43,7 +43,7 @@ fn plain_word(word: &str) -> Lexeme<'_>
     if same_name(word, "FALSE") {
         return Lexeme::Token(Token::Truth(false));
     }
-    if let Some(found) = reserved_word(word) {
+    if let Some(found) = reserved_form(word) {
         return Lexeme::Token(Token::Reserved(found));
     }
     if word.len() <= MAX_NAME {

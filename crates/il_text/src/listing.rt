@@ -54,8 +54,8 @@ impl<'a> Listing<'a> {
         }
     }
 
-    #[tactic(auto, unfolding(crate::specs::Reading::after_line))]
     /// Takes one line.
+    #[tactic(auto, unfolding(crate::specs::Reading::after_line))]
     pub(crate) fn take_line(
         &mut self,
         tokens: &[Token<'a>],
@@ -166,8 +166,8 @@ struct Declaring {
     tail: Tail,
 }
 
-#[tactic(auto, using(crate::proofs::ListingLemmas::end_rules))]
 /// Declares the names of a list, `name {"," name}`.
+#[tactic(auto, using(crate::proofs::ListingLemmas::end_rules))]
 fn declare<'a>(
     declarations: &mut Vec<Declaration<'a>>,
     names: &[Token<'a>],

@@ -7,7 +7,7 @@ ghost use Rattle.il_text.specs.Literals as spec;
 ghost use Rattle.il_text.specs.Runs.{capped, capped_signed};
 
 use crate::character::byte_at;
-use crate::name::{same_letters, same_name};
+use bay_base::names::{same_letters, same_name};
 
 /// What is known of a word that is to be a literal.
 #[derive(Clone, Copy, Debug, PartialEq, Eq)]
@@ -113,8 +113,8 @@ fn judge(number: Option<(bool, u64)>, below: u64, above: u64) -> Judged
     }
 }
 
-#[tactic(auto, unfolding(crate::specs::Literals::untyped))]
 /// Judges a literal without a type, whose largest range is that of DINT.
+#[tactic(auto, unfolding(crate::specs::Literals::untyped))]
 pub(crate) fn untyped(number: Option<(bool, u64)>) -> Judged
     ensures { result ≡ spec.untyped number }
 {
@@ -157,8 +157,8 @@ fn typed_dint(word: &str) -> Judged
     judge(integer(word), 2_147_483_648, 2_147_483_647)
 }
 
-#[tactic(auto, using(crate::proofs::LiteralLemmas::untyped_capped), unfolding(crate::specs::Literals::prefixed))]
 /// Judges a literal with something before its first `#`.
+#[tactic(auto, using(crate::proofs::LiteralLemmas::untyped_capped), unfolding(crate::specs::Literals::prefixed))]
 pub(crate) fn prefixed(before: &str, word: &str) -> Judged
     ensures { result ≡ spec.prefixed before.now word.now }
 {

@@ -1,4 +1,5 @@
 // A program, whose names are slices of its text.
+use bay_base::types::ElementaryType;
 
 /// A program: its name, what it declares, and its items in the order of the text.
 #[derive(Drop)]
@@ -26,12 +27,6 @@ pub enum Scope {
     Local,
     /// `VAR_EXTERNAL`: a variable that is given to the program.
     External,
-}
-
-/// The type of a variable (IEC 61131-3:2003, table 10).
-#[derive(Clone, Copy, Debug, PartialEq, Eq)]
-pub enum ElementaryType {
-    Bool,
 }
 
 /// What an instruction reads.

@@ -2,7 +2,7 @@ use Rattle.il_check.proofs.StandingLemmas.{so_far-more, so_far-none}
 use Rattle.std.proofs.Common.{None, arith}
 use Rattle.il_text.specs.declared.program.Declaration.{Declaration}
 use Rattle.il_text.specs.declared.program.Scope.TheVariants.{Local}
-use Rattle.il_text.specs.declared.program.ElementaryType.TheVariants as elementary
+use Rattle.bay_base.specs.declared.types.ElementaryType.TheVariants as elementary
 use Rattle.std.proofs.Common.{[]}
 use Rattle.il_check.proofs.declare.declare_all.Goals as goal
 
@@ -16,7 +16,7 @@ loop-declaration-preserved c =
     c.loop-declaration.declared.names.ok.0 (omega arith) c.loop-declaration.invariant
     (record {
       names = c.in_ok-declare.ensures.names;
-      points = c.in_ok-declare.ensures.points;
+      origins = c.in_ok-declare.ensures.origins;
       initial = c.in_ok-declare.ensures.initial;
       writable = c.in_ok-declare.ensures.writable;
       places = c.in_ok-declare.ensures.places;

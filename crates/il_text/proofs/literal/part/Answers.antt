@@ -1,5 +1,5 @@
 use Rattle.std.proofs.Common.{◌≡◌, ℕ, List, Some, None, true, false, option_map, take, drop, sym, refl, ap, ◌∙◌}
-use Rattle.il_text.specs.Names.{same_name}
+use Rattle.bay_base.specs.Names.{same_name}
 use Rattle.il_text.specs.Literals.{number_len, unit_len, number_of_part}
 use Rattle.il_text.specs.Runs.{capped}
 use Rattle.il_text.specs.Durations.{seen}
