@@ -1,5 +1,5 @@
 -- Arithmetic and comparisons of the integer types (IEC 61131-3:2003, tables 24 and 28), once for all widths.
-use Rattle.std.specs.Prelude.{ℤ, pos, ◌≡◌, ◌+ℤ◌, ◌-ℤ◌, ◌*ℤ◌, Bool, not, int_div, int_lt, int_le}
+use Rattle.std.specs.Prelude.{ℤ, pos, ◌≡◌, ◌+ℤ◌, ◌-ℤ◌, ◌*ℤ◌, ◌&&◌, ◌||◌, Bool, not, int_div, int_lt, int_le, Option, Some, None, if◌then◌else◌}
 use Rattle.std.specs.Int.{Width as Bits, w16, w32, w64, int_wrap}
 use Rattle.std.specs.Ordering.{int_eq}
 use Rattle.il_image.specs.declared.arithmetic.Width.{Width}
@@ -10,6 +10,12 @@ use Rattle.il_image.specs.declared.arithmetic.Comparison.{Comparison}
 use Rattle.il_image.specs.declared.arithmetic.Comparison.TheVariants.{Gt, Ge, Eq, Ne, Le, Lt}
 use Rattle.bay_base.specs.declared.types.ElementaryType.{ElementaryType}
 use Rattle.bay_base.specs.declared.types.ElementaryType.TheVariants as elementary
+use Rattle.il_image.specs.declared.opcode.Connective.{Connective}
+use Rattle.il_image.specs.declared.opcode.Connective.TheVariants.{And, Or, Xor}
+use Rattle.il_image.specs.declared.opcode.Widening.{Widening}
+use Rattle.il_image.specs.declared.opcode.Widening.TheVariants.{IntToDint, DintToLint}
+use Rattle.il_image.specs.declared.value.Value.{Value}
+use Rattle.il_image.specs.declared.value.Value.TheVariants.{Truth, Short, Long, Wide, Span}
 
 abbrev pub type_of_width : Width → ElementaryType
 type_of_width width.Int = elementary.Int
@@ -51,3 +57,15 @@ compared Eq a b = int_eq a b
 compared Ne a b = not (int_eq a b)
 compared Le a b = int_le a b
 compared Lt a b = int_lt a b
+
+-- AND, OR and XOR of two BOOLs
+abbrev pub connected : Connective → Bool → Bool → Bool
+connected And a b = a && b
+connected Or a b = a || b
+connected Xor a b = if a then not b else b
+
+-- the value of the next wider type that has the same number
+abbrev pub widened : Widening → Value → Option Value
+widened IntToDint (Short z) = Some (Long z)
+widened DintToLint (Long z) = Some (Wide z)
+widened widening v = None

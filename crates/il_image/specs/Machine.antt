@@ -9,17 +9,14 @@ use Rattle.il_image.specs.declared.arithmetic.Comparison.{Comparison}
 use Rattle.il_image.specs.declared.arithmetic.Comparison.TheVariants.{Gt, Ge, Eq, Ne, Le, Lt}
 use Rattle.il_image.specs.declared.instr.Instr.{Instr}
 use Rattle.il_image.specs.declared.instr.Instr.TheVariants.{Halt, Push, Drop, Slot, Not, Combine, Compute, Compare, Widen, Jump, Timer}
-use Rattle.il_image.specs.declared.opcode.Connective.{Connective}
-use Rattle.il_image.specs.declared.opcode.Connective.TheVariants.{And, Or, Xor}
 use Rattle.il_image.specs.declared.opcode.SlotUse.TheVariants.{Load, Store, SetIf, ResetIf}
-use Rattle.il_image.specs.declared.opcode.Widening.TheVariants.{IntToDint, DintToLint}
 use Rattle.il_image.specs.declared.opcode.When.TheVariants.{Always, IfTrue, IfFalse}
 use Rattle.il_image.specs.declared.opcode.TimerUse.TheVariants.{SetInput, SetPreset, Run, LoadOutput, LoadElapsed}
 use Rattle.il_image.specs.declared.timer.Timer.{Timer as TimerState}
 use Rattle.il_image.specs.declared.value.Value.{Value}
 use Rattle.il_image.specs.declared.value.Value.TheVariants.{Truth, Short, Long, Wide, Span}
 use Rattle.bay_base.specs.declared.types.ElementaryType.TheVariants as elementary
-use Rattle.il_image.specs.Arithmetic.{compared, computed}
+use Rattle.il_image.specs.Arithmetic.{compared, computed, connected, widened}
 use Rattle.il_image.specs.Kinds.{same_type}
 use Rattle.il_image.specs.Reading.{instr_at}
 use Rattle.il_image.specs.Timers.{called}
@@ -94,11 +91,6 @@ value_in width.Int z = Short z
 value_in width.Dint z = Long z
 value_in width.Lint z = Wide z
 
-abbrev pub connected : Connective → Bool → Bool → Bool
-connected And a b = a && b
-connected Or a b = a || b
-connected Xor a b = if a then not b else b
-
 abbrev pub divides : Operation → Bool
 divides Div = true
 divides Mod = true
@@ -132,8 +124,7 @@ act now Not next s = with_top s.cells (λ top below. as_truth top (λ b. goes ne
 act now (Combine c) next s = with_top s.cells (λ top more. with_top more (λ second below. as_truth top (λ b. as_truth second (λ a. goes next (Truth (connected c a b) ∷ below) s))))
 act now (Compute o w) next s = with_top s.cells (λ top more. with_top more (λ second below. as_number w top (λ b. as_number w second (λ a. if divides o && int_eq b (pos 0) then Traps ZeroDivisor else goes next (value_in w (computed o w a b) ∷ below) s))))
 act now (Compare c) next s = with_top s.cells (λ top more. with_top more (λ second below. if is_comparable c second top then goes next (Truth (compared c (number_of second) (number_of top)) ∷ below) s else Traps WrongKind))
-act now (Widen IntToDint) next s = with_top s.cells (λ top below. as_number width.Int top (λ z. goes next (Long z ∷ below) s))
-act now (Widen DintToLint) next s = with_top s.cells (λ top below. as_number width.Dint top (λ z. goes next (Wide z ∷ below) s))
+act now (Widen w) next s = with_top s.cells (λ top below. elim (widened w top) [ None ↦ Traps WrongKind | Some v ↦ goes next (v ∷ below) s ])
 act now (Jump Always distance) next s = goes (next + distance) s.cells s
 act now (Jump IfTrue distance) next s = with_top s.cells (λ top below. as_truth top (λ b. goes (if b then next + distance else next) s.cells s))
 act now (Jump IfFalse distance) next s = with_top s.cells (λ top below. as_truth top (λ b. goes (if b then next else next + distance) s.cells s))

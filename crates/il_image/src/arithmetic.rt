@@ -1,8 +1,10 @@
-// Arithmetic and comparisons of the integer types (IEC 61131-3:2003, tables 24 and 28).
+// Arithmetic, comparisons, connectives and widening of values (IEC 61131-3:2003, tables 22, 24, 26 and 28).
 ghost use Rattle.std.specs.Prelude.{◌≡◌};
 ghost use Rattle.il_image.specs.declared.arithmetic.Width.{Width};
-ghost use Rattle.il_image.specs.Arithmetic.{DividesBy, compared, computed, wrapped, type_of_width};
+ghost use Rattle.il_image.specs.Arithmetic.{DividesBy, compared, computed, connected, type_of_width, widened, wrapped};
 
+use crate::opcode::{Connective, Widening};
+use crate::value::Value;
 use bay_base::types::ElementaryType;
 
 /// The type of both operands of an arithmetic operation, and of its result.
@@ -97,5 +99,27 @@ pub fn compare(comparison: Comparison, first: i64, second: i64) -> bool
         Comparison::Ne => first != second,
         Comparison::Le => first <= second,
         Comparison::Lt => first < second,
+    }
+}
+
+/// The connection of two BOOLs.
+pub fn connect(connective: Connective, first: bool, second: bool) -> bool
+    ensures { result ≡ connected connective first second }
+{
+    match connective {
+        Connective::And => first && second,
+        Connective::Or => first || second,
+        Connective::Xor => first != second,
+    }
+}
+
+/// The value of the next wider type that has the same number, for a value of the narrower type.
+pub fn widen(widening: Widening, value: Value) -> Option<Value>
+    ensures { result ≡ widened widening value }
+{
+    match (widening, value) {
+        (Widening::IntToDint, Value::Short(number)) => Some(Value::Long(i32::from(number))),
+        (Widening::DintToLint, Value::Long(number)) => Some(Value::Wide(i64::from(number))),
+        _ => None,
     }
 }
