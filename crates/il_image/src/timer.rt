@@ -46,7 +46,7 @@ fn on_delay_phase(input: bool, phase: Phase, now: u64) -> Phase
     }
     match phase {
         Phase::Idle | Phase::Held => Phase::Since(now),
-        Phase::Since(start) => Phase::Since(start),
+        Phase::Since(begun) => Phase::Since(begun),
     }
 }
 
