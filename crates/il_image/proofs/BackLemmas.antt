@@ -1,6 +1,6 @@
 -- What is spelled as an image in version 2 is read back.
-use Rattle.std.proofs.Common.{◌≡◌, ℕ, zero, suc, ◌+◌, ◌<◌, ◌≤◌, ◌^◌, ◌||◌, Bool, true, false, cond, eqb, ltb, List, [], ◌∷◌, ◌++◌, length, take, drop, Option, Some, None, refl, sym, subst, ap, ◌∙◌, arith}
-use Rattle.std.specs.Prelude.{Result, Ok, Err, IsSome, IsTrue, FitsSigned}
+use Rattle.std.proofs.Common.{◌≡◌, ℕ, ◌≤◌, Bool, true, false, cond, eqb, ltb, List, [], ◌∷◌, ◌++◌, length, refl, arith}
+use Rattle.std.specs.Prelude.{Ok, FitsSigned}
 use Rattle.std.specs.Int.{w64}
 use Rattle.std.specs.List.{list_all}
 use Rattle.std.proofs.lemmas.Bool.{ne_eqb, le-ltb, eq-eqb}
@@ -9,20 +9,16 @@ use Rattle.std.proofs.Math.Seq.{take-append_seam, drop-append_seam, take-length}
 use Rattle.std.proofs.lemmas.List.{length-append}
 use Rattle.bay_base.specs.declared.types.ElementaryType.{ElementaryType}
 use Rattle.bay_base.specs.declared.types.ElementaryType.TheVariants as elementary
-use Rattle.il_image.specs.declared.fault.ImageFault.{ImageFault}
-use Rattle.il_image.specs.declared.fault.ImageFault.TheVariants.{BadOpcode, Truncated}
-use Rattle.il_image.specs.declared.image.ImagePoint.{ImagePoint}
 use Rattle.il_image.specs.declared.opcode.Version.TheVariants.{Two}
 use Rattle.il_image.specs.declared.timer.TimerKind.{TimerKind}
 use Rattle.il_image.specs.declared.timer.TimerKind.TheVariants.{OnDelay, OffDelay}
-use Rattle.il_image.specs.declared.value.Value.{Value}
 use Rattle.il_image.specs.declared.write.Size.TheVariants as size
-use Rattle.il_image.specs.Decoding.{behind, code_at, code_fault, code_of_length, counted_at, decoded, items_at, name_at, name_of_length, point_at, timer_at, type_at, unless, variable_at, version_at}
-use Rattle.il_image.specs.Images.{Each, HasName, Image, IsCode, IsImage, IsName, IsValue, counted, each_spelled, encoded, is_name_octet, mark, point_octets, timer_octets, type_octet, variable_octets}
+use Rattle.il_image.specs.Decoding.{code_at, counted_at, decoded, items_at, name_at, name_of_length, point_at, timer_at, type_at, variable_at}
+use Rattle.il_image.specs.Images.{Each, HasName, Image, IsCode, IsImage, IsName, IsValue, counted, each_spelled, encoded, is_name_octet, point_octets, timer_octets, type_octet, variable_octets}
 use Rattle.il_image.specs.Octets.{bits_of_size, number_octets, signed_octets, size_of}
-use Rattle.il_image.specs.Reading.{Read, ◌>>=◌, known, number_at, signed_at, value_at}
-use Rattle.il_image.specs.Values.{number_of, type_of, value_of}
-use Rattle.il_image.proofs.ReadLemmas.{bind_is, back_number, back_signed}
+use Rattle.il_image.specs.Reading.{Read}
+use Rattle.il_image.specs.Values.{number_of, type_of}
+use Rattle.il_image.proofs.ReadLemmas.{back_number, back_signed}
 use Rattle.il_image.proofs.ValueLemmas.{value_back, value_is}
 use Rattle.il_image.proofs.CodeLemmas.{faultless}
 use Rattle.il_image.proofs.TookLemmas.{IsKind}

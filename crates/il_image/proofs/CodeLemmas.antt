@@ -1,11 +1,11 @@
 -- Code as instructions one behind the other.
-use Rattle.std.proofs.Common.{◌≡◌, ℕ, zero, suc, ◌+◌, ◌<◌, ◌≤◌, Bool, true, false, List, [], ◌∷◌, ◌++◌, length, Option, Some, None, refl, sym, subst, ap, ◌∙◌, arith}
-use Rattle.std.specs.Prelude.{Result, Ok, Err}
-use Rattle.std.proofs.lemmas.List.{append_assoc, length-append}
+use Rattle.std.proofs.Common.{◌≡◌, ℕ, zero, suc, ◌+◌, ◌<◌, ◌≤◌, List, [], ◌∷◌, ◌++◌, length, Some, None, refl, subst, ap, ◌∙◌, arith}
+use Rattle.std.specs.Prelude.{Ok, Err}
+use Rattle.std.proofs.lemmas.List.{length-append}
 use Rattle.il_image.specs.declared.fault.ImageFault.{ImageFault}
 use Rattle.il_image.specs.declared.instr.Instr.{Instr}
 use Rattle.il_image.specs.declared.opcode.Version.{Version}
-use Rattle.il_image.specs.declared.opcode.Version.TheVariants.{One, Two}
+use Rattle.il_image.specs.declared.opcode.Version.TheVariants.{Two}
 use Rattle.il_image.specs.Decoding.{code_fault, fault_behind}
 use Rattle.il_image.specs.Images.{Each, IsCode, all_spelled}
 use Rattle.il_image.specs.Octets.{AreOctets}

@@ -1,14 +1,13 @@
 -- The order of the kinds.
-use Rattle.std.proofs.Common.{◌≡◌, Bool, true, false, cond, refl, sym, ap, subst, ◌∙◌}
-use Rattle.std.specs.Prelude.{IsTrue}
+use Rattle.std.proofs.Common.{◌≡◌, Bool, true, false, cond, refl, sym, subst, ◌∙◌}
 use Rattle.bay_base.specs.declared.types.ElementaryType.{ElementaryType}
 use Rattle.bay_base.specs.declared.types.ElementaryType.TheVariants as elementary
-use Rattle.il_image.specs.declared.arithmetic.Width.{Width}
+use Rattle.bay_base.specs.Types.{same_type}
 use Rattle.il_image.specs.declared.kind.Kind.{Kind}
 use Rattle.il_image.specs.declared.kind.Kind.TheVariants.{Any, Plain, NotZero}
 use Rattle.il_image.specs.declared.value.Value.{Value}
 use Rattle.il_image.specs.Arithmetic.{type_of_width}
-use Rattle.il_image.specs.Kinds.{HasKind, is_within, join, same_type}
+use Rattle.il_image.specs.Kinds.{HasKind, is_within, join}
 
 pub same_self : (t : ElementaryType) → same_type t t ≡ true
 same_self elementary.Bool = refl

@@ -1,6 +1,6 @@
 -- What is read of an image is spelled so, and is what an image keeps.
-use Rattle.std.proofs.Common.{◌≡◌, ℕ, zero, suc, ◌+◌, ◌*◌, ◌<◌, ◌≤◌, ◌^◌, ◌||◌, ℤ, Bool, true, false, cond, eqb, ltb, List, [], ◌∷◌, ◌++◌, length, take, drop, Option, Some, None, refl, sym, subst, ap, ◌∙◌, arith}
-use Rattle.std.specs.Prelude.{Result, Ok, Err, IsSome, IsTrue}
+use Rattle.std.proofs.Common.{◌≡◌, ℕ, zero, suc, ◌<◌, ◌≤◌, ◌^◌, ◌||◌, Bool, true, false, cond, eqb, ltb, List, [], ◌∷◌, ◌++◌, length, take, drop, Option, Some, None, refl, sym, subst, ap, ◌∙◌, arith}
+use Rattle.std.specs.Prelude.{Ok, Err, IsSome}
 use Rattle.std.specs.List.{list_all}
 use Rattle.std.proofs.lemmas.Bool.{eqb-true, eqb-false, ltb-false, or_parts}
 use Rattle.std.proofs.lemmas.List.{append_assoc, length-take-le, take-append-drop}
@@ -14,14 +14,13 @@ use Rattle.il_image.specs.declared.opcode.Version.{Version}
 use Rattle.il_image.specs.declared.opcode.Version.TheVariants.{One, Two}
 use Rattle.il_image.specs.declared.timer.TimerKind.{TimerKind}
 use Rattle.il_image.specs.declared.timer.TimerKind.TheVariants.{OnDelay, OffDelay}
-use Rattle.il_image.specs.declared.value.Value.{Value}
-use Rattle.il_image.specs.Decoding.{access_at, access_of, behind, code_at, code_fault, code_of_length, counted_at, decoded, items_at, kind_of_octet, name_at, name_of_length, newest_type, point_at, timer_at, type_at, type_of_octet, unless, variable_at, version_at}
-use Rattle.il_image.specs.Images.{Each, HasName, Image, IsCode, IsImage, IsName, IsValue, counted, each_spelled, encoded, is_name_octet, mark, point_octets, timer_octets, type_octet, value_size, variable_octets, version_octet}
-use Rattle.il_image.specs.Octets.{AreOctets, number_octets, octet_count, signed_octets}
+use Rattle.il_image.specs.Decoding.{access_at, access_of, behind, code_at, code_fault, code_of_length, counted_at, items_at, kind_of_octet, name_at, name_of_length, newest_type, point_at, timer_at, type_at, type_of_octet, unless, variable_at, version_at}
+use Rattle.il_image.specs.Images.{Each, HasName, IsCode, IsName, IsValue, counted, each_spelled, is_name_octet, mark, point_octets, timer_octets, type_octet, value_size, variable_octets, version_octet}
+use Rattle.il_image.specs.Octets.{AreOctets, number_octets, signed_octets}
 use Rattle.il_image.specs.Reading.{Read, ◌>>=◌, known, number_at, octet_at, value_at}
 use Rattle.il_image.specs.Values.{number_of, type_of, value_of}
-use Rattle.il_image.proofs.ReadLemmas.{bind_ok, known_ok, ok_same, Front, took_octet, took_number}
-use Rattle.il_image.proofs.InstrLemmas.{TookValue, took_value, behind_octets}
+use Rattle.il_image.proofs.ReadLemmas.{bind_ok, known_ok, ok_same, took_octet, took_number}
+use Rattle.il_image.proofs.InstrLemmas.{took_value, behind_octets}
 use Rattle.il_image.proofs.CodeLemmas.{no_fault}
 
 -- An item was read: its spelling stands first, and it is what it has to be.

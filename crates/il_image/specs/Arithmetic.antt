@@ -15,7 +15,7 @@ use Rattle.il_image.specs.declared.opcode.Connective.TheVariants.{And, Or, Xor}
 use Rattle.il_image.specs.declared.opcode.Widening.{Widening}
 use Rattle.il_image.specs.declared.opcode.Widening.TheVariants.{IntToDint, DintToLint}
 use Rattle.il_image.specs.declared.value.Value.{Value}
-use Rattle.il_image.specs.declared.value.Value.TheVariants.{Truth, Short, Long, Wide, Span}
+use Rattle.il_image.specs.declared.value.Value.TheVariants.{Short, Long, Wide}
 
 abbrev pub type_of_width : Width → ElementaryType
 type_of_width width.Int = elementary.Int

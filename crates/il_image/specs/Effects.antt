@@ -1,8 +1,9 @@
 -- What an instruction does to the kinds on the stack, the top first, where it is allowed.
-use Rattle.std.specs.Prelude.{ℕ, ℤ, pos, ◌&&◌, ◌||◌, Bool, true, false, not, List, [], ◌∷◌, nat_lt, slice_get, Option, Some, None, if◌then◌else◌}
+use Rattle.std.specs.Prelude.{ℕ, ℤ, pos, ◌&&◌, ◌||◌, Bool, not, List, [], ◌∷◌, nat_lt, slice_get, Option, Some, None, if◌then◌else◌}
 use Rattle.std.specs.Ordering.{int_eq}
 use Rattle.bay_base.specs.declared.types.ElementaryType.{ElementaryType}
 use Rattle.bay_base.specs.declared.types.ElementaryType.TheVariants as elementary
+use Rattle.bay_base.specs.Types.{same_type}
 use Rattle.il_image.specs.declared.arithmetic.Width.{Width}
 use Rattle.il_image.specs.declared.arithmetic.Width.TheVariants as width
 use Rattle.il_image.specs.declared.arithmetic.Operation.{Operation}
@@ -18,9 +19,8 @@ use Rattle.il_image.specs.declared.opcode.TimerUse.TheVariants.{SetInput, SetPre
 use Rattle.il_image.specs.declared.value.Value.{Value}
 use Rattle.il_image.specs.declared.value.Value.TheVariants.{Truth, Short, Long, Wide, Span}
 use Rattle.il_image.specs.Arithmetic.{type_of_width}
-use Rattle.il_image.specs.Kinds.{is_within, same_type}
+use Rattle.il_image.specs.Kinds.{is_within}
 use Rattle.il_image.specs.Machine.{divides, tells_equality}
-use Rattle.il_image.specs.Values.{type_of}
 
 infixl 10 ◌>>=◌
 abbrev pub ◌>>=◌ : {A B : Type 0} → Option A → (A → Option B) → Option B

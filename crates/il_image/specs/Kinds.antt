@@ -1,23 +1,11 @@
 -- The order of the kinds, and which values they have.
-use Rattle.std.specs.Prelude.{ℤ, pos, ◌≡◌, ◌&&◌, Bool, true, false, not, IsTrue, List, [], ◌∷◌, if◌then◌else◌}
-use Rattle.std.specs.Ordering.{int_eq}
-use Rattle.bay_base.specs.declared.types.ElementaryType.{ElementaryType}
-use Rattle.bay_base.specs.declared.types.ElementaryType.TheVariants as elementary
-use Rattle.il_image.specs.declared.arithmetic.Width.{Width}
-use Rattle.il_image.specs.declared.arithmetic.Width.TheVariants as width
+use Rattle.std.specs.Prelude.{pos, ◌≡◌, Bool, true, false, IsTrue, List, [], ◌∷◌, if◌then◌else◌}
+use Rattle.bay_base.specs.Types.{same_type}
 use Rattle.il_image.specs.declared.kind.Kind.{Kind}
 use Rattle.il_image.specs.declared.kind.Kind.TheVariants.{Any, Plain, NotZero}
 use Rattle.il_image.specs.declared.value.Value.{Value}
 use Rattle.il_image.specs.Arithmetic.{type_of_width}
 use Rattle.il_image.specs.Values.{number_of, type_of}
-
-abbrev pub same_type : ElementaryType → ElementaryType → Bool
-same_type elementary.Bool elementary.Bool = true
-same_type elementary.Int elementary.Int = true
-same_type elementary.Dint elementary.Dint = true
-same_type elementary.Lint elementary.Lint = true
-same_type elementary.Time elementary.Time = true
-same_type a b = false
 
 -- A number that is not zero is a number of its type, and each value is one of any kind.
 abbrev pub is_within : Kind → Kind → Bool

@@ -16,8 +16,8 @@ use Rattle.il_image.specs.declared.timer.Timer.{Timer as TimerState}
 use Rattle.il_image.specs.declared.value.Value.{Value}
 use Rattle.il_image.specs.declared.value.Value.TheVariants.{Truth, Short, Long, Wide, Span}
 use Rattle.bay_base.specs.declared.types.ElementaryType.TheVariants as elementary
+use Rattle.bay_base.specs.Types.{same_type}
 use Rattle.il_image.specs.Arithmetic.{compared, computed, connected, widened}
-use Rattle.il_image.specs.Kinds.{same_type}
 use Rattle.il_image.specs.Reading.{instr_at}
 use Rattle.il_image.specs.Timers.{called}
 use Rattle.il_image.specs.Values.{number_of, type_of}
