@@ -1,5 +1,5 @@
 -- What a device is, and what one event makes of it (IEC 61850-7-4: XCBR, XSWI and CILO; IEC 61850-7-3: status values).
-use Rattle.std.specs.Prelude.{ℕ, ◌+◌, Bool, true, false, not, ◌&&◌, cond, nat_lt, ◌==◌, pos, ◌+ℤ◌, int_lt, List, [], ◌∷◌, slice_get, Option, None, Some, Result, Ok, Err}
+use Rattle.std.specs.Prelude.{ℕ, ◌+◌, Bool, true, false, not, ◌&&◌, ◌||◌, cond, nat_lt, ◌==◌, pos, ◌+ℤ◌, int_lt, List, [], ◌∷◌, slice_get, Option, None, Some, Result, Ok, Err}
 use Rattle.bay_tree.specs.Rows.{leaf_of, with_leaf_of}
 use Rattle.bay_tree.specs.declared.row.Row.{Row}
 use Rattle.bay_tree.specs.declared.leaf.Leaf.{Leaf}
@@ -96,24 +96,34 @@ counted names other now rows = rows
 abbrev pub is_operation : Dbpos → Option Leaf → Bool
 is_operation position before = is_end_position position && not (is_position position before)
 
--- the rows after a contact of a switch, which has changed its value or its quality
-abbrev pub rows_after_contact : SwitchNames → Dbpos → ℕ → List Row → List Row
-rows_after_contact names position now rows =
-    let after = with_status names.position (leaf.Dbpos position) (position_quality position) now rows in
-    cond (is_operation position (leaf_of names.position.value rows)) (counted names.operations (leaf_of names.operations.value after) now after) after
+-- the count of a switch's operations with one more
+abbrev pub operation_counted : StatusNames → ℕ → List Row → List Row
+operation_counted names now rows = counted names (leaf_of names.value rows) now rows
 
 -- the rows tell this position already
 abbrev pub tells : StatusNames → Dbpos → List Row → Bool
 tells names position rows =
     is_position position (leaf_of names.value rows) && is_quality (position_quality position) (leaf_of names.quality rows)
 
--- a contact that leaves value and quality as they are changes nothing; another makes the last scan stale
+-- the rows after a contact that changes the value or the quality of a position
+abbrev pub rows_after_change : SwitchNames → Dbpos → ℕ → List Row → List Row
+rows_after_change names position now rows =
+    let after = with_status names.position (leaf.Dbpos position) (position_quality position) now rows in
+    cond (is_operation position (leaf_of names.position.value rows)) (operation_counted names.operations now after) after
+
+-- the rows after a contact: one that leaves value and quality as they are changes nothing
+abbrev pub rows_after_contact : SwitchNames → Dbpos → ℕ → List Row → List Row
+rows_after_contact names position now rows = cond (tells names.position position rows) rows (rows_after_change names position now rows)
+
+-- a contact of a switch; one that changes value or quality makes the last scan stale
 abbrev pub contact_taken : ℕ → ℕ → Switch → Dbpos → State → State
 contact_taken now k switch position s =
     let names = switch_names s.switches k switch in
-    cond (tells names.position position s.rows)
-    (record s { moment = now })
-    (record s { moment = now; rows = rows_after_contact names position now s.rows; is_stale = true })
+    record s {
+      moment = now;
+      rows = rows_after_contact names position now s.rows;
+      is_stale = s.is_stale || not (tells names.position position s.rows);
+    }
 
 -- what the points that are read say of a position
 abbrev pub input_of : SwitchPoint → Option Leaf → Option Bool
@@ -167,7 +177,8 @@ output_of k point (d ∷ ds) (v ∷ vs) = cond (is_point k point d.origin) (is_t
 -- an interlocking value and its quality, with the moment where one of them changed
 abbrev pub with_enabled : StatusNames → Bool → ℕ → List Row → List Row
 with_enabled names value now rows =
-    cond (is_truth value (leaf_of names.value rows) && is_quality Good (leaf_of names.quality rows)) rows (with_status names (leaf.Truth value) Good now rows)
+    cond (is_truth value (leaf_of names.value rows) && is_quality Good (leaf_of names.quality rows)) rows
+    (with_status names (leaf.Truth value) Good now rows)
 
 -- both interlocking values of a switch: whether it may be opened, and closed
 abbrev pub with_output : SwitchNames → Bool → Bool → ℕ → List Row → List Row

@@ -33,19 +33,19 @@ initial_device bay program = record {
 }
 
 -- a refusal has a number and a line; want of memory has no number
-abbrev pub refusal_of : Option ℕ → ℕ → LoadFault
-refusal_of (Some code) line = Refused code line
-refusal_of None line = OutOfMemory
+abbrev pub fault_of : Option ℕ → ℕ → LoadFault
+fault_of (Some code) line = Refused code line
+fault_of None line = OutOfMemory
 
 -- why a bay file, a program's text and a program are refused
 abbrev pub bay_refusal : BayFault → LoadFault
-bay_refusal fault = refusal_of (bay_code.code_of fault) 0
+bay_refusal fault = fault_of (bay_code.code_of fault) 0
 
 abbrev pub text_refusal : TextFault → LoadFault
-text_refusal fault = refusal_of (text_code.code_of fault) (text_code.line_of fault)
+text_refusal fault = fault_of (text_code.code_of fault) (text_code.line_of fault)
 
 abbrev pub check_refusal : CheckFault → LoadFault
-check_refusal fault = refusal_of (check_code.code_of fault) (check_code.line_of fault)
+check_refusal fault = fault_of (check_code.code_of fault) (check_code.line_of fault)
 
 -- the device of a bay and what the checks made of its program
 abbrev pub of_checked : Bay → Result Checked CheckFault → Result State LoadFault
@@ -57,6 +57,6 @@ of_program bay (Ok program) = of_checked bay (checked_of bay.points program)
 of_program bay (Err fault) = Err (text_refusal fault)
 
 -- the device of a bay file and a program: a fault of the bay file comes before one of the program's text, and that before one of its checks
-abbrev pub load_of : Result Bay BayFault → Result PlainProgram TextFault → Result State LoadFault
-load_of (Ok bay) program = of_program bay program
-load_of (Err fault) program = Err (bay_refusal fault)
+abbrev pub of_bay : Result Bay BayFault → Result PlainProgram TextFault → Result State LoadFault
+of_bay (Ok bay) program = of_program bay program
+of_bay (Err fault) program = Err (bay_refusal fault)

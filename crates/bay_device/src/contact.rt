@@ -1,9 +1,8 @@
 // What a contact does to the rows of its switch (IEC 61850-7-4, XCBR and XSWI: Pos and OpCnt).
-ghost use Rattle.std.specs.Prelude.{◌≡◌, not, cond};
+ghost use Rattle.std.specs.Prelude.{◌≡◌, not};
 ghost use Rattle.bay_tree.specs.declared.leaf.Kind.TheVariants as kind;
-ghost use Rattle.bay_tree.specs.Rows.{leaf_of};
-ghost use Rattle.bay_device.specs.Device.{position_quality, is_end_position, counted, tells, rows_after_contact};
-ghost use Rattle.bay_device.specs.Layout.{layout_of, name_in, status_in, switch_in, AreStatusRows, AreSwitchRows};
+ghost use Rattle.bay_device.specs.Device.{position_quality, is_end_position, operation_counted, tells, rows_after_change, rows_after_contact};
+ghost use Rattle.bay_device.specs.Layout.{layout_of, status_in, switch_in, AreStatusRows, AreSwitchRows};
 
 use crate::rows::{StatusRows, SwitchRows, count_at, is_position, is_quality, put, put_status};
 use bay_tree::leaf::{Dbpos, Leaf, Quality};
@@ -32,7 +31,7 @@ fn is_end_position(position: Dbpos) -> bool
 /// Counts one operation more, unless the count is at its greatest value.
 fn count_operation(tree: &mut Tree, rows: StatusRows, now: u64)
     requires { AreStatusRows (layout_of tree.old) kind.Int32 rows }
-    ensures rows { tree.new ≡ counted (status_in (layout_of tree.old) rows) (leaf_of (name_in (layout_of tree.old) rows.value) tree.old) now tree.old }
+    ensures rows { tree.new ≡ operation_counted (status_in (layout_of tree.old) rows) now tree.old }
     ensures layout { layout_of tree.new ≡ layout_of tree.old }
 {
     let count = count_at(tree, rows.value);
@@ -55,7 +54,7 @@ fn tells(tree: &Tree, rows: StatusRows, position: Dbpos) -> bool
 /// Writes a switch's new position, which is counted where it reaches an end.
 fn put_position(tree: &mut Tree, rows: SwitchRows, position: Dbpos, now: u64)
     requires { AreSwitchRows (layout_of tree.old) rows }
-    ensures rows { tree.new ≡ rows_after_contact (switch_in (layout_of tree.old) rows) position now tree.old }
+    ensures rows { tree.new ≡ rows_after_change (switch_in (layout_of tree.old) rows) position now tree.old }
     ensures layout { layout_of tree.new ≡ layout_of tree.old }
 {
     let SwitchRows {
@@ -80,7 +79,7 @@ fn put_position(tree: &mut Tree, rows: SwitchRows, position: Dbpos, now: u64)
 pub fn take_position(tree: &mut Tree, rows: SwitchRows, position: Dbpos, now: u64) -> bool
     requires { AreSwitchRows (layout_of tree.old) rows }
     ensures changed { result ≡ not (tells (status_in (layout_of tree.old) rows.position) position tree.old) }
-    ensures rows { tree.new ≡ cond (tells (status_in (layout_of tree.old) rows.position) position tree.old) tree.old (rows_after_contact (switch_in (layout_of tree.old) rows) position now tree.old) }
+    ensures rows { tree.new ≡ rows_after_contact (switch_in (layout_of tree.old) rows) position now tree.old }
     ensures layout { layout_of tree.new ≡ layout_of tree.old }
 {
     if tells(tree, rows.position, position) {

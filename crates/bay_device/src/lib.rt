@@ -1,9 +1,12 @@
 // The device of one bay: the tree of its values and the program that interlocks it, stepped by events.
 //
-// The way of the data: `load` (a device from the texts of a bay file and a program: `bind` puts the checked
-// program on the bay's points, as a `program` on slots, and `nodes` finds the `rows` of its switches),
-// `device` (what is handed out: `step`, `run` and the look-ups), `state` and `step` (what an event does, on a
-// state that can take no memory: `contact`, and `scan`, which runs the program on its `values`).
+// What is handed out: `load` (a device from the texts of a bay file and a program), `device` (`step`, `run` and the
+// look-ups), `event` (what happens to a device, and what is answered), `fault` (why texts are not loaded, and why
+// an event is refused).
+//
+// Within: `bind` puts a checked program on its slots (`program`, with their `values`) and gives each `switch` of the
+// bay its `rows`, which `nodes` finds by their names. `state` is all that a step works on, and can take no memory:
+// `step` does an event, by `contact` or by `scan`, and `look_ups` answers what is asked.
 #![tactic(auto)]
 
 mod bind;

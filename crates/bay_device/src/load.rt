@@ -8,7 +8,7 @@ ghost use Rattle.il_check.specs.WellTyped.{checked_of};
 ghost use Rattle.il_text.specs.Reading.{program_of};
 ghost use Rattle.il_text.specs.Views.{plain_program};
 ghost use Rattle.bay_device.specs.StateView.{state_view};
-ghost use Rattle.bay_device.specs.Load.{initial_device, of_checked, of_program, load_of};
+ghost use Rattle.bay_device.specs.Load.{initial_device, of_checked, of_program, of_bay};
 
 use crate::bind::{bind_program, bind_switches};
 use crate::device::Device;
@@ -88,7 +88,7 @@ fn load_text(alloc: Global, bay: Bay, logic: &str) -> Result<Device, LoadFault>
 /// The device of a bay file and a program, before its first event. A fault of the bay file (50 to 55) comes
 /// before one of the program's text (60 to 64), and that before one of its checks (70 to 79).
 pub fn load(alloc: Global, bay: &str, logic: &str) -> Result<Device, LoadFault>
-    ensures { Gives LoadFault.OutOfMemory (λ device. device) result (load_of (bay_of bay.now) (program_of logic.now)) }
+    ensures { Gives LoadFault.OutOfMemory (λ device. device) result (of_bay (bay_of bay.now) (program_of logic.now)) }
 {
     let bay = read_bay(alloc, bay)?;
     load_text(alloc, bay, logic)

@@ -84,7 +84,9 @@ pub fn run_on_inputs(
     ensures sized { length values.new ≡ length values.old }
     // Whatever the slots are called, their values are then what the program means on what was read.
     ensures meant { (names : List (List ℕ)) → AreApart names → length names ≡ length values.old →
-        variables_of names values.new ≡ (mean (items_named names program.now.instructions) None (variables_of names (inputs_put tree.now switches.now program.now.slots values.old))).variables }
+        variables_of names values.new
+        ≡ (mean (items_named names program.now.instructions) None
+        (variables_of names (inputs_put tree.now switches.now program.now.slots values.old))).variables }
 {
     read_inputs(tree, switches, program.slots.as_slice(), values);
     run_instructions(program.instructions.as_slice(), values);

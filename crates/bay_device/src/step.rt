@@ -1,7 +1,7 @@
 // What an event does to a device's state.
-ghost use Rattle.std.specs.Prelude.{◌≡◌, slice_get};
-ghost use Rattle.bay_device.specs.Device.{contact_outcome, scanned, outcome};
-ghost use Rattle.bay_device.specs.Layout.{switches_of};
+ghost use Rattle.std.specs.Prelude.{◌≡◌};
+ghost use Rattle.bay_device.specs.Device.{event_outcome, scanned, outcome};
+ghost use Rattle.bay_device.specs.declared.event.Event.TheVariants.{Contact};
 ghost use Rattle.bay_device.specs.StateView.{state_view};
 
 use crate::contact::take_position;
@@ -14,8 +14,8 @@ use bay_tree::leaf::Dbpos;
 impl DeviceState {
     /// Takes the position of the switch at a place.
     fn contact(&mut self, now: u64, switch: usize, position: Dbpos) -> Result<Step, StepFault>
-        ensures answer { result ≡ (contact_outcome now switch position (state_view self.old) (slice_get (switches_of self.old.switches) switch)).answer }
-        ensures after { state_view self.new ≡ (contact_outcome now switch position (state_view self.old) (slice_get (switches_of self.old.switches) switch)).after }
+        ensures answer { result ≡ (event_outcome now (Contact switch position) (state_view self.old)).answer }
+        ensures after { state_view self.new ≡ (event_outcome now (Contact switch position) (state_view self.old)).after }
     {
         let rows = match self.switches.as_slice().get(switch) {
             Some(bound) => bound.rows,

@@ -1,5 +1,5 @@
 -- How far a report has come.
-use Rattle.std.proofs.Common.{◌≡◌, ℕ, zero, suc, ◌+◌, ◌<◌, Bool, true, false, List, [], ◌∷◌, ◌++◌, length, map, drop, get_or, codes, Option, Some, slice_get, Result, Ok, Err, IsErr, subst, refl, ap, sym, ◌∙◌, arith, add-one, append-nil, append_assoc, inl, inr, MatchBool}
+use Rattle.std.proofs.Common.{◌≡◌, ℕ, zero, suc, ◌+◌, ◌<◌, Bool, true, false, List, [], ◌∷◌, ◌++◌, length, map, drop, get_or, codes, Option, Some, Result, Ok, Err, IsErr, slice_get, subst, refl, ap, sym, ◌∙◌, arith, add-one, append_assoc, inl, inr, MatchBool}
 use Rattle.std.proofs.Math.Seq.{drop-cons}
 use Rattle.std.proofs.lemmas.Option.{get_or_from_slice_get}
 use Rattle.std.specs.Io.KnownBytes.{Appends}

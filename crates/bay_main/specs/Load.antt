@@ -10,7 +10,7 @@ use Rattle.il_text.specs.Reading.{program_of}
 use Rattle.il_text.specs.declared.fault.TextFault.{TextFault}
 use Rattle.il_text.specs.declared.fault.TextFault.TheVariants.{BadToken}
 use Rattle.bay_device.specs.Device.{State}
-use Rattle.bay_device.specs.Load as texts
+use Rattle.bay_device.specs.Load.{of_bay}
 use Rattle.bay_device.specs.declared.fault.LoadFault.{LoadFault}
 
 -- a program that is not in UTF-8 is a bad token at its first line
@@ -23,4 +23,4 @@ file_of bay = cond (is_utf8 bay) (bay_of bay) (Err BadToml)
 
 -- the device of the octets of a bay file and of a program, or their first refusal
 abbrev pub load_of : List ℕ → List ℕ → Result State LoadFault
-load_of bay logic = texts.load_of (file_of bay) (text_of logic)
+load_of bay logic = of_bay (file_of bay) (text_of logic)

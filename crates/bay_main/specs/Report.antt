@@ -74,8 +74,8 @@ event_answer now event s =
     record { text = step_text now done.answer done.after; is_last = false; after = done.after }
 
 -- the place of the switch with an id, or a place at which there is none
-abbrev pub place_of : State → List ℕ → ℕ
-place_of s id = unwrap_or (switch_place s id) (length s.switches)
+abbrev pub event_place : State → List ℕ → ℕ
+event_place s id = unwrap_or (switch_place s id) (length s.switches)
 
 abbrev pub unreadable_text : ℕ → List ℕ
 unreadable_text k = codes "fault 120 line " ++ (decimal k ++ codes "\n")
@@ -84,7 +84,7 @@ unreadable_text k = codes "fault 120 line " ++ (decimal k ++ codes "\n")
 abbrev pub line_answer : ℕ → Option LineData → State → LineAnswer
 line_answer k None s = record { text = unreadable_text k; is_last = true; after = s }
 line_answer k (Some blank) s = record { text = []; is_last = false; after = s }
-line_answer k (Some (contact moment id position)) s = event_answer moment (Contact (place_of s id) position) s
+line_answer k (Some (contact moment id position)) s = event_answer moment (Contact (event_place s id) position) s
 line_answer k (Some (scan moment)) s = event_answer moment Scan s
 
 abbrev pub ran_out : List ℕ → ℕ → Type 0

@@ -2,7 +2,7 @@
 ghost use Rattle.std.specs.Prelude.{Err};
 ghost use Rattle.bay_base.specs.Exact.{Gives};
 ghost use Rattle.bay_config.specs.Bay.{bay_of};
-ghost use Rattle.bay_device.specs.Load as texts;
+ghost use Rattle.bay_device.specs.Load.{of_bay};
 ghost use Rattle.bay_main.specs.Load.{text_of, load_of};
 ghost use Rattle.il_text.specs.declared.fault.TextFault.TheVariants.{BadToken};
 
@@ -16,7 +16,7 @@ use std::alloc::Global;
 
 /// The refusal of a bay file, or else of a program that is not in UTF-8: a bad token at its first line.
 fn refuse_logic(alloc: Global, bay: &str) -> Result<Device, LoadFault>
-    ensures { Gives LoadFault.OutOfMemory (λ device. device) result (texts.load_of (bay_of bay.now) (Err (BadToken 1))) }
+    ensures { Gives LoadFault.OutOfMemory (λ device. device) result (of_bay (bay_of bay.now) (Err (BadToken 1))) }
 {
     let _bay = read_bay(alloc, bay)?;
     Err(LoadFault::from(TextFault::BadToken { line: 1 }))
@@ -24,7 +24,7 @@ fn refuse_logic(alloc: Global, bay: &str) -> Result<Device, LoadFault>
 
 /// The device of the text of a bay file and the octets of a program.
 fn load_logic(alloc: Global, bay: &str, logic: &[u8]) -> Result<Device, LoadFault>
-    ensures { Gives LoadFault.OutOfMemory (λ device. device) result (texts.load_of (bay_of bay.now) (text_of logic.now)) }
+    ensures { Gives LoadFault.OutOfMemory (λ device. device) result (of_bay (bay_of bay.now) (text_of logic.now)) }
 {
     match std::str::from_utf8(logic) {
         Ok(logic) => load(alloc, bay, logic),

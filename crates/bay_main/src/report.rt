@@ -2,7 +2,7 @@
 ghost use Rattle.std.specs.Prelude.{◌≡◌, ◌<◌, ◌++◌, ◌∷◌, codes, length, position, unwrap_or, slice_get, IfOk, OnOk, string_bytes, option_map, true, false};
 ghost use Rattle.std.specs.Fmt.{decimal};
 ghost use Rattle.bay_device.specs.Device.{outcome};
-ghost use Rattle.bay_main.specs.Report.{numbered_refusal, refusal_of, digit_of, switch_text, switch_part, switches_text, scan_text, refused_text, step_text, place_of, unreadable_text, line_answer};
+ghost use Rattle.bay_main.specs.Report.{numbered_refusal, refusal_of, digit_of, switch_text, switch_part, switches_text, scan_text, refused_text, step_text, event_place, unreadable_text, line_answer};
 ghost use Rattle.bay_main.specs.Trace.{trace_line_of};
 ghost use Rattle.bay_device.specs.declared.event.Event.TheVariants.{Contact};
 ghost use Rattle.bay_main.specs.TraceView.{line_view};
@@ -152,7 +152,7 @@ fn event_text(
 
 /// The event of a contact line; a switch that isn't there is told apart by its place.
 fn contact_event(device: &Device, id: &str, position: Dbpos) -> Event
-    ensures { result ≡ Contact (place_of device.now id.now) position }
+    ensures { result ≡ Contact (event_place device.now id.now) position }
 {
     let switch = device.switch(id).unwrap_or(device.switch_count());
     Event::Contact { switch, position }
