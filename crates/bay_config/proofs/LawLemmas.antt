@@ -71,12 +71,19 @@ rest-of-rest (t ∷ all) (suc k) s ss rest = rw (suc-add k 1) (rest-of-rest all 
 
 -- the points of a switch belong to it
 own-points : (all : List Switch) (k : ℕ) (s : Switch) → slice_get all k ≡ Some s → AllByRecursion (IsOwned all) (points_of k s)
-own-points all k s here =
-    (record { switch = s; here = here; has = (0, lit< tt, refl) },
-    (record { switch = s; here = here; has = (1, lit< tt, refl) },
-    (record { switch = s; here = here; has = (2, lit< tt, refl) },
-    (record { switch = s; here = here; has = (3, lit< tt, refl) },
-    (record { switch = s; here = here; has = (4, lit< tt, refl) }, tt)))))
+own-points all k s here = (
+  record { switch = s; here = here; has = (0, lit< tt, refl) },
+  (
+    record { switch = s; here = here; has = (1, lit< tt, refl) },
+    (
+      record { switch = s; here = here; has = (2, lit< tt, refl) },
+      (
+        record { switch = s; here = here; has = (3, lit< tt, refl) },
+        (record { switch = s; here = here; has = (4, lit< tt, refl) }, tt),
+      ),
+    ),
+  ),
+)
 
 -- so do those of the switches from a place on
 own-points-from : (all : List Switch) (k : ℕ) (ss : List Switch) → drop k all ≡ ss → AllByRecursion (IsOwned all) (points_from k ss)

@@ -87,14 +87,6 @@ fn is_description(text: &str) -> bool
     1 <= bytes.len() && bytes.len() <= 64 && has_printable_characters(bytes)
 }
 
-/// A copy of the text.
-fn own(alloc: Global, text: &str) -> Result<Text, BayFault>
-    ensures ok { IfOk result (λ t. t ≡ text.now) }
-    ensures err { IfErr result (λ e. e ≡ OutOfMemory) }
-{
-    Ok(Text::new(String::from_str(alloc, text)?))
-}
-
 /// The identifier at a key, of at most so many characters.
 pub fn identifier_at(alloc: Global, table: &Table, key: &str, most: usize) -> Result<Text, BayFault>
     ensures { let file = table_view table.now in
@@ -102,7 +94,7 @@ pub fn identifier_at(alloc: Global, table: &Table, key: &str, most: usize) -> Re
 {
     match find(table, key) {
         Some(value) => match value.as_str() {
-            Some(text) if is_identifier(text, most) => own(alloc, text),
+            Some(text) if is_identifier(text, most) => Ok(Text::from_str(alloc, text)?),
             _ => Err(BayFault::BadValue),
         },
         None => Err(BayFault::MissingKey),
@@ -116,13 +108,8 @@ pub fn description_at(alloc: Global, table: &Table, key: &str) -> Result<Text, B
 {
     match find(table, key) {
         Some(value) => match value.as_str() {
-            Some(text) => {
-                if !is_description(text) {
-                    return Err(BayFault::BadValue);
-                }
-                own(alloc, text)
-            }
-            None => Err(BayFault::BadValue),
+            Some(text) if is_description(text) => Ok(Text::from_str(alloc, text)?),
+            _ => Err(BayFault::BadValue),
         },
         None => Err(BayFault::MissingKey),
     }

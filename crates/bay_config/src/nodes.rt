@@ -6,9 +6,9 @@ ghost use Rattle.bay_config.specs.Laws.{NamesPosition, NamesInterlocking};
 ghost use Rattle.bay_config.specs.NodeRows.{status_rows, type_rows};
 
 use crate::bay::{Bay, Switch, SwitchKind};
-use bay_tree::leaf::{Dbpos, Leaf, Quality};
 use bay_base::listing::Listing;
 use bay_base::text::Text;
+use bay_tree::leaf::{Dbpos, Leaf, Quality};
 use bay_tree::row::Row;
 use std::alloc::{AllocError, Global};
 

@@ -60,9 +60,33 @@ fn push_position(
         switch,
         point: SwitchPoint::Closed,
     };
-    push_point(alloc, points, id, "_POS", ElementaryType::Int, false, position)?;
-    push_point(alloc, points, id, "_OPEN", ElementaryType::Bool, false, open)?;
-    push_point(alloc, points, id, "_CLOSED", ElementaryType::Bool, false, closed)?;
+    push_point(
+        alloc,
+        points,
+        id,
+        "_POS",
+        ElementaryType::Int,
+        false,
+        position,
+    )?;
+    push_point(
+        alloc,
+        points,
+        id,
+        "_OPEN",
+        ElementaryType::Bool,
+        false,
+        open,
+    )?;
+    push_point(
+        alloc,
+        points,
+        id,
+        "_CLOSED",
+        ElementaryType::Bool,
+        false,
+        closed,
+    )?;
     Ok(())
 }
 
@@ -83,8 +107,24 @@ fn push_enables(
         switch,
         point: SwitchPoint::EnableClose,
     };
-    push_point(alloc, points, id, "_ENA_OPN", ElementaryType::Bool, true, opens)?;
-    push_point(alloc, points, id, "_ENA_CLS", ElementaryType::Bool, true, closes)?;
+    push_point(
+        alloc,
+        points,
+        id,
+        "_ENA_OPN",
+        ElementaryType::Bool,
+        true,
+        opens,
+    )?;
+    push_point(
+        alloc,
+        points,
+        id,
+        "_ENA_CLS",
+        ElementaryType::Bool,
+        true,
+        closes,
+    )?;
     Ok(())
 }
 

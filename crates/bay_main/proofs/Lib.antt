@@ -1,11 +1,5 @@
-pub mod DeviceLemmas
-pub mod HandleLemmas
-pub mod KindLemmas
-pub mod NamedLemmas
 pub mod PieceLemmas
-pub mod PointLemmas
 pub mod ReadLemmas
 pub mod ReportLemmas
 pub mod SentLemmas
-pub mod SlotLemmas
 pub mod WordLemmas

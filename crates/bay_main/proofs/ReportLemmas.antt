@@ -1,21 +1,32 @@
 -- How far a report has come.
-use Rattle.std.proofs.Common.{◌≡◌, ℕ, suc, ◌+◌, ◌<◌, Bool, true, false, List, [], ◌∷◌, ◌++◌, length, map, drop, get_or, codes, Option, subst, refl, ap, sym, ◌∙◌, arith, add-one, append-nil, append_assoc, inl, inr, MatchBool}
+use Rattle.std.proofs.Common.{◌≡◌, ℕ, zero, suc, ◌+◌, ◌<◌, Bool, true, false, List, [], ◌∷◌, ◌++◌, length, map, drop, get_or, codes, Option, Some, Result, Ok, Err, IsErr, slice_get, subst, refl, ap, sym, ◌∙◌, arith, add-one, append_assoc, inl, inr, MatchBool}
 use Rattle.std.proofs.Math.Seq.{drop-cons}
+use Rattle.std.proofs.lemmas.Option.{get_or_from_slice_get}
 use Rattle.std.specs.Io.KnownBytes.{Appends}
 use Rattle.bay_config.specs.declared.bay.Switch.{Switch}
-use Rattle.bay_main.specs.Device.{State}
-use Rattle.bay_main.specs.Report.{switch_text, enabled, switches_text, LineAnswer, line_answer, TraceReport, DeviceReport, Reports, ReportsPart}
+use Rattle.bay_device.specs.Device.{State}
+use Rattle.bay_main.specs.Report.{switch_part, switches_text, LineAnswer, line_answer, TraceReport, DeviceReport, Reports, ReportsPart, Prints}
 use Rattle.bay_main.specs.Scenario.{content, lines_of, CutsLine}
 use Rattle.bay_main.specs.Sent.{Sends, SendsPart}
 use Rattle.bay_main.specs.Trace.{trace_line_of}
+use Rattle.bay_main.specs.Watched.{Writing}
+use Rattle.bay_main.specs.declared.outbox.WriteFault.{WriteFault}
 use Rattle.bay_main.proofs.SentLemmas.{Sends-more, SendsPart-of_more, SendsPart-more, Sends-trans}
 
+within : (ss : List Switch) (j : ℕ) → j < length ss → (x : Switch) × (slice_get ss j ≡ Some x)
+within [] j h = absurd (omega arith)
+within (x ∷ ss) zero h = (x, refl)
+within (x ∷ ss) (suc j) h = within ss j (omega arith)
+
 -- one switch more is told
-pub switches-turn : (s : State) (k : ℕ) (switches : List Switch) (switch : Switch) (old all : List ℕ) → k < length switches → switch ≡ get_or switches k switch → all ≡ old ++ switches_text s k (drop k switches)
-    → all ≡ (old ++ switch_text switch.id (enabled s k (codes "$ST$EnaOpn")) (enabled s k (codes "$ST$EnaCls"))) ++ switches_text s (k + 1) (drop (k + 1) switches)
-switches-turn s k switches switch old all lt is e =
-    let next : drop k switches ≡ switch ∷ drop (k + 1) switches = rw (add-one, drop-cons switches k switch) (ap (λ x. x ∷ drop (suc k) switches) (sym is)) in
-    e ∙ ap (λ ss. old ++ switches_text s k ss) next ∙ sym (append_assoc old _ _)
+pub switches-turn : (s : State) (k : ℕ) (switches : List Switch) (old all : List ℕ) → k < length switches → all ≡ old ++ switches_text s k (drop k switches)
+    → all ≡ (old ++ switch_part s k (slice_get switches k)) ++ switches_text s (k + 1) (drop (k + 1) switches)
+switches-turn s k switches old all lt e =
+    let w = within switches k lt in
+    let here : get_or switches k w.0 ≡ w.0 = get_or_from_slice_get switches k w.0 w.0 w.1 in
+    let next : drop k switches ≡ w.0 ∷ drop (k + 1) switches = rw (add-one, drop-cons switches k w.0) (ap (λ x. x ∷ drop (suc k) switches) here) in
+    let part : switch_part s k (slice_get switches k) ≡ switch_part s k (Some w.0) = ap (switch_part s k) w.1 in
+    e ∙ ap (λ ss. old ++ switches_text s k ss) next ∙ sym (append_assoc old _ _) ∙ ap (λ p. (old ++ p) ++ switches_text s (k + 1) (drop (k + 1) switches)) (sym part)
 
 -- what was printed so far, and what may follow it
 pub record Progress (May : List ℕ → ℕ → Type 0) (s : State) (k : ℕ) (rest : List (List ℕ)) (old new : Option (List ℕ)) (pending : List ℕ) : Type 0 where
@@ -47,13 +58,13 @@ module _ (May : List ℕ → ℕ → Type 0) (s : State) (k : ℕ) (rest : List 
   Progress-memory_cut p w = Progress-cut (codes "fault memory\n") 3 p (ran s k rest) w
 
 -- the end of the trace
-pub Progress-end : (May : List ℕ → ℕ → Type 0) (s : State) (k : ℕ) (rest : List (List ℕ)) (old mid new : Option (List ℕ)) (pending : List ℕ) → Progress May s k rest old mid pending → rest ≡ [] → Appends mid new pending → Reports May old new 0
+pub Progress-end : (May : List ℕ → ℕ → Type 0) (s : State) (k : ℕ) (rest : List (List ℕ)) (old mid new : Option (List ℕ)) (pending : List ℕ) → Progress May s k rest old mid pending → rest ≡ [] → Appends mid new (pending ++ []) → Reports May old new 0
 Progress-end May s k rest old mid new pending p e w =
-    Progress-last May s k rest old mid new pending [] 0 p (subst (λ r. TraceReport s k r [] 0) (sym e) (inl (refl, refl))) (subst (Appends mid new) (sym (append-nil pending)) w)
+    Progress-last May s k rest old mid new pending [] 0 p (subst (λ r. TraceReport s k r [] 0) (sym e) (inl (refl, refl))) w
 
-pub Progress-end_cut : (May : List ℕ → ℕ → Type 0) (s : State) (k : ℕ) (rest : List (List ℕ)) (old mid new : Option (List ℕ)) (pending : List ℕ) → Progress May s k rest old mid pending → rest ≡ [] → SendsPart mid new pending → ReportsPart May old new
+pub Progress-end_cut : (May : List ℕ → ℕ → Type 0) (s : State) (k : ℕ) (rest : List (List ℕ)) (old mid new : Option (List ℕ)) (pending : List ℕ) → Progress May s k rest old mid pending → rest ≡ [] → SendsPart mid new (pending ++ []) → ReportsPart May old new
 Progress-end_cut May s k rest old mid new pending p e w =
-    Progress-cut May s k rest old mid new pending [] 0 p (subst (λ r. TraceReport s k r [] 0) (sym e) (inl (refl, refl))) (subst (SendsPart mid new) (sym (append-nil pending)) w)
+    Progress-cut May s k rest old mid new pending [] 0 p (subst (λ r. TraceReport s k r [] 0) (sym e) (inl (refl, refl))) w
 
 -- a line
 module _ (May : List ℕ → ℕ → Type 0) (s : State) (k : ℕ) (line : List ℕ) (rest after : List (List ℕ)) (old mid new : Option (List ℕ)) (pending : List ℕ) (e : rest ≡ line ∷ after) where
@@ -85,24 +96,11 @@ module _ (May : List ℕ → ℕ → Type 0) (s : State) (k : ℕ) (line : List 
   last_said : said.is_last ≡ true → TraceReport s k (line ∷ after) said.text 3
   last_said is = inl (either_way said.is_last _ _ is (refl, refl))
 
-  pub Progress-fault : (last : List ℕ) (end : Option (List ℕ)) → Progress May s k rest old mid pending → said.is_last ≡ true → Sends mid new (pending ++ said.text) last → Appends new end last → Reports May old end 3
-  Progress-fault last end p is w f =
-      let q = here p in
-      record {
-        text = q.printed ++ said.text;
-        told = q.continues said.text 3 (last_said is);
-        appended = subst (Appends old end) (append-nil (q.printed ++ said.text)) (Sends-more old new end (q.printed ++ said.text) last [] (Sends-trans old mid new q.printed pending said.text last q.sent w) (subst (Appends new end) (sym (append-nil last)) f));
-      }
+  pub Progress-fault : Progress May s k rest old mid pending → said.is_last ≡ true → Appends mid new (pending ++ said.text) → Reports May old new 3
+  Progress-fault p is w = Progress-last May s k (line ∷ after) old mid new pending said.text 3 (here p) (last_said is) w
 
-  pub Progress-fault_cut : (last : List ℕ) (end : Option (List ℕ)) → Progress May s k rest old mid pending → said.is_last ≡ true → Sends mid new (pending ++ said.text) last → SendsPart new end last → ReportsPart May old end
-  Progress-fault_cut last end p is w f =
-      let q = here p in
-      record {
-        text = q.printed ++ said.text;
-        status = 3;
-        told = q.continues said.text 3 (last_said is);
-        part = subst (SendsPart old end) (append-nil (q.printed ++ said.text)) (SendsPart-of_more old new end (q.printed ++ said.text) last [] (Sends-trans old mid new q.printed pending said.text last q.sent w) (subst (SendsPart new end) (sym (append-nil last)) f));
-      }
+  pub Progress-fault_cut : Progress May s k rest old mid pending → said.is_last ≡ true → SendsPart mid new (pending ++ said.text) → ReportsPart May old new
+  Progress-fault_cut p is w = Progress-cut May s k (line ∷ after) old mid new pending said.text 3 (here p) (last_said is) w
 
   -- a report that begins with the answer to the line
   pub Progress-line_cut : Progress May s k rest old mid pending → SendsPart mid new (pending ++ said.text) → ReportsPart May old new
@@ -137,3 +135,15 @@ Progress-load_cut s lines old new pending e w =
       told = (codes "fault memory\n", refl, ran s 1 lines);
       part = SendsPart-more old new (pending ++ codes "loaded\n") (codes "fault memory\n") _ w (ap (λ p. (p ++ codes "loaded\n") ++ codes "fault memory\n") (sym e));
     }
+
+-- what becomes of a text that may be printed, said of an answer
+pub Prints-err : {W : Type 0} (contents : W → Option (List ℕ)) (May : List ℕ → ℕ → Type 0) (old new : Writing W) (r : Result ℕ WriteFault) → IsErr r
+    → ReportsPart May (contents old.inner) (contents new.inner) → true ≡ new.has_failed → Prints contents May old new r
+Prints-err contents May old new (Ok status) is part failed = absurd (cc)
+Prints-err contents May old new (Err fault) is part failed = (part, sym failed)
+
+pub Prints-weaker : {W : Type 0} (contents : W → Option (List ℕ)) (May Might : List ℕ → ℕ → Type 0) (old new : Writing W) (r : Result ℕ WriteFault)
+    → ((text : List ℕ) (status : ℕ) → May text status → Might text status) → Prints contents May old new r → Prints contents Might old new r
+Prints-weaker contents May Might old new (Ok status) wider p = (record { text = p.0.text; told = wider p.0.text status p.0.told; appended = p.0.appended }, p.1)
+Prints-weaker contents May Might old new (Err fault) wider p =
+    (record { text = p.0.text; status = p.0.status; told = wider p.0.text p.0.status p.0.told; part = p.0.part }, p.1)

@@ -1,5 +1,6 @@
 -- Lemmas on what reached a writer.
-use Rattle.std.proofs.Common.{◌≡◌, ℕ, List, [], ◌++◌, subst, Option, append-nil, append_assoc, take, drop, take-append-drop, refl, ap, sym, ◌∙◌}
+use Rattle.std.proofs.Common.{◌≡◌, ◌≢◌, ℕ, Bool, true, false, cond, eqb, ◌||◌, ◌&&◌, List, [], ◌++◌, subst, Option, Result, Ok, Err, OnErr, OnOk, append-nil, append_assoc, take, drop, take-append-drop, refl, ap, sym, ◌∙◌}
+use Rattle.std.proofs.lemmas.Bool.{ne_eqb}
 use Rattle.std.specs.Io.KnownBytes.{Appends, Keeps}
 use Rattle.std.proofs.KnownBytes.{Appends-nil, Appends-trans, Appends-kept}
 use Rattle.bay_main.specs.Sent.{Sends, SendsPart}
@@ -86,3 +87,28 @@ Sends-as a b p t u last e s = subst (λ l. Sends a b (p ++ l) last) e s
 
 pub SendsPart-as : (a b : Option (List ℕ)) (p t u : List ℕ) → t ≡ u → SendsPart a b (p ++ t) → SendsPart a b (p ++ u)
 SendsPart-as a b p t u e s = subst (λ l. SendsPart a b (p ++ l)) e s
+
+-- what holds anyhow holds of an answer
+pub at-err : {T E P : Type 0} (r : Result T E) → P → OnErr r P
+at-err (Ok x) p = tt
+at-err (Err e) p = p
+
+pub at-ok : {T E P : Type 0} (r : Result T E) → P → OnOk r P
+at-ok (Ok x) p = p
+at-ok (Err e) p = tt
+
+-- nothing was taken
+pub SendsPart-none : (a : Option (List ℕ)) (xs : List ℕ) → SendsPart a a xs
+SendsPart-none a xs = record { left = xs; sends = Sends-none a xs }
+
+-- a write that took something has not failed
+pub unfailed : (before : Bool) (n : ℕ) (given : Bool) → before ≡ false → n ≢ 0 → (before || (eqb n 0 && given)) ≡ false
+unfailed before n given e some = rw (e, ne_eqb n 0 some) refl
+
+-- what was not kept is as it was
+pub not_kept : {A : Type 0} (b : Bool) (x y z : A) → x ≡ cond b y z → b ≡ false → x ≡ z
+not_kept true x y z e f = absurd (cc)
+not_kept false x y z e f = e
+
+pub Appends-as : (a b : Option (List ℕ)) (p t u : List ℕ) → t ≡ u → Appends a b (p ++ t) → Appends a b (p ++ u)
+Appends-as a b p t u e s = subst (λ l. Appends a b (p ++ l)) e s

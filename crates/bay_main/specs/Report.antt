@@ -1,22 +1,24 @@
 -- What is printed for a scenario, and with which status.
-use Rattle.std.specs.Prelude.{◌≡◌, ℕ, ◌+◌, ◌==◌, ◌≤◌, ◌<◌, Bool, true, false, cond, nat_lt, List, [], ◌∷◌, ◌++◌, length, position, codes, unwrap_or, Option, None, Some, IfSome, Result, Ok, Err, ◌⊎◌, MatchBool}
+use Rattle.std.specs.Prelude.{◌≡◌, ℕ, ◌+◌, ◌==◌, ◌≤◌, ◌<◌, Bool, true, false, cond, List, [], ◌∷◌, ◌++◌, length, position, codes, unwrap_or, Option, None, Some, IfSome, Result, Ok, Err, ◌⊎◌, MatchBool}
 use Rattle.std.specs.Fmt.{decimal}
 use Rattle.std.specs.Io.KnownBytes.{Appends}
 use Rattle.bay_config.specs.declared.bay.Switch.{Switch}
-use Rattle.bay_base.specs.Names.{same_name}
-use Rattle.bay_main.specs.Code.{step_code_of}
-use Rattle.bay_main.specs.Device.{State, answer_of, stepped, leaf_of, is_truth, value_name, interlocking_of}
+use Rattle.bay_device.specs.Code.{step_code_of}
+use Rattle.bay_device.specs.Device.{State, outcome}
+use Rattle.bay_device.specs.LookUps.{switch_place, may_open, may_close}
 use Rattle.bay_main.specs.Load.{load_of}
 use Rattle.bay_main.specs.Scenario.{ScenarioParts, scenario_of, lines_of}
 use Rattle.bay_main.specs.Sent.{SendsPart}
+use Rattle.bay_main.specs.Watched.{Writing}
+use Rattle.bay_main.specs.declared.outbox.WriteFault.{WriteFault}
 use Rattle.bay_main.specs.Trace.{LineData, blank, contact, scan, trace_line_of}
-use Rattle.bay_main.specs.declared.device.Event.{Event}
-use Rattle.bay_main.specs.declared.device.Event.TheVariants.{Contact, Scan}
-use Rattle.bay_main.specs.declared.device.Step.{Step}
-use Rattle.bay_main.specs.declared.fault.LoadFault.{LoadFault}
-use Rattle.bay_main.specs.declared.fault.LoadFault.TheVariants.{Refused, OutOfMemory}
-use Rattle.bay_main.specs.declared.fault.StepFault.{StepFault}
-use Rattle.bay_main.specs.declared.input.TheConstants.{SCENARIO_LIMIT}
+use Rattle.bay_device.specs.declared.event.Event.{Event}
+use Rattle.bay_device.specs.declared.event.Event.TheVariants.{Contact, Scan}
+use Rattle.bay_device.specs.declared.event.Step.{Step}
+use Rattle.bay_device.specs.declared.fault.LoadFault.{LoadFault}
+use Rattle.bay_device.specs.declared.fault.LoadFault.TheVariants.{Refused, OutOfMemory}
+use Rattle.bay_device.specs.declared.fault.StepFault.{StepFault}
+use Rattle.bay_main.specs.Input.{scenario_limit}
 
 -- a refusal at a line of the program, or one that has none
 abbrev pub numbered_refusal : ℕ → ℕ → List ℕ
@@ -37,19 +39,15 @@ digit_of b = cond b (codes "1") (codes "0")
 abbrev pub switch_text : List ℕ → Bool → Bool → List ℕ
 switch_text id opens closes = codes " " ++ (id ++ (codes "=" ++ (digit_of opens ++ digit_of closes)))
 
--- an interlocking value of the switch at a place
-abbrev pub enabled : State → ℕ → List ℕ → Bool
-enabled s k object = is_truth true (leaf_of (value_name (interlocking_of k) object) s.rows)
+-- the part of a scan's line on the switch at a place, if there is one
+abbrev pub switch_part : State → ℕ → Option Switch → List ℕ
+switch_part s k None = []
+switch_part s k (Some switch) = switch_text switch.id (may_open s k) (may_close s k)
 
--- both of them, of a switch that is there
-abbrev pub enabled_of : State → ℕ → Option (Bool × Bool)
-enabled_of s k = cond (nat_lt k (length s.switches)) (Some (enabled s k (codes "$ST$EnaOpn"), enabled s k (codes "$ST$EnaCls"))) None
-
--- the texts of switches, from place k on
+-- the parts on switches, from place k on
 abbrev pub switches_text : State → ℕ → List Switch → List ℕ
 switches_text s k [] = []
-switches_text s k (switch ∷ switches) =
-    switch_text switch.id (enabled s k (codes "$ST$EnaOpn")) (enabled s k (codes "$ST$EnaCls")) ++ switches_text s (k + 1) switches
+switches_text s k (switch ∷ switches) = switch_part s k (Some switch) ++ switches_text s (k + 1) switches
 
 -- the line of a scan
 abbrev pub scan_text : ℕ → State → List ℕ
@@ -72,12 +70,12 @@ pub record LineAnswer : Type 0 where
 
 abbrev pub event_answer : ℕ → Event → State → LineAnswer
 event_answer now event s =
-    let after = stepped now event s in
-    record { text = step_text now (answer_of now event s) after; is_last = false; after = after }
+    let done = outcome now event s in
+    record { text = step_text now done.answer done.after; is_last = false; after = done.after }
 
 -- the place of the switch with an id, or a place at which there is none
-abbrev pub switch_place : State → List ℕ → ℕ
-switch_place s id = unwrap_or (position (λ switch. same_name switch.id id) s.switches) (length s.switches)
+abbrev pub event_place : State → List ℕ → ℕ
+event_place s id = unwrap_or (switch_place s id) (length s.switches)
 
 abbrev pub unreadable_text : ℕ → List ℕ
 unreadable_text k = codes "fault 120 line " ++ (decimal k ++ codes "\n")
@@ -86,7 +84,7 @@ unreadable_text k = codes "fault 120 line " ++ (decimal k ++ codes "\n")
 abbrev pub line_answer : ℕ → Option LineData → State → LineAnswer
 line_answer k None s = record { text = unreadable_text k; is_last = true; after = s }
 line_answer k (Some blank) s = record { text = []; is_last = false; after = s }
-line_answer k (Some (contact moment id position)) s = event_answer moment (Contact (switch_place s id) position) s
+line_answer k (Some (contact moment id position)) s = event_answer moment (Contact (event_place s id) position) s
 line_answer k (Some (scan moment)) s = event_answer moment Scan s
 
 abbrev pub ran_out : List ℕ → ℕ → Type 0
@@ -131,13 +129,17 @@ PartsReport (Some parts) text status = LoadsReport parts text status
 abbrev pub IsReport : List ℕ → List ℕ → ℕ → Type 0
 IsReport scenario text status = PartsReport (scenario_of scenario) text status
 
--- the text and the status for what a reader had: the report of it; a fault where a read failed or there was
--- too much; or that memory ran out
-abbrev pub IsReplay : Option (List ℕ) → Bool → List ℕ → ℕ → Type 0
-IsReplay input has_failed text status =
-    ((scenario : List ℕ) × IfSome input (λ octets. scenario ≡ octets) × (length scenario ≤ SCENARIO_LIMIT) × IsReport scenario text status)
-    ⊎ (((text ≡ codes "fault 121\n") × (status ≡ 3) × ((has_failed ≡ true) ⊎ IfSome input (λ octets. SCENARIO_LIMIT < length octets)))
+-- the text and the status for what a reader had, of which no read failed: the report of it; a fault where there
+-- was too much; or that memory ran out
+abbrev pub ReadReport : Option (List ℕ) → List ℕ → ℕ → Type 0
+ReadReport input text status =
+    ((scenario : List ℕ) × IfSome input (λ octets. scenario ≡ octets) × (length scenario ≤ scenario_limit) × IsReport scenario text status)
+    ⊎ (((text ≡ codes "fault 121\n") × (status ≡ 3) × IfSome input (λ octets. scenario_limit < length octets))
     ⊎ ran_out text status)
+
+-- the text and the status for what a reader had; a fault exactly where a read failed
+abbrev pub IsReplay : Option (List ℕ) → Bool → List ℕ → ℕ → Type 0
+IsReplay input has_failed text status = MatchBool has_failed ((text ≡ codes "fault 121\n") × (status ≡ 3)) (ReadReport input text status)
 
 -- the writer took a whole text of those that may be printed
 pub record Reports (May : List ℕ → ℕ → Type 0) (old new : Option (List ℕ)) (status : ℕ) : Type 0 where
@@ -151,3 +153,14 @@ pub record ReportsPart (May : List ℕ → ℕ → Type 0) (old new : Option (Li
   pub status : ℕ
   pub told : May text status
   pub part : SendsPart old new text
+
+-- this text and this status alone
+abbrev pub IsLast : List ℕ → ℕ → List ℕ → ℕ → Type 0
+IsLast last answered text status = (text ≡ last) × (status ≡ answered)
+
+-- a replay answers the status of a text that may be printed, after all of it reached the writer and was flushed;
+-- or a write or a flush failed, and the writer took a front of such a text
+abbrev pub Prints : {W : Type 0} → (W → Option (List ℕ)) → (List ℕ → ℕ → Type 0) → Writing W → Writing W → Result ℕ WriteFault → Type 0
+Prints contents May old new (Ok status) =
+    Reports May (contents old.inner) (contents new.inner) status × ((new.has_failed ≡ false) × (new.is_flushed ≡ true))
+Prints contents May old new (Err fault) = ReportsPart May (contents old.inner) (contents new.inner) × (new.has_failed ≡ true)

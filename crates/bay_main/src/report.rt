@@ -1,16 +1,16 @@
 // What is printed for a load and for each line of the trace.
-ghost use Rattle.std.specs.Prelude.{◌≡◌, ◌<◌, ◌++◌, ◌∷◌, codes, length, position, unwrap_or, IfOk, OnOk, string_bytes, option_map, true, false};
+ghost use Rattle.std.specs.Prelude.{◌≡◌, ◌<◌, ◌++◌, ◌∷◌, codes, length, position, unwrap_or, slice_get, IfOk, OnOk, string_bytes, option_map, true, false};
 ghost use Rattle.std.specs.Fmt.{decimal};
-ghost use Rattle.bay_main.specs.Device.{answer_of, stepped};
-ghost use Rattle.bay_main.specs.DeviceView.{device_view};
-ghost use Rattle.bay_main.specs.Report.{numbered_refusal, refusal_of, digit_of, switch_text, enabled, switches_text, scan_text, refused_text, step_text, switch_place, unreadable_text, line_answer};
+ghost use Rattle.bay_device.specs.Device.{outcome};
+ghost use Rattle.bay_main.specs.Report.{numbered_refusal, refusal_of, digit_of, switch_text, switch_part, switches_text, scan_text, refused_text, step_text, event_place, unreadable_text, line_answer};
 ghost use Rattle.bay_main.specs.Trace.{trace_line_of};
-ghost use Rattle.bay_main.specs.declared.device.Event.TheVariants.{Contact};
+ghost use Rattle.bay_device.specs.declared.event.Event.TheVariants.{Contact};
 ghost use Rattle.bay_main.specs.TraceView.{line_view};
 
-use crate::device::{Device, Event, Step};
-use crate::fault::{LoadFault, StepFault};
 use crate::trace::{TraceLine, read_trace_line};
+use bay_device::device::Device;
+use bay_device::event::{Event, Step};
+use bay_device::fault::{LoadFault, StepFault};
 use bay_tree::leaf::Dbpos;
 use std::alloc::{AllocError, Global};
 
@@ -74,22 +74,32 @@ fn push_switch(text: &mut String, id: &str, opens: bool, closes: bool) -> Result
     Ok(())
 }
 
+/// Adds the part of a scan's line on the switch at a place, if there is one.
+fn push_place(text: &mut String, device: &Device, place: usize) -> Result<(), AllocError>
+    ensures { OnOk result (string_bytes text.new ≡ string_bytes text.old ++ switch_part device.now place (slice_get device.now.switches place)) }
+{
+    let Some(id) = device.id(place) else {
+        return Ok(());
+    };
+    let Some((opens, closes)) = device.ena(place) else {
+        return Ok(());
+    };
+    push_switch(text, id, opens, closes)
+}
+
 /// Adds the parts of a scan's line on the switches.
 fn push_switches(text: &mut String, device: &Device) -> Result<(), AllocError>
-    ensures { OnOk result (string_bytes text.new ≡ string_bytes text.old ++ switches_text (device_view device.now) 0 device.now.switches) }
+    ensures { OnOk result (string_bytes text.new ≡ string_bytes text.old ++ switches_text device.now 0 device.now.switches) }
 {
-    let switches = device.switches.as_slice();
-    for k in 0..switches.len() {
-        let opens = device.may_open(k);
-        let closes = device.may_close(k);
-        push_switch(text, switches[k].id.as_str(), opens, closes)?;
+    for place in 0..device.switch_count() {
+        push_place(text, device, place)?;
     }
     Ok(())
 }
 
 /// The line of a scan.
 fn scan_text(alloc: Global, device: &Device, moment: u64) -> Result<String, AllocError>
-    ensures { IfOk result (λ text. string_bytes text ≡ scan_text moment (device_view device.now)) }
+    ensures { IfOk result (λ text. string_bytes text ≡ scan_text moment device.now) }
 {
     let mut text = format!(in alloc; "{moment} scan")?;
     push_switches(&mut text, device)?;
@@ -112,7 +122,7 @@ fn step_text(
     moment: u64,
     answer: Result<Step, StepFault>,
 ) -> Result<String, AllocError>
-    ensures { IfOk result (λ text. string_bytes text ≡ step_text moment answer (device_view device.now)) }
+    ensures { IfOk result (λ text. string_bytes text ≡ step_text moment answer device.now) }
 {
     match answer {
         Err(fault) => refused_text(alloc, moment, fault),
@@ -133,8 +143,8 @@ fn event_text(
     moment: u64,
     event: Event,
 ) -> Result<String, AllocError>
-    ensures text { IfOk result (λ text. string_bytes text ≡ step_text moment (answer_of moment event (device_view device.old)) (stepped moment event (device_view device.old))) }
-    ensures device { device_view device.new ≡ stepped moment event (device_view device.old) }
+    ensures text { IfOk result (λ text. string_bytes text ≡ step_text moment (outcome moment event device.old).answer (outcome moment event device.old).after) }
+    ensures device { device.new ≡ (outcome moment event device.old).after }
 {
     let answer = device.step(moment, event);
     step_text(alloc, device, moment, answer)
@@ -142,7 +152,7 @@ fn event_text(
 
 /// The event of a contact line; a switch that isn't there is told apart by its place.
 fn contact_event(device: &Device, id: &str, position: Dbpos) -> Event
-    ensures { result ≡ Contact (switch_place (device_view device.now) id.now) position }
+    ensures { result ≡ Contact (event_place device.now id.now) position }
 {
     let switch = device.switch(id).unwrap_or(device.switch_count());
     Event::Contact { switch, position }
@@ -155,9 +165,9 @@ fn event_answer(
     moment: u64,
     event: Event,
 ) -> Result<Answer, AllocError>
-    ensures text { IfOk result (λ a. string_bytes a.text ≡ step_text moment (answer_of moment event (device_view device.old)) (stepped moment event (device_view device.old))) }
+    ensures text { IfOk result (λ a. string_bytes a.text ≡ step_text moment (outcome moment event device.old).answer (outcome moment event device.old).after) }
     ensures last { IfOk result (λ a. a.is_last ≡ false) }
-    ensures device { device_view device.new ≡ stepped moment event (device_view device.old) }
+    ensures device { device.new ≡ (outcome moment event device.old).after }
 {
     let text = event_text(alloc, device, moment, event)?;
     Ok(Answer {
@@ -185,9 +195,9 @@ fn answer_to(
     number: usize,
     line: Option<TraceLine<'_>>,
 ) -> Result<Answer, AllocError>
-    ensures text { IfOk result (λ a. string_bytes a.text ≡ (line_answer number (option_map line_view line.entry) (device_view device.old)).text) }
-    ensures last { IfOk result (λ a. a.is_last ≡ (line_answer number (option_map line_view line.entry) (device_view device.old)).is_last) }
-    ensures device { OnOk result (device_view device.new ≡ (line_answer number (option_map line_view line.entry) (device_view device.old)).after) }
+    ensures text { IfOk result (λ a. string_bytes a.text ≡ (line_answer number (option_map line_view line.entry) device.old).text) }
+    ensures last { IfOk result (λ a. a.is_last ≡ (line_answer number (option_map line_view line.entry) device.old).is_last) }
+    ensures device { OnOk result (device.new ≡ (line_answer number (option_map line_view line.entry) device.old).after) }
 {
     match line {
         None => unreadable(alloc, number),
@@ -216,9 +226,9 @@ pub fn answer_line(
     number: usize,
     line: &[u8],
 ) -> Result<Answer, AllocError>
-    ensures text { IfOk result (λ a. string_bytes a.text ≡ (line_answer number (trace_line_of line.now) (device_view device.old)).text) }
-    ensures last { IfOk result (λ a. a.is_last ≡ (line_answer number (trace_line_of line.now) (device_view device.old)).is_last) }
-    ensures device { OnOk result (device_view device.new ≡ (line_answer number (trace_line_of line.now) (device_view device.old)).after) }
+    ensures text { IfOk result (λ a. string_bytes a.text ≡ (line_answer number (trace_line_of line.now) device.old).text) }
+    ensures last { IfOk result (λ a. a.is_last ≡ (line_answer number (trace_line_of line.now) device.old).is_last) }
+    ensures device { OnOk result (device.new ≡ (line_answer number (trace_line_of line.now) device.old).after) }
 {
     let said = read_trace_line(line);
     answer_to(alloc, device, number, said)

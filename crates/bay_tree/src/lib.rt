@@ -1,5 +1,8 @@
 // The tree of named values that clients browse: rows in the order of their names, each a structure or
 // a leaf with a typed value (IEC 61850-8-1, mapping of names to MMS named variables).
+//
+// Handed out: `tree` (the tree and its calls), `row` and `leaf` (what it is built of and holds), `page`
+// (a page of names), `fault`, `search` (whether rows make a tree), `name` (the words of a name).
 #![tactic(auto)]
 
 pub mod fault;

@@ -2,9 +2,9 @@
 ghost use Rattle.std.specs.Prelude.{◌≡◌, take, IfOk};
 ghost use Rattle.bay_tree.specs.Rows.{names_of};
 
+use crate::row::Row;
 use bay_base::listing::Listing;
 use bay_base::text::Text;
-use crate::row::Row;
 use std::alloc::{AllocError, Global};
 
 /// The first names that follow a name, and whether there are more.
@@ -15,7 +15,7 @@ pub struct Names {
     pub more: bool,
 }
 
-// The first rows, as many as there are up to the count.
+/// The first rows, as many as there are up to the count.
 fn first_rows(rows: &[Row], count: usize) -> &[Row]
     ensures { result.now ≡ take count rows.now }
 {

@@ -2,17 +2,17 @@
 ghost use Rattle.std.specs.Prelude.{◌≡◌, ◌≢◌, ◌<◌, All, ◌≤◌, ◌↔◌, length, drop, map, Some, Ok, Err, IfOk, IsOk, OnOk, OnErr, IfErr, IfSome, IsTrue};
 ghost use Rattle.std.specs.Option.{ok_or, option_copied};
 ghost use Rattle.bay_tree.specs.Names.{IsNamed, parent_of, word_of};
-ghost use Rattle.bay_tree.specs.Rows.{IsTree, IsHandle, place_of, name_at, leaf_at, kind_at, names_of, kinds_of, with_leaf, first_below_from, first_below, next_beside, places_below, places_behind, places_since};
+ghost use Rattle.bay_tree.specs.Rows.{IsTree, IsHandle, place_of, name_at, leaf_at, leaf_of, kind_at, names_of, kinds_of, with_leaf, with_leaf_of, first_below_from, first_below, next_beside, places_below, places_behind, places_since};
 ghost use Rattle.bay_tree.specs.Kinds.{kind_of};
 ghost use Rattle.bay_tree.specs.Page.{page_after, start_after, IsUnknown};
 
 use crate::fault::{NamesFault, TreeFault};
 use crate::leaf::{Kind, Leaf};
-use bay_base::listing::Listing;
 use crate::name::{last_word, parent};
 use crate::page::{Names, first_names};
 use crate::row::Row;
 use crate::search::{first_below_from, place_of, start_after};
+use bay_base::listing::Listing;
 use std::alloc::{AllocError, Global};
 use std::marker::Model;
 
@@ -63,6 +63,7 @@ impl Tree {
     pub fn find(&self, name: &str) -> Result<Handle, TreeFault>
         ensures place { result ≡ ok_or (place_of self.now name.now) TreeFault.NoSuchName }
         ensures found { IfOk result (λ handle. IsHandle self.now handle × (name_at self.now handle ≡ name.now)) }
+        ensures value { IfOk result (λ handle. leaf_at self.now handle ≡ leaf_of name.now self.now) }
         ensures unknown { (result ≡ Err TreeFault.NoSuchName) ↔ All (λ row. row.name ≢ name.now) self.now }
     {
         match place_of(self.rows.as_slice(), name) {
@@ -74,7 +75,8 @@ impl Tree {
     /// The value of a row; None for a structure.
     pub fn get(&self, handle: Handle) -> Option<&Leaf>
         requires { IsHandle self.now handle }
-        ensures { option_copied result ≡ leaf_at self.now handle }
+        ensures value { option_copied result ≡ leaf_at self.now handle }
+        ensures named { option_copied result ≡ leaf_of (name_at self.now handle) self.now }
     {
         self.rows[handle.index].leaf.as_ref()
     }
@@ -95,6 +97,7 @@ impl Tree {
         requires { IsHandle self.old handle }
         ensures accepted { IsOk result ↔ (kind_at self.old handle ≡ Some (kind_of leaf)) }
         ensures ok { OnOk result (self.new ≡ with_leaf self.old handle leaf) }
+        ensures named { OnOk result (self.new ≡ with_leaf_of (name_at self.old handle) leaf self.old) }
         ensures err { IfErr result (λ fault. (fault ≡ TreeFault.WrongType) × (self.new ≡ self.old)) }
 
         // Handles stay good: each row keeps its place, its name and its value's type.
@@ -164,7 +167,7 @@ impl Tree {
         })
     }
 
-    // The name of a row.
+    /// The name of a row.
     fn name(&self, handle: Handle) -> &str
         requires { IsHandle self.now handle }
         ensures { result.now ≡ name_at self.now handle }

@@ -5,15 +5,15 @@ ghost use Rattle.bay_base.specs.Names as names;
 ghost use Rattle.il_text.specs.Views.{declared_of};
 ghost use Rattle.il_check.specs.Noted.{noted, declaration_faults_at};
 ghost use Rattle.il_check.specs.Places.{with_place};
-ghost use Rattle.il_check.specs.Standing.{StandsFor};
+ghost use Rattle.il_check.specs.Standing.{StandsFor, places_of};
 ghost use Rattle.il_check.specs.WellTyped as spec;
 
 use crate::fault::CheckFault;
 use crate::note::note_if;
-use bay_config::bay::{Origin, Point};
-use bay_base::text::Text;
 use bay_base::names::same_name;
+use bay_base::text::Text;
 use bay_base::types::ElementaryType;
+use bay_config::bay::{Origin, Point};
 use il_text::program::{Declaration, Scope};
 use std::alloc::{AllocError, Global};
 use std::collections::BTreeMap;
@@ -190,8 +190,11 @@ impl Declarations {
         ensures origins { OnOk result (self.new.origins.items ≡ self.old.origins.items ++ spec.origin_of points.now (declared_of declaration.now) ∷ []) }
         ensures initial { OnOk result (self.new.initial.items ≡ self.old.initial.items ++ spec.initial_value (declared_of declaration.now) ∷ []) }
         ensures writable { OnOk result (self.new.writable.items ≡ self.old.writable.items ++ spec.can_write points.now (Some (declared_of declaration.now)) ∷ []) }
-        ensures places { OnOk result ((other : List ℕ) → get_by_text self.new.places other ≡ with_place (λ q. get_by_text self.old.places q) (names.upper declaration.now.name.now) (vec_len self.old.names) other) }
-        ensures found { OnOk result (self.new.found ≡ noted self.old.found (declaration_faults_at points.now (is_some (get_by_text self.old.places (names.upper declaration.now.name.now))) (vec_len self.old.names) (declared_of declaration.now))) }
+        ensures places { OnOk result ((other : List ℕ) → places_of self.new other
+            ≡ with_place (places_of self.old) (names.upper declaration.now.name.now) (vec_len self.old.names) other) }
+        ensures found { OnOk result (self.new.found
+            ≡ noted self.old.found (declaration_faults_at points.now
+            (is_some (places_of self.old (names.upper declaration.now.name.now))) (vec_len self.old.names) (declared_of declaration.now))) }
     {
         let name = upper_case(alloc, declaration.name)?;
         let copy = Text::from_str(alloc, name.as_str())?;

@@ -1,6 +1,6 @@
 // Instructions on the places of their names, and what is wrong with them (IEC 61131-3:2003, 3.2).
 ghost use Rattle.std.specs.Prelude.{◌≡◌, ◌++◌, map, false, IfOk, OnOk, option_to_list};
-ghost use Rattle.std.specs.BTreeMap.{get_by_text};
+ghost use Rattle.il_check.specs.Standing.{places_of};
 ghost use Rattle.std.specs.List.{filter_map};
 ghost use Rattle.bay_base.specs.Names.{upper};
 ghost use Rattle.il_text.specs.Views.{source_of, action_of, entry_of};
@@ -85,14 +85,14 @@ fn item_fault(
 impl Declarations {
     /// The place of a name.
     fn place(&self, alloc: Global, name: &str) -> Result<Option<usize>, AllocError>
-        ensures { IfOk result (λ place. place ≡ get_by_text self.now.places (upper name.now)) }
+        ensures { IfOk result (λ place. place ≡ places_of self.now (upper name.now)) }
     {
         let name = upper_case(alloc, name)?;
         Ok(self.places.get(name.as_str()).copied())
     }
 
     fn source(&self, alloc: Global, operand: Operand<'_>) -> Result<Option<Source>, AllocError>
-        ensures { IfOk result (λ source. source ≡ spec.source_at (λ q. get_by_text self.now.places q) (source_of operand.entry)) }
+        ensures { IfOk result (λ source. source ≡ spec.source_at (places_of self.now) (source_of operand.entry)) }
     {
         match operand {
             Operand::Literal(value) => Ok(Some(Source::Literal(value))),
@@ -109,7 +109,7 @@ impl Declarations {
         alloc: Global,
         instruction: Instruction<'_>,
     ) -> Result<Option<TypedInstruction>, AllocError>
-        ensures { IfOk result (λ typed. typed ≡ spec.instruction_at (λ q. get_by_text self.now.places q) (action_of instruction.entry)) }
+        ensures { IfOk result (λ typed. typed ≡ spec.instruction_at (places_of self.now) (action_of instruction.entry)) }
     {
         match instruction {
             Instruction::Load { negated, operand } => match self.source(alloc, operand)? {
@@ -129,7 +129,7 @@ impl Declarations {
 
     #[tactic(auto, using(crate::proofs::EntryLemmas::entry_rules))]
     fn item(&self, alloc: Global, item: &Item<'_>) -> Result<Option<TypedInstruction>, AllocError>
-        ensures { IfOk result (λ typed. typed ≡ spec.entry_at (λ q. get_by_text self.now.places q) (entry_of item.now)) }
+        ensures { IfOk result (λ typed. typed ≡ spec.entry_at (places_of self.now) (entry_of item.now)) }
     {
         match item {
             Item::Instruction { instruction, .. } => self.instruction(alloc, *instruction),
@@ -147,8 +147,11 @@ impl Resolved {
         is_set: bool,
         item: &Item<'_>,
     ) -> Result<(), AllocError>
-        ensures instructions { OnOk result (self.new.instructions.items ≡ self.old.instructions.items ++ option_to_list (spec.entry_at (λ q. get_by_text declared.now.places q) (entry_of item.now))) }
-        ensures found { OnOk result (self.new.found ≡ noted self.old.found (spec.entry_faults_at declared.now.writable.items is_set (entry_of item.now) (spec.entry_at (λ q. get_by_text declared.now.places q) (entry_of item.now)))) }
+        ensures instructions { OnOk result (self.new.instructions.items
+            ≡ self.old.instructions.items ++ option_to_list (spec.entry_at (places_of declared.now) (entry_of item.now))) }
+        ensures found { OnOk result (self.new.found
+            ≡ noted self.old.found (spec.entry_faults_at declared.now.writable.items is_set (entry_of item.now)
+            (spec.entry_at (places_of declared.now) (entry_of item.now)))) }
     {
         let typed = declared.item(alloc, item)?;
         self.found = item_fault(
@@ -171,8 +174,9 @@ pub(crate) fn resolve_all(
     declared: &Declarations,
     items: &[Item<'_>],
 ) -> Result<Resolved, AllocError>
-    ensures instructions { IfOk result (λ r. r.instructions.items ≡ filter_map (spec.entry_at (λ q. get_by_text declared.now.places q)) (map entry_of items.now)) }
-    ensures found { IfOk result (λ r. r.found ≡ noted declared.now.found (spec.entries_faults_at (λ q. get_by_text declared.now.places q) declared.now.writable.items false (map entry_of items.now))) }
+    ensures instructions { IfOk result (λ r. r.instructions.items ≡ filter_map (spec.entry_at (places_of declared.now)) (map entry_of items.now)) }
+    ensures found { IfOk result (λ r. r.found
+        ≡ noted declared.now.found (spec.entries_faults_at (places_of declared.now) declared.now.writable.items false (map entry_of items.now))) }
 {
     let mut resolved = Resolved {
         instructions: Vec::new(alloc),

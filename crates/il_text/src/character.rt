@@ -38,8 +38,8 @@ pub(crate) fn begins_name(x: u8) -> bool
     x.is_ascii_alphabetic() || x == b'_'
 }
 
-#[tactic(auto, unfolding(crate::specs::Characters::linked))]
 /// Whether two characters that directly follow one another belong to one token.
+#[tactic(auto, unfolding(crate::specs::Characters::linked))]
 pub(crate) fn is_linked(x: u8, y: u8) -> bool
     ensures { result ≡ spec.linked x y }
 {

@@ -13,7 +13,7 @@ use bay_base::types::ElementaryType;
 
 /// What the lines before a line make of the text.
 #[derive(Clone, Copy, Debug, PartialEq, Eq)]
-pub(crate) enum Place {
+pub(crate) enum Stage {
     /// Before the line of PROGRAM.
     Start,
     /// Between the declaration blocks.
@@ -62,8 +62,8 @@ fn truth_of(token: Token<'_>) -> Option<bool>
     }
 }
 
-#[tactic(auto, unfolding(crate::specs::Forms::header))]
 /// `PROGRAM name`
+#[tactic(auto, unfolding(crate::specs::Forms::header))]
 pub(crate) fn header<'a>(tokens: &[Token<'a>]) -> Option<&'a str>
     ensures { option_map (λ n. n.now) result ≡ spec.header (symbols_of tokens.now) }
 {
@@ -73,8 +73,8 @@ pub(crate) fn header<'a>(tokens: &[Token<'a>]) -> Option<&'a str>
     }
 }
 
-#[tactic(auto, unfolding(crate::specs::Forms::is_alone))]
 /// Whether the line is this reserved word alone.
+#[tactic(auto, unfolding(crate::specs::Forms::is_alone))]
 pub(crate) fn is_alone(tokens: &[Token<'_>], word: Reserved) -> bool
     ensures { result ≡ spec.is_alone word (symbols_of tokens.now) }
 {
@@ -84,8 +84,8 @@ pub(crate) fn is_alone(tokens: &[Token<'_>], word: Reserved) -> bool
     }
 }
 
-#[tactic(auto, unfolding(crate::specs::Forms::opened))]
 /// `VAR` or `VAR_EXTERNAL`
+#[tactic(auto, unfolding(crate::specs::Forms::opened))]
 pub(crate) fn opened_block(tokens: &[Token<'_>]) -> Option<Scope>
     ensures { result ≡ spec.opened (symbols_of tokens.now) }
 {
@@ -108,8 +108,8 @@ fn operand(token: Token<'_>) -> Option<Operand<'_>>
     }
 }
 
-#[tactic(auto, unfolding(crate::specs::Forms::instruction))]
 /// An operator with its operand.
+#[tactic(auto, unfolding(crate::specs::Forms::instruction))]
 pub(crate) fn instruction<'a>(tokens: &[Token<'a>]) -> Option<Instruction<'a>>
     ensures { option_map action_of result ≡ spec.instruction (symbols_of tokens.now) }
 {
@@ -156,8 +156,8 @@ pub(crate) struct Tail {
     pub(crate) initial: Option<bool>,
 }
 
-#[tactic(auto, unfolding(crate::specs::Forms::tail))]
 /// `BOOL ;` or `BOOL := literal ;`, where an external has no literal.
+#[tactic(auto, unfolding(crate::specs::Forms::tail))]
 pub(crate) fn declared_tail(tokens: &[Token<'_>], scope: Scope) -> Option<Tail>
     ensures { result ≡ spec.tail scope (symbols_of tokens.now) }
 {

@@ -2,12 +2,17 @@
 // items, whose names are slices of the text. The text is cut into tokens, each line of tokens is
 // judged as a whole, and the first faulty line is the refusal. The read forms are the frame of a
 // program, BOOL variables, and LD, LDN, ST, AND and OR.
+//
+// Handed out: `read` (a text becomes a program, or its first faulty line), `program` (what that is),
+// `fault`, and `laws` (how a text may be respelled). Inside: `piece` (what stands at a place of the
+// text), `lexeme` (a token, with `literal`, `reserved` and `character`), `token`, `form` (the forms of
+// lines) and `listing` (what the lines make).
 #![tactic(auto)]
 
 mod character;
 pub mod fault;
 mod form;
-pub mod law;
+pub mod laws;
 mod lexeme;
 mod listing;
 mod literal;

@@ -99,7 +99,7 @@ fn integer(word: &str) -> Option<(bool, u64)>
 }
 
 fn judge(number: Option<(bool, u64)>, below: u64, above: u64) -> Judged
-    ensures { result ≡ spec.judged below above number }
+    ensures { result ≡ spec.within_range below above number }
 {
     match number {
         None => Judged::Malformed,
@@ -113,8 +113,8 @@ fn judge(number: Option<(bool, u64)>, below: u64, above: u64) -> Judged
     }
 }
 
-#[tactic(auto, unfolding(crate::specs::Literals::untyped))]
 /// Judges a literal without a type, whose largest range is that of DINT.
+#[tactic(auto, unfolding(crate::specs::Literals::untyped))]
 pub(crate) fn untyped(number: Option<(bool, u64)>) -> Judged
     ensures { result ≡ spec.untyped number }
 {
@@ -157,8 +157,8 @@ fn typed_dint(word: &str) -> Judged
     judge(integer(word), 2_147_483_648, 2_147_483_647)
 }
 
-#[tactic(auto, using(crate::proofs::LiteralLemmas::untyped_capped), unfolding(crate::specs::Literals::prefixed))]
 /// Judges a literal with something before its first `#`.
+#[tactic(auto, using(crate::proofs::LiteralLemmas::untyped_capped), unfolding(crate::specs::Literals::prefixed))]
 pub(crate) fn prefixed(before: &str, word: &str) -> Judged
     ensures { result ≡ spec.prefixed before.now word.now }
 {

@@ -21,8 +21,8 @@ pub(crate) fn ends(bytes: &[u8], at: usize) -> bool
     bytes[at] == b'*' && byte_at(bytes, at + 1) == b')'
 }
 
-#[tactic(auto, using(crate::proofs::PieceLemmas::closes_rules))]
 /// Whether the end of a comment stands here or later.
+#[tactic(auto, using(crate::proofs::PieceLemmas::closes_rules))]
 pub(crate) fn closes(bytes: &[u8], at: usize) -> bool
     ensures { result ≡ spec.closes (drop at bytes.now) }
 {
@@ -34,8 +34,8 @@ pub(crate) fn closes(bytes: &[u8], at: usize) -> bool
     false
 }
 
-#[tactic(auto, using(crate::proofs::PieceLemmas::run_rules))]
 /// The end of the longest run of characters of which each belongs to the one before it.
+#[tactic(auto, using(crate::proofs::PieceLemmas::run_rules))]
 fn run_end(bytes: &[u8], start: usize) -> usize
     requires { start < length bytes.now }
     ensures { IsRun bytes.now start result }

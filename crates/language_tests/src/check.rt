@@ -25,7 +25,7 @@ fn point(
     })
 }
 
-// Three points of a switch: its position, whether it is open, and whether it may be opened.
+/// Three points of a switch: its position, whether it is open, and whether it may be opened.
 fn points(alloc: Global) -> Result<Vec<Point>, AllocError> {
     let (whole, truth) = (ElementaryType::Int, ElementaryType::Bool);
     let position = point(alloc, "QA1_POS", whole, false, SwitchPoint::Position)?;
@@ -34,7 +34,7 @@ fn points(alloc: Global) -> Result<Vec<Point>, AllocError> {
     Ok(vec![in alloc; position, open, enable]?)
 }
 
-// The fault's number and line; 0 and 0 where the program passes.
+/// The fault's number and line; 0 and 0 where the program passes.
 fn outcome(alloc: Global, text: &str) -> Result<(u8, usize), Fail> {
     let points = points(alloc)?;
     let program = read_program(alloc, text)?;
@@ -125,7 +125,7 @@ fn texts(rt: HostRuntime) -> Result<(), Fail> {
     Ok(())
 }
 
-// A program that declares so many names, each on a line of its own from the third on.
+/// A program that declares so many names, each on a line of its own from the third on.
 fn long_text(alloc: Global, count: usize) -> Result<String, AllocError> {
     let mut text = String::from_str(alloc, "PROGRAM P\nVAR\n")?;
     for i in 0..count {

@@ -6,7 +6,7 @@ use il_text::read::read_program;
 use std::alloc::Global;
 use std::test::Fail;
 
-// The fault's number and line; 0 and 0 where the text is read.
+/// The fault's number and line; 0 and 0 where the text is read.
 fn outcome(alloc: Global, text: &str) -> Result<(u8, usize), Fail> {
     match read_program(alloc, text) {
         Ok(_) => Ok((0, 0)),
@@ -14,7 +14,7 @@ fn outcome(alloc: Global, text: &str) -> Result<(u8, usize), Fail> {
     }
 }
 
-// Each stands alone on the second line of a program, which begins with `LD `.
+/// Each stands alone on the second line of a program, which begins with `LD `.
 const OPERANDS: [(&str, u8); 64] = [
     ("a", 0),
     ("TRUE", 0),
@@ -208,7 +208,7 @@ fn texts(rt: HostRuntime) -> Result<(), Fail> {
     Ok(())
 }
 
-// A program of so many lines `LD a`, and what ends it.
+/// A program of so many lines `LD a`, and what ends it.
 fn long_text(alloc: Global, lines: usize, end: &str) -> Result<String, std::alloc::AllocError> {
     let mut text = String::from_str(alloc, "PROGRAM P\n")?;
     for _ in 0..lines {

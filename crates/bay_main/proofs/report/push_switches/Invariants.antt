@@ -1,9 +1,8 @@
 use Rattle.std.proofs.Common.{◌≡◌, ◌++◌, drop, string_bytes}
-use Rattle.bay_main.specs.DeviceView.{device_view}
 use Rattle.bay_main.specs.Report.{switches_text}
 use Rattle.bay_main.proofs.report.push_switches.Given as goal
 
-abbrev pub invariant-loop-k : goal.invariant-loop-k
-invariant-loop-k l =
-    string_bytes l.initial.text ++ switches_text (device_view l.device) 0 l.switches
-    ≡ string_bytes l.text ++ switches_text (device_view l.device) l.k (drop l.k l.switches)
+abbrev pub invariant-loop-place : goal.invariant-loop-place
+invariant-loop-place l =
+    string_bytes l.initial.text ++ switches_text l.device 0 l.device.switches
+    ≡ string_bytes l.text ++ switches_text l.device l.place (drop l.place l.device.switches)

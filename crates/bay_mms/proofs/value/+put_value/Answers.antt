@@ -19,4 +19,4 @@ returns-in_err-put_value-in-None t c =
     let p = err_from_is_err_and c.from_residual.result c.from_residual.ensures.1 in
     let part = datum_text (data_at c.args.tree.now c.in-Some-next.part) in
     let parts = nodes_text (parts_at c.args.tree.now c.args.handle) in
-    rw (p.1, p.2, structure_at c.args.tree.now c.args.handle (sym c.in-None.ensures)) (part_fault c.in_err-put_value-in-None.field-0.0 part _ (λ over. around_over (constructed 2) parts (written_over c.args.tree.now c.args.handle c.in-Some-next.part 4294967296 nodes_text c.args.writer.now c.loop-next.writer part refl (rw c.in-Some-next.is at c.loop-next.invariant) over)) c.in_err-put_value-in-None.ensures)
+    rw (p.1, p.2, structure_at c.args.tree.now c.args.handle (sym c.in-None.ensures.value)) (part_fault c.in_err-put_value-in-None.field-0.0 part _ (λ over. around_over (constructed 2) parts (written_over c.args.tree.now c.args.handle c.in-Some-next.part 4294967296 nodes_text c.args.writer.now c.loop-next.writer part refl (rw c.in-Some-next.is at c.loop-next.invariant) over)) c.in_err-put_value-in-None.ensures)

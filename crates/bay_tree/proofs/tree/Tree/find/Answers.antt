@@ -1,5 +1,6 @@
 use Rattle.std.proofs.Common.{◌≡◌, Some, None, sym, refl}
 use Rattle.bay_tree.specs.Rows.{place_of}
+use Rattle.bay_tree.proofs.NamedLemmas.{found-leaf}
 use Rattle.bay_tree.proofs.SearchLemmas.{place_of-found, place_of-none, place_of-some}
 use Rattle.bay_tree.proofs.tree.Tree.find.Goals as goal
 
@@ -7,6 +8,11 @@ pub returns-in-Some-clause-found : goal.returns-in-Some-clause-found
 returns-in-Some-clause-found c =
     let place : place_of c.args.self.now c.args.name.now ≡ Some c.in-Some.index = rw (← c.self.view_is, ← c.as_slice.ensures.value) (sym c.in-Some.ensures.place) in
     place_of-found c.args.self.now c.args.name.now c.in-Some.index place
+
+pub returns-in-Some-clause-value : goal.returns-in-Some-clause-value
+returns-in-Some-clause-value c =
+    let place : place_of c.args.self.now c.args.name.now ≡ Some c.in-Some.index = rw (← c.self.view_is, ← c.as_slice.ensures.value) (sym c.in-Some.ensures.place) in
+    found-leaf c.args.name.now c.args.self.now c.in-Some.index place
 
 pub returns-in-Some-clause-unknown : goal.returns-in-Some-clause-unknown
 returns-in-Some-clause-unknown c =

@@ -1,0 +1,101 @@
+-- What load makes of a bay and a checked program.
+use Rattle.std.proofs.Common.{◌≡◌, ℕ, zero, suc, ◌+◌, ◌<◌, Bool, List, [], ◌∷◌, ◌++◌, length, get_or, slice_get, Option, Some, refl, ap, sym, ◌∙◌, arith}
+use Rattle.std.proofs.lemmas.Option.{slice_get_within}
+use Rattle.bay_tree.specs.declared.row.Row.{Row}
+use Rattle.bay_config.specs.declared.bay.Bay.{Bay}
+use Rattle.bay_config.specs.declared.bay.Switch.{Switch}
+use Rattle.il_check.specs.Slots.{items_named}
+use Rattle.il_check.specs.WellTyped.{Checked}
+use Rattle.bay_device.specs.Bound.{IsProgram, bound_from}
+use Rattle.bay_device.specs.Load.{initial_device}
+use Rattle.bay_device.specs.Layout.{Layout, switches_of, AreBound}
+use Rattle.bay_device.specs.Names.{switch_names, names_by_nodes, node_of}
+use Rattle.bay_device.specs.Nodes.{AreAllNodes, AreAllRows}
+use Rattle.bay_device.specs.Slots.{outputs_at, variables_of, declared_of}
+use Rattle.bay_device.specs.declared.nodes.Nodes.{Nodes}
+use Rattle.bay_device.specs.declared.program.BoundProgram.{BoundProgram}
+use Rattle.bay_config.specs.declared.bay.Origin.{Origin}
+use Rattle.bay_device.specs.declared.rows.SwitchRows.{SwitchRows}
+use Rattle.bay_device.specs.declared.switch.BoundSwitch.{BoundSwitch}
+use Rattle.bay_device.proofs.ListLemmas.{get-within}
+
+-- one switch more
+pub bound-snoc : (slots : List (Option Origin)) (k : ℕ) (switches : List Switch) (rows : List SwitchRows) (s : Switch) (r : SwitchRows) (n : ℕ) → n ≡ length switches → n < length rows → r ≡ get_or rows n r
+    → bound_from slots k (switches ++ s ∷ []) rows ≡ bound_from slots k switches rows ++ record { switch = s; rows = r; outputs = outputs_at slots (k + n) } ∷ []
+bound-snoc slots k [] [] s r n e lt is = absurd (omega arith)
+bound-snoc slots k [] (q ∷ rows) s r n e lt is =
+    let first : r ≡ q = rw e at is in
+    let none : k + n ≡ k = omega arith in
+    rw (first, none) refl
+bound-snoc slots k (t ∷ switches) [] s r n e lt is = absurd (omega arith)
+bound-snoc slots k (t ∷ switches) (q ∷ rows) s r zero e lt is = absurd (omega arith)
+bound-snoc slots k (t ∷ switches) (q ∷ rows) s r (suc n) e lt is =
+    let more : k + 1 + n ≡ k + suc n = omega arith in
+    let one : BoundSwitch = record { switch = t; rows = q; outputs = outputs_at slots k } in
+    ap (λ (bs : List BoundSwitch). one ∷ bs) (bound-snoc slots (k + 1) switches rows s r n (omega arith) (omega arith) is
+    ∙ ap (λ m. bound_from slots (k + 1) switches rows ++ record { switch = s; rows = r; outputs = outputs_at slots m } ∷ []) more)
+
+-- the switches are the bay's, and each stands with its rows and its slots
+pub bound-switches : (slots : List (Option Origin)) (k : ℕ) (switches : List Switch) (rows : List SwitchRows) → length switches ≡ length rows → switches_of (bound_from slots k switches rows) ≡ switches
+bound-switches slots k [] rows same = refl
+bound-switches slots k (s ∷ switches) [] same = absurd (omega arith)
+bound-switches slots k (s ∷ switches) (r ∷ rows) same = ap (λ ss. s ∷ ss) (bound-switches slots (k + 1) switches rows (omega arith))
+
+pub record Stands (slots : List (Option Origin)) (k : ℕ) (switches : List Switch) (rows : List SwitchRows) (j : ℕ) (b : BoundSwitch) : Type 0 where
+  pub switch_is : slice_get switches j ≡ Some b.switch
+  pub rows_are : slice_get rows j ≡ Some b.rows
+  pub outputs_are : b.outputs ≡ outputs_at slots (k + j)
+
+bound-stands : (slots : List (Option Origin)) (k : ℕ) (switches : List Switch) (rows : List SwitchRows) (j : ℕ) (b : BoundSwitch) → slice_get (bound_from slots k switches rows) j ≡ Some b → Stands slots k switches rows j b
+bound-stands slots k [] rows j b h = absurd cc
+bound-stands slots k (s ∷ switches) [] j b h = absurd cc
+bound-stands slots k (s ∷ switches) (r ∷ rows) zero b h =
+    let none : k ≡ k + 0 = omega arith in
+    let one : BoundSwitch = record { switch = s; rows = r; outputs = outputs_at slots k } in
+    let is : one ≡ b = cc in
+    record {
+      switch_is = ap (λ (x : BoundSwitch). Some x.switch) is;
+      rows_are = ap (λ (x : BoundSwitch). Some x.rows) is;
+      outputs_are = sym (ap (λ (x : BoundSwitch). x.outputs) is) ∙ ap (outputs_at slots) none;
+    }
+bound-stands slots k (s ∷ switches) (r ∷ rows) (suc j) b h =
+    let w = bound-stands slots (k + 1) switches rows j b h in
+    let more : k + 1 + j ≡ k + suc j = omega arith in
+    record { switch_is = w.switch_is; rows_are = w.rows_are; outputs_are = w.outputs_are ∙ ap (outputs_at slots) more }
+
+pub are-bound : (bay : Bay) (nodes : List Nodes) (layout : Layout) (slots : List (Option Origin)) (rows : List SwitchRows) → AreAllNodes bay nodes → AreAllRows layout nodes rows → length nodes ≡ length bay.switches → length rows ≡ length nodes
+    → AreBound layout slots (bound_from slots 0 bay.switches rows)
+are-bound bay nodes layout slots rows named placed same long k b h =
+    let w = bound-stands slots 0 bay.switches rows k b h in
+    let lt : k < length bay.switches = slice_get_within bay.switches k b.switch w.switch_is in
+    let n = get-within nodes k (omega arith) in
+    let own = named k n.0 n.1 in
+    let p = own.position_named in
+    let there : Some p.switch ≡ Some b.switch = sym p.here ∙ w.switch_is in
+    let is : p.switch ≡ b.switch = cc in
+    let node : n.0.position ≡ node_of bay.switches k b.switch = p.named ∙ ap (node_of bay.switches k) is in
+    let all : switches_of (bound_from slots 0 bay.switches rows) ≡ bay.switches = bound-switches slots 0 bay.switches rows (omega arith) in
+    let none : 0 + k ≡ k = omega arith in
+    let r = placed k n.0 b.rows n.1 w.rows_are in
+    record {
+      named =
+          r.named ∙ ap (λ m. names_by_nodes m n.0.interlocking) node ∙ ap (names_by_nodes (node_of bay.switches k b.switch)) own.interlocking_named.named
+          ∙ ap (λ ss. switch_names ss k b.switch) (sym all);
+      kinded = r.kinded;
+      outputs = w.outputs_are ∙ ap (outputs_at slots) none;
+    }
+
+-- a device before its first event
+pub loaded-view : (bay : Bay) (checked : Checked) (program : BoundProgram) (values : List Bool) (rows : List Row) (switches : List Switch) → IsProgram checked program values → rows ≡ bay.rows → switches ≡ bay.switches
+    → record (initial_device bay checked) { switches = switches; declared = declared_of program.names program.slots; items = items_named program.names program.instructions; rows = rows; variables = variables_of program.names values } ≡ initial_device bay checked
+loaded-view bay checked program values rows switches b r w =
+    let s = initial_device bay checked in
+    let declared : declared_of program.names program.slots ≡ declared_of checked.names checked.origins =
+    ap (λ names. declared_of names program.slots) b.names ∙ ap (declared_of checked.names) b.slots in
+    let variables : variables_of program.names values ≡ variables_of checked.names checked.initial =
+    ap (λ names. variables_of names values) b.names ∙ ap (variables_of checked.names) b.initial in
+    ap (λ ds. record s { switches = switches; declared = ds; items = items_named program.names program.instructions; rows = rows; variables = variables_of program.names values }) declared
+    ∙ ap (λ is. record s { switches = switches; items = is; rows = rows; variables = variables_of program.names values }) b.items
+    ∙ ap (λ rs. record s { switches = switches; rows = rs; variables = variables_of program.names values }) r
+    ∙ ap (λ vs. record s { switches = switches; variables = vs }) variables
+    ∙ ap (λ ss. record s { switches = ss }) w

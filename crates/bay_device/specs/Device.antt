@@ -1,0 +1,243 @@
+-- What a device is, and what one event makes of it (IEC 61850-7-4: XCBR, XSWI and CILO; IEC 61850-7-3: status values).
+use Rattle.std.specs.Prelude.{ℕ, ◌+◌, Bool, true, false, not, ◌&&◌, ◌||◌, cond, nat_lt, ◌==◌, pos, ◌+ℤ◌, int_lt, List, [], ◌∷◌, slice_get, Option, None, Some, Result, Ok, Err}
+use Rattle.bay_tree.specs.Rows.{leaf_of, with_leaf_of}
+use Rattle.bay_tree.specs.declared.row.Row.{Row}
+use Rattle.bay_tree.specs.declared.leaf.Leaf.{Leaf}
+use Rattle.bay_tree.specs.declared.leaf.Leaf.TheVariants as leaf
+use Rattle.bay_tree.specs.declared.leaf.Dbpos.{Dbpos}
+use Rattle.bay_tree.specs.declared.leaf.Dbpos.TheVariants.{Intermediate, Off, On, Bad}
+use Rattle.bay_tree.specs.declared.leaf.Quality.{Quality}
+use Rattle.bay_tree.specs.declared.leaf.Quality.TheVariants.{Good, Invalid}
+use Rattle.bay_config.specs.declared.bay.Switch.{Switch}
+use Rattle.bay_config.specs.declared.bay.Origin.{Origin}
+use Rattle.bay_config.specs.declared.bay.Origin.TheVariants as origin
+use Rattle.bay_config.specs.declared.bay.SwitchPoint.{SwitchPoint}
+use Rattle.bay_config.specs.declared.bay.SwitchPoint.TheVariants.{Position, Open, Closed, EnableOpen, EnableClose}
+use Rattle.bay_device.specs.Names.{StatusNames, SwitchNames, switch_names}
+use Rattle.il_text.specs.Listing.{Entry}
+use Rattle.il_text.specs.Meaning.{Value, truth, Variables, mean}
+use Rattle.bay_device.specs.declared.event.Event.{Event}
+use Rattle.bay_device.specs.declared.event.Event.TheVariants.{Contact, Scan}
+use Rattle.bay_device.specs.declared.event.Step.{Step}
+use Rattle.bay_device.specs.declared.fault.StepFault.{StepFault}
+use Rattle.bay_device.specs.declared.fault.StepFault.TheVariants.{MomentTooLarge, TimeWentBack, NoSuchPoint}
+
+-- a variable of the program: its name in upper case, and what it stands for in the bay, if it is external
+pub record Variable : Type 0 where
+  pub name : List ℕ
+  pub origin : Option Origin
+
+-- a device: what its bay file says of the bay, its switches, its program, the rows of its tree, the values
+-- of its variables in the order of their declarations, the moment of the last accepted event, and the last scan
+pub record State : Type 0 where
+  pub domain : List ℕ
+  pub vendor : List ℕ
+  pub model : List ℕ
+  pub revision : List ℕ
+  pub scan_max_age_ms : ℕ
+  pub switches : List Switch
+  pub declared : List Variable
+  pub items : List Entry
+  pub rows : List Row
+  pub variables : Variables
+  pub moment : ℕ
+  pub last_scan : Option ℕ
+  pub is_stale : Bool
+
+-- a status value, its quality and its moment
+abbrev pub with_status : StatusNames → Leaf → Quality → ℕ → List Row → List Row
+with_status names value quality now rows =
+    with_leaf_of names.time (leaf.Utc now) (with_leaf_of names.quality (leaf.Quality quality) (with_leaf_of names.value value rows))
+
+abbrev pub position_quality : Dbpos → Quality
+position_quality Bad = Invalid
+position_quality Intermediate = Good
+position_quality Off = Good
+position_quality On = Good
+
+abbrev pub is_end_position : Dbpos → Bool
+is_end_position Off = true
+is_end_position On = true
+is_end_position Intermediate = false
+is_end_position Bad = false
+
+-- two positions are one
+abbrev pub same_position : Dbpos → Dbpos → Bool
+same_position Intermediate Intermediate = true
+same_position Off Off = true
+same_position On On = true
+same_position Bad Bad = true
+same_position p q = false
+
+abbrev pub same_quality : Quality → Quality → Bool
+same_quality Good Good = true
+same_quality Invalid Invalid = true
+same_quality p q = false
+
+abbrev pub is_position : Dbpos → Option Leaf → Bool
+is_position p (Some (leaf.Dbpos q)) = same_position p q
+is_position p other = false
+
+abbrev pub is_quality : Quality → Option Leaf → Bool
+is_quality q (Some (leaf.Quality r)) = same_quality q r
+is_quality q other = false
+
+abbrev pub is_truth : Bool → Option Leaf → Bool
+is_truth b (Some (leaf.Truth c)) = cond b c (not c)
+is_truth b other = false
+
+-- one operation more, up to the greatest value
+abbrev pub counted : StatusNames → Option Leaf → ℕ → List Row → List Row
+counted names (Some (leaf.Int32 n)) now rows =
+    cond (int_lt n (pos 2147483647)) (with_leaf_of names.time (leaf.Utc now) (with_leaf_of names.value (leaf.Int32 (n +ℤ pos 1)) rows)) rows
+counted names other now rows = rows
+
+-- a contact counts where it moves the switch to an end position
+abbrev pub is_operation : Dbpos → Option Leaf → Bool
+is_operation position before = is_end_position position && not (is_position position before)
+
+-- the count of a switch's operations with one more
+abbrev pub operation_counted : StatusNames → ℕ → List Row → List Row
+operation_counted names now rows = counted names (leaf_of names.value rows) now rows
+
+-- the rows tell this position already
+abbrev pub tells : StatusNames → Dbpos → List Row → Bool
+tells names position rows =
+    is_position position (leaf_of names.value rows) && is_quality (position_quality position) (leaf_of names.quality rows)
+
+-- the rows after a contact that changes the value or the quality of a position
+abbrev pub rows_after_change : SwitchNames → Dbpos → ℕ → List Row → List Row
+rows_after_change names position now rows =
+    let after = with_status names.position (leaf.Dbpos position) (position_quality position) now rows in
+    cond (is_operation position (leaf_of names.position.value rows)) (operation_counted names.operations now after) after
+
+-- the rows after a contact: one that leaves value and quality as they are changes nothing
+abbrev pub rows_after_contact : SwitchNames → Dbpos → ℕ → List Row → List Row
+rows_after_contact names position now rows = cond (tells names.position position rows) rows (rows_after_change names position now rows)
+
+-- a contact of a switch; one that changes value or quality makes the last scan stale
+abbrev pub contact_taken : ℕ → ℕ → Switch → Dbpos → State → State
+contact_taken now k switch position s =
+    let names = switch_names s.switches k switch in
+    record s {
+      moment = now;
+      rows = rows_after_contact names position now s.rows;
+      is_stale = s.is_stale || not (tells names.position position s.rows);
+    }
+
+-- what the points that are read say of a position
+abbrev pub input_of : SwitchPoint → Option Leaf → Option Bool
+input_of Open position = Some (is_position Off position)
+input_of Closed position = Some (is_position On position)
+input_of Position position = None
+input_of EnableOpen position = None
+input_of EnableClose position = None
+
+abbrev pub input_of_switch : List Switch → List Row → ℕ → SwitchPoint → Option Switch → Option Bool
+input_of_switch switches rows k point None = None
+input_of_switch switches rows k point (Some switch) = input_of point (leaf_of (switch_names switches k switch).position.value rows)
+
+-- the value that the contacts give a variable
+abbrev pub input_value : List Switch → List Row → Option Origin → Option Bool
+input_value switches rows None = None
+input_value switches rows (Some (origin.Switch k point)) = input_of_switch switches rows k point (slice_get switches k)
+
+abbrev pub or_else : Option Bool → Value → Value
+or_else None v = v
+or_else (Some b) v = truth b
+
+-- the points that are read take their values from the positions
+abbrev pub with_inputs : List Switch → List Row → List Variable → Variables → Variables
+with_inputs switches rows [] vs = vs
+with_inputs switches rows (d ∷ ds) [] = []
+with_inputs switches rows (d ∷ ds) (v ∷ vs) = (v.0, or_else (input_value switches rows d.origin) v.1) ∷ with_inputs switches rows ds vs
+
+abbrev pub same_point : SwitchPoint → SwitchPoint → Bool
+same_point Position Position = true
+same_point Open Open = true
+same_point Closed Closed = true
+same_point EnableOpen EnableOpen = true
+same_point EnableClose EnableClose = true
+same_point p q = false
+
+-- a variable stands for this point of the switch at a place
+abbrev pub is_point : ℕ → SwitchPoint → Option Origin → Bool
+is_point k point None = false
+is_point k point (Some (origin.Switch j which)) = j == k && same_point which point
+
+abbrev pub is_true : Value → Bool
+is_true (truth b) = b
+
+-- what the program gave a point of the switch at a place; FALSE where it does not name it
+abbrev pub output_of : ℕ → SwitchPoint → List Variable → Variables → Bool
+output_of k point [] vs = false
+output_of k point (d ∷ ds) [] = false
+output_of k point (d ∷ ds) (v ∷ vs) = cond (is_point k point d.origin) (is_true v.1) (output_of k point ds vs)
+
+-- an interlocking value and its quality, with the moment where one of them changed
+abbrev pub with_enabled : StatusNames → Bool → ℕ → List Row → List Row
+with_enabled names value now rows =
+    cond (is_truth value (leaf_of names.value rows) && is_quality Good (leaf_of names.quality rows)) rows
+    (with_status names (leaf.Truth value) Good now rows)
+
+-- both interlocking values of a switch: whether it may be opened, and closed
+abbrev pub with_output : SwitchNames → Bool → Bool → ℕ → List Row → List Row
+with_output names opens closes now rows = with_enabled names.ena_cls closes now (with_enabled names.ena_opn opens now rows)
+
+-- the interlocking values of all switches take their points' values, from place k on
+abbrev pub with_outputs : List Switch → List Variable → Variables → ℕ → ℕ → List Switch → List Row → List Row
+with_outputs switches declared variables now k [] rows = rows
+with_outputs switches declared variables now k (s ∷ ss) rows =
+    with_outputs switches declared variables now (k + 1) ss
+    (with_output (switch_names switches k s) (output_of k EnableOpen declared variables) (output_of k EnableClose declared variables) now rows)
+
+-- the points are read, the program runs once, and the interlocking values take their points' values
+abbrev pub scanned : ℕ → State → State
+scanned now s =
+    let variables = (mean s.items None (with_inputs s.switches s.rows s.declared s.variables)).variables in
+    record s {
+      rows = with_outputs s.switches s.declared variables now 0 s.switches s.rows;
+      variables = variables;
+      moment = now;
+      last_scan = Some now;
+      is_stale = false;
+    }
+
+-- the last moment that a time stamp can tell
+abbrev pub last_moment : ℕ
+last_moment = 4294967295999
+
+-- what an event does: its answer, and the device after it
+pub record Outcome : Type 0 where
+  pub answer : Result Step StepFault
+  pub after : State
+
+-- a refused event changes nothing
+abbrev pub refused : StepFault → State → Outcome
+refused fault s = record { answer = Err fault; after = s }
+
+abbrev pub contact_outcome : ℕ → ℕ → Dbpos → State → Option Switch → Outcome
+contact_outcome now k position s None = refused NoSuchPoint s
+contact_outcome now k position s (Some switch) = record { answer = Ok (record { scanned = false }); after = contact_taken now k switch position s }
+
+-- of an event that its moment does not refuse
+abbrev pub event_outcome : ℕ → Event → State → Outcome
+event_outcome now (Contact k position) s = contact_outcome now k position s (slice_get s.switches k)
+event_outcome now Scan s = record { answer = Ok (record { scanned = true }); after = scanned now s }
+
+-- of an event at a moment, which is neither too large nor before the last event's
+abbrev pub outcome : ℕ → Event → State → Outcome
+outcome now event s =
+    cond (nat_lt last_moment now) (refused MomentTooLarge s) (cond (nat_lt now s.moment) (refused TimeWentBack s) (event_outcome now event s))
+
+-- what a list of events does, one after the other: their answers, and the device after them
+pub record Outcomes : Type 0 where
+  pub answers : List (Result Step StepFault)
+  pub after : State
+
+abbrev pub outcomes : List (ℕ × Event) → State → Outcomes
+outcomes [] s = record { answers = []; after = s }
+outcomes (e ∷ es) s =
+    let first = outcome e.0 e.1 s in
+    let rest = outcomes es first.after in
+    record { answers = first.answer ∷ rest.answers; after = rest.after }

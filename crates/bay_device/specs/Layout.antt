@@ -1,0 +1,70 @@
+-- Where the values of switches stand in a tree: the names and the kinds of the rows at their handles.
+use Rattle.std.specs.Prelude.{◌≡◌, ℕ, List, [], map, Option, Some, None, All, slice_get, slice_index_or}
+use Rattle.bay_tree.specs.Rows.{names_of, kinds_of}
+use Rattle.bay_tree.specs.declared.row.Row.{Row}
+use Rattle.bay_tree.specs.declared.leaf.Kind.{Kind}
+use Rattle.bay_tree.specs.declared.leaf.Kind.TheVariants as kind
+use Rattle.bay_config.specs.declared.bay.Switch.{Switch}
+use Rattle.bay_device.specs.Names.{StatusNames, SwitchNames, switch_names}
+use Rattle.bay_device.specs.Slots.{outputs_at}
+use Rattle.bay_config.specs.declared.bay.Origin.{Origin}
+use Rattle.bay_device.specs.declared.rows.StatusRows.{StatusRows}
+use Rattle.bay_device.specs.declared.rows.SwitchRows.{SwitchRows}
+use Rattle.bay_device.specs.declared.switch.BoundSwitch.{BoundSwitch}
+
+-- the names and the kinds of a tree's rows, which no new value changes
+pub record Layout : Type 0 where
+  pub names : List (List ℕ)
+  pub kinds : List (Option Kind)
+
+abbrev pub layout_of : List Row → Layout
+layout_of rows = record { names = names_of rows; kinds = kinds_of rows }
+
+-- the name of the row at a handle
+abbrev pub name_in : Layout → ℕ → List ℕ
+name_in layout handle = slice_index_or layout.names handle []
+
+abbrev pub status_in : Layout → StatusRows → StatusNames
+status_in layout rows = record { value = name_in layout rows.value; quality = name_in layout rows.quality; time = name_in layout rows.time }
+
+abbrev pub switch_in : Layout → SwitchRows → SwitchNames
+switch_in layout rows = record {
+  position = status_in layout rows.position;
+  operations = status_in layout rows.operations;
+  ena_opn = status_in layout rows.ena_opn;
+  ena_cls = status_in layout rows.ena_cls;
+}
+
+-- a value of this kind stands at the handle
+abbrev pub HasKind : Layout → ℕ → Kind → Type 0
+HasKind layout handle kind = slice_index_or layout.kinds handle None ≡ Some kind
+
+-- a value of this kind, with its quality and its moment
+pub record AreStatusRows (layout : Layout) (value : Kind) (rows : StatusRows) : Type 0 where
+  pub value_kind : HasKind layout rows.value value
+  pub quality_kind : HasKind layout rows.quality kind.Quality
+  pub time_kind : HasKind layout rows.time kind.Utc
+
+-- a switch's position, how often it moved, and its two interlocking values
+pub record AreSwitchRows (layout : Layout) (rows : SwitchRows) : Type 0 where
+  pub position : AreStatusRows layout kind.Dbpos rows.position
+  pub operations : AreStatusRows layout kind.Int32 rows.operations
+  pub ena_opn : AreStatusRows layout kind.Truth rows.ena_opn
+  pub ena_cls : AreStatusRows layout kind.Truth rows.ena_cls
+
+-- those of each switch
+abbrev pub AreKinded : Layout → List BoundSwitch → Type 0
+AreKinded layout bound = All (λ b. AreSwitchRows layout b.rows) bound
+
+-- the bay's switches, in their order
+abbrev pub switches_of : List BoundSwitch → List Switch
+switches_of bound = map (λ b. b.switch) bound
+
+-- the handles of the switch at a place have its names, and its slots are those of its points
+pub record IsBound (layout : Layout) (slots : List (Option Origin)) (switches : List Switch) (k : ℕ) (bound : BoundSwitch) : Type 0 where
+  pub named : switch_in layout bound.rows ≡ switch_names switches k bound.switch
+  pub kinded : AreSwitchRows layout bound.rows
+  pub outputs : bound.outputs ≡ outputs_at slots k
+
+abbrev pub AreBound : Layout → List (Option Origin) → List BoundSwitch → Type 0
+AreBound layout slots bound = (k : ℕ) (b : BoundSwitch) → slice_get bound k ≡ Some b → IsBound layout slots (switches_of bound) k b

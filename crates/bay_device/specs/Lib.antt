@@ -1,0 +1,12 @@
+pub mod Bound
+pub mod Code
+pub mod Device
+pub mod Entries
+pub mod Layout
+pub mod Load
+pub mod LookUps
+pub mod Names
+pub mod Nodes
+pub mod Scans
+pub mod Slots
+pub mod StateView

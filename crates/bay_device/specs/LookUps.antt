@@ -1,0 +1,25 @@
+-- What the look-ups of a device answer.
+use Rattle.std.specs.Prelude.{ℕ, Bool, true, cond, nat_lt, List, length, position, Option, None, Some, codes}
+use Rattle.bay_tree.specs.Rows.{leaf_of}
+use Rattle.bay_base.specs.Names.{same_name}
+use Rattle.bay_device.specs.Device.{State, is_truth}
+use Rattle.bay_device.specs.Names.{status_names, interlocking_of}
+
+-- the place of the switch with an id, whatever the case of its letters
+abbrev pub switch_place : State → List ℕ → Option ℕ
+switch_place s id = position (λ switch. same_name switch.id id) s.switches
+
+-- an interlocking value of the switch at a place
+abbrev pub enabled : State → ℕ → List ℕ → Bool
+enabled s k object = is_truth true (leaf_of (status_names (interlocking_of k) object).value s.rows)
+
+-- whether the switch at a place may be opened, and closed
+abbrev pub may_open : State → ℕ → Bool
+may_open s k = enabled s k (codes "$ST$EnaOpn")
+
+abbrev pub may_close : State → ℕ → Bool
+may_close s k = enabled s k (codes "$ST$EnaCls")
+
+-- both of them, of a switch that is there
+abbrev pub enabled_of : State → ℕ → Option (Bool × Bool)
+enabled_of s k = cond (nat_lt k (length s.switches)) (Some (may_open s k, may_close s k)) None

@@ -1,0 +1,103 @@
+// The device that is handed out: one bay, stepped by events.
+ghost use Rattle.std.specs.Prelude.{◌≡◌, length, slice_get, option_map, IfOk, OnOk, OnErr};
+ghost use Rattle.bay_device.specs.Device.{outcome, outcomes};
+ghost use Rattle.bay_device.specs.LookUps.{switch_place, enabled_of};
+ghost use Rattle.bay_device.specs.StateView.{state_view};
+
+use crate::event::{Event, Step};
+use crate::fault::StepFault;
+use crate::state::DeviceState;
+use bay_tree::tree::Tree;
+use std::alloc::{AllocError, Global};
+use std::marker::Model;
+
+/// A device, which contracts see as its state: what the bay file says, the rows of its tree, its program with
+/// the values of the variables, and the moments of the last event and the last scan.
+#[derive(Drop)]
+pub struct Device {
+    alloc: Global,
+    state: DeviceState,
+}
+
+impl Model for Device {
+    ghost use Rattle.bay_device.specs.Device.{State};
+    ghost use Rattle.bay_device.specs.Entries.{entry_code};
+    ghost use Rattle.bay_device.specs.StateView.{state_view};
+    ghost use Rattle.std.specs.Coded.{codes};
+
+    ghost Value = { State };
+
+    ghost coded = { Prim.hlevel (codes, entry_code (Prim.hlevel codes)) };
+
+    ghost view = { λ d. state_view d.state };
+}
+
+impl Device {
+    /// The device of a state.
+    pub(crate) fn of_state(alloc: Global, state: DeviceState) -> Self
+        ensures { result ≡ state_view state }
+    {
+        Device { alloc, state }
+    }
+
+    /// Does one event, at a moment in milliseconds since 1970. A refused event changes nothing.
+    pub fn step(&mut self, now: u64, event: Event) -> Result<Step, StepFault>
+        ensures answer { result ≡ (outcome now event self.old).answer }
+        ensures after { self.new ≡ (outcome now event self.old).after }
+    {
+        self.state.step(now, event)
+    }
+
+    /// Does a list of events, one after the other, and keeps each answer. Where there is no room for
+    /// the answers, no event is done.
+    pub fn run(
+        &mut self,
+        events: &[(u64, Event)],
+    ) -> Result<Vec<Result<Step, StepFault>>, AllocError>
+        ensures answers { IfOk result (λ answers. answers.items ≡ (outcomes events.now self.old).answers) }
+        ensures after { OnOk result (self.new ≡ (outcomes events.now self.old).after) }
+        ensures err { OnErr result (self.new ≡ self.old) }
+    {
+        let mut answers = Vec::with_capacity(self.alloc, events.len())?;
+        for (now, event) in events {
+            let answer = self.step(*now, *event);
+            answers.push(answer).unwrap();
+        }
+        Ok(answers)
+    }
+
+    /// How many switches the bay has.
+    pub fn switch_count(&self) -> usize
+        ensures { result ≡ length self.now.switches }
+    {
+        self.state.switches.as_slice().len()
+    }
+
+    /// The place of the switch with this id, whatever the case of its letters.
+    pub fn switch(&self, id: &str) -> Option<usize>
+        ensures { result ≡ switch_place self.now id.now }
+    {
+        self.state.switch(id)
+    }
+
+    /// The id of the switch at a place, as the bay file spells it.
+    pub fn id(&self, switch: usize) -> Option<&str>
+        ensures { option_map (λ id. id.now) result ≡ option_map (λ s. s.id) (slice_get self.now.switches switch) }
+    {
+        self.state.id(switch)
+    }
+
+    /// Whether the switch at a place may be opened, and whether it may be closed (IEC 61850-7-4, CILO).
+    pub fn ena(&self, switch: usize) -> Option<(bool, bool)>
+        ensures { result ≡ enabled_of self.now switch }
+    {
+        self.state.ena(switch)
+    }
+
+    /// The tree of the device's values, to read.
+    pub fn tree(&self) -> &Tree
+        ensures { result.now ≡ self.now.rows }
+    {
+        &self.state.tree
+    }
+}

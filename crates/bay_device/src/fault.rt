@@ -1,0 +1,104 @@
+// Why texts are not loaded, and why an event is refused.
+ghost use Rattle.std.specs.Prelude.{◌≡◌};
+ghost use Rattle.bay_device.specs.Code.{step_code_of};
+ghost use Rattle.bay_device.specs.Load.{bay_refusal, text_refusal, check_refusal};
+ghost use Rattle.bay_device.specs.declared.fault.LoadFault.TheVariants.{OutOfMemory};
+
+use bay_config::fault::BayFault;
+use il_check::fault::CheckFault;
+use il_text::fault::TextFault;
+use std::alloc::{AllocError, AllocFailed};
+use thiserror::Error;
+
+/// Why a bay and a program are not loaded.
+#[derive(Clone, Copy, Debug, PartialEq, Eq, Error)]
+pub enum LoadFault {
+    /// The number of the fault, and for a fault of the program (60 to 79) its line, counted from 1; else 0.
+    #[error("fault {code} at line {line}")]
+    Refused { code: u8, line: usize },
+    /// There is not enough memory.
+    #[error("out of memory")]
+    OutOfMemory,
+}
+
+impl From<BayFault> for LoadFault {
+    ghost from_gives = { λ fault e. e ≡ bay_refusal fault };
+
+    fn from(fault: BayFault) -> LoadFault {
+        match fault.code() {
+            Some(code) => LoadFault::Refused { code, line: 0 },
+            None => LoadFault::OutOfMemory,
+        }
+    }
+}
+
+impl From<TextFault> for LoadFault {
+    ghost from_gives = { λ fault e. e ≡ text_refusal fault };
+
+    fn from(fault: TextFault) -> LoadFault {
+        match fault.code() {
+            Some(code) => LoadFault::Refused {
+                code,
+                line: fault.line(),
+            },
+            None => LoadFault::OutOfMemory,
+        }
+    }
+}
+
+impl From<CheckFault> for LoadFault {
+    ghost from_gives = { λ fault e. e ≡ check_refusal fault };
+
+    fn from(fault: CheckFault) -> LoadFault {
+        match fault.code() {
+            Some(code) => LoadFault::Refused {
+                code,
+                line: fault.line(),
+            },
+            None => LoadFault::OutOfMemory,
+        }
+    }
+}
+
+impl From<AllocError> for LoadFault {
+    ghost from_gives = { λ _ e. e ≡ OutOfMemory };
+
+    fn from(_error: AllocError) -> LoadFault {
+        LoadFault::OutOfMemory
+    }
+}
+
+impl<T: Drop> From<AllocFailed<T>> for LoadFault {
+    ghost from_gives = { λ _ e. e ≡ OutOfMemory };
+
+    fn from(_error: AllocFailed<T>) -> LoadFault {
+        LoadFault::OutOfMemory
+    }
+}
+
+/// Why an event is refused. Nothing is changed.
+#[derive(Clone, Copy, Debug, PartialEq, Eq, Error)]
+pub enum StepFault {
+    /// The moment is past the last that a time stamp can tell.
+    #[error("the moment is too large")]
+    MomentTooLarge,
+    /// The moment is before the last event's.
+    #[error("the moment is before the last event's")]
+    TimeWentBack,
+    /// There is no such switch.
+    #[error("there is no such switch")]
+    NoSuchPoint,
+}
+
+impl StepFault {
+    /// The fault's number: 114 moment too large, 110 time went back, 113 no such point.
+    pub fn code(self) -> u8
+        ensures { result ≡ step_code_of self }
+    {
+        match self {
+            StepFault::MomentTooLarge => 114,
+            StepFault::TimeWentBack => 110,
+            StepFault::NoSuchPoint => 113,
+        }
+    }
+}

@@ -1,0 +1,26 @@
+// The device of one bay: the tree of its values and the program that interlocks it, stepped by events.
+//
+// What is handed out: `load` (a device from the texts of a bay file and a program), `device` (`step`, `run` and the
+// look-ups), `event` (what happens to a device, and what is answered), `fault` (why texts are not loaded, and why
+// an event is refused).
+//
+// Within: `bind` puts a checked program on its slots (`program`, with their `values`) and gives each `switch` of the
+// bay its `rows`, which `nodes` finds by their names. `state` is all that a step works on, and can take no memory:
+// `step` does an event, by `contact` or by `scan`, and `look_ups` answers what is asked.
+#![tactic(auto)]
+
+mod bind;
+mod contact;
+pub mod device;
+pub mod event;
+pub mod fault;
+pub mod load;
+mod look_ups;
+mod nodes;
+mod program;
+mod rows;
+mod scan;
+mod state;
+mod step;
+mod switch;
+mod values;

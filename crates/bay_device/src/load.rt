@@ -1,0 +1,95 @@
+// A device from the texts of a bay file and a program.
+ghost use Rattle.std.specs.Prelude.{◌≡◌, IfOk};
+ghost use Rattle.bay_base.specs.Exact.{Gives};
+ghost use Rattle.bay_config.specs.Bay.{bay_of};
+ghost use Rattle.bay_config.specs.Laws.{IsBay};
+ghost use Rattle.il_check.specs.TypedView.{typed_view};
+ghost use Rattle.il_check.specs.WellTyped.{checked_of};
+ghost use Rattle.il_text.specs.Reading.{program_of};
+ghost use Rattle.il_text.specs.Views.{plain_program};
+ghost use Rattle.bay_device.specs.StateView.{state_view};
+ghost use Rattle.bay_device.specs.Load.{initial_device, of_checked, of_program, of_bay};
+
+use crate::bind::{bind_program, bind_switches};
+use crate::device::Device;
+use crate::fault::LoadFault;
+use crate::nodes::{all_nodes, all_switch_rows};
+use crate::state::DeviceState;
+use bay_base::listing::Listing;
+use bay_config::bay::Bay;
+use bay_config::read::read_bay;
+use bay_tree::tree::Tree;
+use il_check::check::check;
+use il_check::typed::Typed;
+use il_text::program::Program;
+use il_text::read::read_program;
+use std::alloc::{AllocError, Global};
+
+/// The state of a device of a bay and a checked program, before its first event.
+fn state_of(alloc: Global, bay: Bay, typed: Typed) -> Result<DeviceState, AllocError>
+    requires { IsBay bay }
+    ensures { IfOk result (λ state. state_view state ≡ initial_device bay (typed_view typed)) }
+{
+    let nodes = all_nodes(alloc, &bay)?;
+    let (program, values) = bind_program(typed);
+    let Bay {
+        domain,
+        vendor,
+        model,
+        revision,
+        scan_max_age_ms,
+        rows,
+        switches,
+        ..
+    } = bay;
+    let tree = Tree::build(alloc, rows.into_vec())?;
+    let rows = all_switch_rows(alloc, &tree, nodes.as_slice())?;
+    let switches = bind_switches(
+        alloc,
+        switches.into_vec(),
+        rows.as_slice(),
+        program.slots.as_slice(),
+    )?;
+    Ok(DeviceState {
+        domain,
+        vendor,
+        model,
+        revision,
+        scan_max_age_ms,
+        tree,
+        switches: Listing::new(switches),
+        program,
+        values,
+        moment: 0,
+        last_scan: None,
+        is_stale: false,
+    })
+}
+
+/// The device of a bay and a program.
+fn load_program(alloc: Global, bay: Bay, program: &Program<'_>) -> Result<Device, LoadFault>
+    requires { IsBay bay }
+    ensures { Gives LoadFault.OutOfMemory (λ device. device) result (of_checked bay (checked_of bay.points (plain_program program.now))) }
+{
+    let typed = check(alloc, program, bay.points.as_slice())?;
+    let state = state_of(alloc, bay, typed)?;
+    Ok(Device::of_state(alloc, state))
+}
+
+/// The device of a bay and the text of a program.
+fn load_text(alloc: Global, bay: Bay, logic: &str) -> Result<Device, LoadFault>
+    requires { IsBay bay }
+    ensures { Gives LoadFault.OutOfMemory (λ device. device) result (of_program bay (program_of logic.now)) }
+{
+    let program = read_program(alloc, logic)?;
+    load_program(alloc, bay, &program)
+}
+
+/// The device of a bay file and a program, before its first event. A fault of the bay file (50 to 55) comes
+/// before one of the program's text (60 to 64), and that before one of its checks (70 to 79).
+pub fn load(alloc: Global, bay: &str, logic: &str) -> Result<Device, LoadFault>
+    ensures { Gives LoadFault.OutOfMemory (λ device. device) result (of_bay (bay_of bay.now) (program_of logic.now)) }
+{
+    let bay = read_bay(alloc, bay)?;
+    load_text(alloc, bay, logic)
+}

@@ -1,9 +1,0 @@
-use Rattle.std.proofs.Common.{◌≡◌, length}
-use Rattle.bay_main.specs.NodesOf.{AreAllNodes}
-use Rattle.bay_main.proofs.handles.all_nodes.Given as goal
-
-abbrev pub invariant-loop-place : goal.invariant-loop-place
-invariant-loop-place l = record {
-  sized : length l.all.items ≡ l.place;
-  named : AreAllNodes l.bay l.all.items;
-}

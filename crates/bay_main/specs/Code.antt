@@ -1,9 +1,0 @@
--- The number of each fault of an event.
-use Rattle.std.specs.Prelude.{ℕ}
-use Rattle.bay_main.specs.declared.fault.StepFault.{StepFault}
-use Rattle.bay_main.specs.declared.fault.StepFault.TheVariants.{MomentTooLarge, TimeWentBack, NoSuchPoint}
-
-abbrev pub step_code_of : StepFault → ℕ
-step_code_of MomentTooLarge = 114
-step_code_of TimeWentBack = 110
-step_code_of NoSuchPoint = 113

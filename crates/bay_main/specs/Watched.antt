@@ -1,0 +1,19 @@
+-- What is known of a reader and of a writer that are watched.
+use Rattle.std.specs.Prelude.{ℕ, Bool, true, ◌&&◌, ◌==◌, ◌||◌, nat_lt, List, length, Result, Ok, Err}
+
+-- a reader, how often it was read, and whether a read has failed
+pub record Reading (R : Type 0) : Type 0 where
+  pub inner : R
+  pub reads : ℕ
+  pub has_failed : Bool
+
+-- a writer, whether a write or a flush has failed, and whether it was flushed since its last write
+pub record Writing (W : Type 0) : Type 0 where
+  pub inner : W
+  pub has_failed : Bool
+  pub is_flushed : Bool
+
+-- a write fails, or takes nothing of what it is given
+abbrev pub write_fails : {E : Type 0} → List ℕ → Result ℕ E → Bool
+write_fails given (Ok n) = n == 0 && nat_lt 0 (length given)
+write_fails given (Err e) = true

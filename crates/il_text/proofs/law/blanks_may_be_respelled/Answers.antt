@@ -1,5 +1,0 @@
-use Rattle.il_text.proofs.RespellingLemmas.{respelled}
-use Rattle.il_text.proofs.law.blanks_may_be_respelled.Goals as goal
-
-pub returns : goal.returns
-returns c = respelled
