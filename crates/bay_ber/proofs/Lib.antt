@@ -4,4 +4,5 @@ pub mod ReadLemmas
 pub mod ShortestLemmas
 pub mod SizeLemmas
 pub mod TagLemmas
+pub mod ValueLemmas
 pub mod WriteLemmas

@@ -5,8 +5,8 @@ use Rattle.std.proofs.lemmas.Bool.{ltb-true, ltb-false, lt-ltb, le-ltb, eqb-true
 use Rattle.std.proofs.lemmas.List.{take_at, drop_at, take-append-drop, length-append, length-take, append_cancel_right}
 use Rattle.bay_ber.specs.declared.fault.BerFault.{BerFault}
 use Rattle.bay_ber.specs.declared.fault.BerFault.TheVariants.{Truncated, Indefinite, LengthTooLong, TagTooLarge, BadContent}
-use Rattle.bay_ber.specs.declared.tlv.Class.{Class}
-use Rattle.bay_ber.specs.declared.tlv.Tag.{Tag}
+use Rattle.bay_ber.specs.declared.tag.Class.{Class}
+use Rattle.bay_ber.specs.declared.tag.Tag.{Tag}
 use Rattle.bay_ber.specs.declared.tlv.Tlv.{Tlv}
 use Rattle.bay_ber.specs.Octets.{number_of}
 use Rattle.bay_ber.specs.Spelling.{identifier, IsTag, IsLength, Spells}
@@ -54,7 +54,7 @@ tag_of class constructed number = record { class = class; constructed = construc
 -- a tag at the front of octets
 pub record TagBegins (octets : List ℕ) (t : Tag) (rest : List ℕ) : Type 0 where
   pub tag : List ℕ
-  pub is_tag : IsTag tag t.class t.constructed t.number
+  pub is_tag : IsTag tag t
   pub parts : octets ≡ tag ++ rest
 
 second_takes : (first : ℕ) (octets : List ℕ) (x : Tag × List ℕ) → first < 256 → low_bits first ≡ 31 → second_at first octets ≡ Ok x → TagBegins (first ∷ octets) x.0 x.1
@@ -84,18 +84,18 @@ tag_takes (first ∷ octets) x fits e =
 tag_same : (first : ℕ) (class : Class) (constructed : Bool) (low number : ℕ) → low < 32 → first ≡ identifier class constructed low → tag_of (class_of first) (is_constructed first) number ≡ tag_of class constructed number
 tag_same first class constructed low number below is = rw (is, class_of-identifier class constructed low below, is_constructed-identifier class constructed low below) refl
 
-pub tag_again : (tag : List ℕ) (class : Class) (constructed : Bool) (number : ℕ) (rest : List ℕ) → IsTag tag class constructed number → tag_at (tag ++ rest) ≡ Ok (tag_of class constructed number, rest)
+pub tag_again : (tag : List ℕ) (t : Tag) (rest : List ℕ) → IsTag tag t → tag_at (tag ++ rest) ≡ Ok (t, rest)
 unfolding tag_at
-tag_again [] class constructed number rest is = absurd is
-tag_again (first ∷ []) class constructed number rest is =
-    let low : low_bits first ≡ number = rw is.1 (low_bits-identifier class constructed number (omega (arith, is.0))) in
+tag_again [] t rest is = absurd is
+tag_again (first ∷ []) t rest is =
+    let low : low_bits first ≡ t.number = rw is.1 (low_bits-identifier t.class t.constructed t.number (omega (arith, is.0))) in
     let test : eqb (low_bits first) 31 ≡ false = ne_eqb _ _ (λ e. omega (arith, is.0, low, e)) in
-    rw (test, low, tag_same first class constructed number number (omega (arith, is.0)) is.1) refl
-tag_again (first ∷ second ∷ []) class constructed number rest is =
-    let low : low_bits first ≡ 31 = rw is.0 (low_bits-identifier class constructed 31 (omega arith)) in
+    rw (test, low, tag_same first t.class t.constructed t.number t.number (omega (arith, is.0)) is.1) refl
+tag_again (first ∷ second ∷ []) t rest is =
+    let low : low_bits first ≡ 31 = rw is.0 (low_bits-identifier t.class t.constructed 31 (omega arith)) in
     let test : eqb (low_bits first) 31 ≡ true = eq-eqb _ _ low in
-    rw (test, lt-ltb second 128 is.1, is.2, tag_same first class constructed 31 second (omega arith) is.0) refl
-tag_again (first ∷ second ∷ third ∷ octets) class constructed number rest is = absurd is
+    rw (test, lt-ltb second 128 is.1, is.2, tag_same first t.class t.constructed 31 second (omega arith) is.0) refl
+tag_again (first ∷ second ∷ third ∷ octets) t rest is = absurd is
 
 -- ---- the length
 
@@ -149,7 +149,7 @@ length_again (first ∷ second ∷ octets) n rest is =
 -- ---- the value
 
 abbrev with_length : Tag → ℕ × List ℕ → Result Reading BerFault
-with_length tag n = cond (ltb (length n.1) n.0) (Err Truncated) (Ok (record { class = tag.class; constructed = tag.constructed; number = tag.number; content = take n.0 n.1; rest = drop n.0 n.1 }))
+with_length tag n = cond (ltb (length n.1) n.0) (Err Truncated) (Ok (record { tag = tag; content = take n.0 n.1; rest = drop n.0 n.1 }))
 
 abbrev with_tag : Tag × List ℕ → Result Reading BerFault
 with_tag tag = length_at tag.1 >>= with_length tag.0
@@ -168,14 +168,14 @@ tlv_takes octets r fits e =
     let behind = b.0.1 in
     let tag = tag_takes octets a.0 fits a.1 in
     let len = length_takes a.0.1 b.0 b.1 in
-    let made : Reading = record { class = t.class; constructed = t.constructed; number = t.number; content = take n behind; rest = drop n behind } in
+    let made : Reading = record { tag = t; content = take n behind; rest = drop n behind } in
     elim (chosen (ltb (length behind) n) (Err Truncated) (Ok made) (Ok r) b.2) [
       | inl short ↦ absurd (let e : Err Truncated ≡ Ok r = short.1 in cc)
       | inr here ↦
           let room : n ≤ length behind = ltb-false _ _ here.0 in
           let size : length (take n behind) ≡ n = omega (arith, length-take n behind) in
           let front : List ℕ = tag.tag ++ (len.len ++ take n behind) in
-          let spelled : Spells front t.class t.constructed t.number (take n behind) = record { tag = tag.tag; len = len.len; is_tag = tag.is_tag; is_length = subst (λ (k : ℕ). IsLength len.len k) (sym size) len.is_length; parts = refl } in
+          let spelled : Spells front t (take n behind) = record { front = tag.tag; len = len.len; is_tag = tag.is_tag; is_length = subst (λ (k : ℕ). IsLength len.len k) (sym size) len.is_length; parts = refl } in
           let cut : take n behind ++ drop n behind ≡ behind = take-append-drop n behind in
           let parts : octets ≡ front ++ drop n behind = regroup octets tag.tag a.0.1 len.len behind (take n behind) (drop n behind) tag.parts len.parts (sym cut) in
           subst (Begins octets) (ok_is made r here.1) (record { front = front; spelled = spelled; parts = parts })
@@ -185,9 +185,9 @@ pub tlv_again : (octets : List ℕ) (r : Reading) → Begins octets r → tlv_at
 unfolding tlv_at
 tlv_again octets r begins =
     let s = begins.spelled in
-    let parts : octets ≡ s.tag ++ (s.len ++ (r.content ++ r.rest)) = begins.parts ∙ ap (λ (xs : List ℕ). xs ++ r.rest) s.parts ∙ simp append_assoc in
+    let parts : octets ≡ s.front ++ (s.len ++ (r.content ++ r.rest)) = begins.parts ∙ ap (λ (xs : List ℕ). xs ++ r.rest) s.parts ∙ simp append_assoc in
     let room : ltb (length (r.content ++ r.rest)) (length r.content) ≡ false = le-ltb _ _ (omega (arith, length-append r.content r.rest)) in
-    rw (parts, tag_again s.tag r.class r.constructed r.number (s.len ++ (r.content ++ r.rest)) s.is_tag, length_again s.len (length r.content) (r.content ++ r.rest) s.is_length, room, take_at r.content r.rest (length r.content) refl, drop_at r.content r.rest (length r.content) refl) refl
+    rw (parts, tag_again s.front r.tag (s.len ++ (r.content ++ r.rest)) s.is_tag, length_again s.len (length r.content) (r.content ++ r.rest) s.is_length, room, take_at r.content r.rest (length r.content) refl, drop_at r.content r.rest (length r.content) refl) refl
 
 -- ---- the faults
 
@@ -248,9 +248,9 @@ length_fault (first ∷ octets) d e =
 behind_tag : (octets rest : List ℕ) (t : Tag) (d : BerFault) → TagBegins octets t rest → LengthFault d rest → FaultHolds d octets
 behind_tag octets rest t Truncated tag f = tt
 behind_tag octets rest t Indefinite tag f =
-    record { class = t.class; constructed = t.constructed; number = t.number; tag = tag.tag; rest = f.0; is_tag = tag.is_tag; parts = tag.parts ∙ ap (λ (xs : List ℕ). tag.tag ++ xs) f.1 }
+    record { tag = t; front = tag.tag; rest = f.0; is_tag = tag.is_tag; parts = tag.parts ∙ ap (λ (xs : List ℕ). tag.tag ++ xs) f.1 }
 behind_tag octets rest t LengthTooLong tag f =
-    (f.0, f.1, record { class = t.class; constructed = t.constructed; number = t.number; tag = tag.tag; rest = f.2.0; is_tag = tag.is_tag; parts = tag.parts ∙ ap (λ (xs : List ℕ). tag.tag ++ xs) f.2.1 })
+    (f.0, f.1, record { tag = t; front = tag.tag; rest = f.2.0; is_tag = tag.is_tag; parts = tag.parts ∙ ap (λ (xs : List ℕ). tag.tag ++ xs) f.2.1 })
 behind_tag octets rest t TagTooLarge tag f = absurd f
 behind_tag octets rest t BadContent tag f = absurd f
 
@@ -267,7 +267,7 @@ tlv_fault octets d fits e =
                 let n = b.0.0 in
                 let behind = b.0.1 in
                 let t = a.0.0 in
-                let made : Reading = record { class = t.class; constructed = t.constructed; number = t.number; content = take n behind; rest = drop n behind } in
+                let made : Reading = record { tag = t; content = take n behind; rest = drop n behind } in
                 elim (chosen (ltb (length behind) n) (Err Truncated) (Ok made) (Err d) b.2) [
                   | inl short ↦ subst (λ (x : BerFault). FaultHolds x octets) (err_is _ _ short.1) tt
                   | inr here ↦ absurd (not_err made d here.1)
@@ -283,7 +283,7 @@ large_tag_again (first ∷ second ∷ octets) h = rw (eq-eqb _ _ h.0, le-ltb sec
 
 length_octet_again : (octets : List ℕ) (octet : ℕ) (d : BerFault) → HasLengthOctet octets octet → ((rest : List ℕ) → length_at (octet ∷ rest) ≡ Err d) → tlv_at octets ≡ Err d
 unfolding tlv_at
-length_octet_again octets octet d h refused = rw (h.parts, tag_again h.tag h.class h.constructed h.number (octet ∷ h.rest) h.is_tag, refused h.rest) refl
+length_octet_again octets octet d h refused = rw (h.parts, tag_again h.front h.tag (octet ∷ h.rest) h.is_tag, refused h.rest) refl
 
 long_refused : (octet : ℕ) (rest : List ℕ) → 132 < octet → length_at (octet ∷ rest) ≡ Err LengthTooLong
 unfolding length_at
@@ -351,9 +351,9 @@ one_front octets r s a b =
     let same : r.rest ≡ s.rest = ap (λ (x : Reading). x.rest) (one_reading octets r s a b) in
     append_cancel_right a.front b.front s.rest (ap (λ (xs : List ℕ). a.front ++ xs) (sym same) ∙ sym a.parts ∙ b.parts)
 
-pub tag_some : (tag : List ℕ) (class : Class) (constructed : Bool) (number : ℕ) → IsTag tag class constructed number → 0 < length tag
-tag_some [] class constructed number is = absurd is
-tag_some (first ∷ octets) class constructed number is = omega arith
+pub tag_some : (tag : List ℕ) (t : Tag) → IsTag tag t → 0 < length tag
+tag_some [] t is = absurd is
+tag_some (first ∷ octets) t is = omega arith
 
 len_some : (len : List ℕ) (n : ℕ) → IsLength len n → 0 < length len
 len_some [] n is = absurd is
@@ -363,8 +363,8 @@ len_some (first ∷ octets) n is = omega arith
 begins_shorter : (octets : List ℕ) (r : Reading) → Begins octets r → length r.content + length r.rest + 2 ≤ length octets
 begins_shorter octets r begins =
     let s = begins.spelled in
-    let whole : length octets ≡ length s.tag + (length s.len + length r.content) + length r.rest = rw (begins.parts, s.parts) (simp length-append) in
-    omega (arith, tag_some s.tag r.class r.constructed r.number s.is_tag, len_some s.len (length r.content) s.is_length)
+    let whole : length octets ≡ length s.front + (length s.len + length r.content) + length r.rest = rw (begins.parts, s.parts) (simp length-append) in
+    omega (arith, tag_some s.front r.tag s.is_tag, len_some s.len (length r.content) s.is_length)
 
 pub is_shorter : (octets : List ℕ) (result : Result Tlv BerFault) → IsBytes octets → Gives reading_of result (tlv_at octets) → IfOk result (λ tlv. length tlv.content.now + length tlv.rest.now + 2 ≤ length octets)
 is_shorter octets (Ok tlv) fits given = begins_shorter octets (reading_of tlv) (tlv_takes octets (reading_of tlv) fits given)

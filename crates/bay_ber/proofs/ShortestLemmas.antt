@@ -6,9 +6,9 @@ use Rattle.std.proofs.lemmas.Int.{ints}
 use Rattle.std.proofs.lemmas.List.{length-append, get_or_append_left, get_or-append-add, get_or_past}
 use Rattle.std.proofs.lemmas.Nat.{mul-add-lt, mul-le}
 use Rattle.std.proofs.Math.Nat.{pow-suc}
-use Rattle.bay_ber.specs.declared.tlv.Class.{Class}
+use Rattle.bay_ber.specs.declared.tag.Tag.{Tag}
 use Rattle.bay_ber.specs.Octets.{number_of}
-use Rattle.bay_ber.specs.Spelling.{identifier, IsLength, Spells}
+use Rattle.bay_ber.specs.Spelling.{IsLength, Spells}
 use Rattle.bay_ber.specs.Content.{signed_of, IsInteger}
 use Rattle.bay_ber.specs.Writing.{octets_needed, length_octets, element, is_needless, without_needless, integer_octets}
 use Rattle.bay_ber.proofs.ContentLemmas.{signed_of-low, signed_of-high}
@@ -65,13 +65,13 @@ bytes_within front middle back fits i =
       | inr le ↦ rw (get_or_past middle i 0 le) (omega arith)
     ]
 
-pub element_shortest : (octets : List ℕ) (class : Class) (constructed : Bool) (number : ℕ) (content : List ℕ) → IsBytes octets → Spells octets class constructed number content → length (element (identifier class constructed number) content) ≤ length octets
+pub element_shortest : (octets content : List ℕ) (tag : Tag) → IsBytes octets → Spells octets tag content → length (element tag content) ≤ length octets
 unfolding element
-element_shortest octets class constructed number content fits s =
-    let fits_len = bytes_within s.tag s.len content (subst IsBytes s.parts fits) in
+element_shortest octets content tag fits s =
+    let fits_len = bytes_within s.front s.len content (subst IsBytes s.parts fits) in
     let short = length_shortest s.len (length content) fits_len s.is_length in
-    let some = tag_some s.tag class constructed number s.is_tag in
-    let whole : length octets ≡ length s.tag + (length s.len + length content) = rw s.parts (simp length-append) in
+    let some = tag_some s.front tag s.is_tag in
+    let whole : length octets ≡ length s.front + (length s.len + length content) = rw s.parts (simp length-append) in
     omega (arith, length-append (length_octets (length content)) content)
 
 -- ---- integers

@@ -1,9 +1,10 @@
 -- How long written values are.
-use Rattle.std.proofs.Common.{ℕ, ◌+◌, ◌*◌, ◌^◌, ◌<◌, ◌≤◌, ℤ, List, length, arith, inl, inr}
+use Rattle.std.proofs.Common.{◌≡◌, ℕ, ◌+◌, ◌*◌, ◌^◌, ◌<◌, ◌≤◌, ℤ, List, ◌++◌, length, arith, inl, inr}
 use Rattle.std.specs.Int.{w64, to_be_bytes, cast_unsigned}
-use Rattle.std.proofs.lemmas.Bool.{cases_lt}
+use Rattle.std.proofs.lemmas.Bool.{cases_lt, lt-ltb, le-ltb}
 use Rattle.std.proofs.lemmas.List.{length-append}
-use Rattle.bay_ber.specs.Writing.{octets_needed, length_octets, element, integer_octets, bit_octets}
+use Rattle.bay_ber.specs.declared.tag.Tag.{Tag}
+use Rattle.bay_ber.specs.Writing.{octets_needed, length_octets, element, element_length, integer_octets, bit_octets}
 use Rattle.bay_ber.proofs.ShortestLemmas.{length-short, length-long}
 use Rattle.bay_ber.proofs.WriteLemmas.{octets_needed-1, octets_needed-2, octets_needed-3, octets_needed-4, length-without_needless, bit_string_is}
 
@@ -21,9 +22,21 @@ length-length_octets : (n : ℕ) → length (length_octets n) ≤ 5
 length-length_octets n = elim (cases_lt n 128) [ inl small ↦ omega (arith, length-short n small) | inr ge ↦ omega (arith, length-long n ge, few_needed n) ]
 
 -- an identifier, at most five octets of length, and the content
-pub length-element : (identifier : ℕ) (content : List ℕ) → length (element identifier content) ≤ length content + 6
+pub length-element : (tag : Tag) (content : List ℕ) → length (element tag content) ≤ length content + 6
 unfolding element
-length-element identifier content = omega (arith, length-append (length_octets (length content)) content, length-length_octets (length content))
+length-element tag content = omega (arith, length-append (length_octets (length content)) content, length-length_octets (length content))
+
+-- a length has at most five octets
+pub length_few : (count : ℕ) (old new : List ℕ) → new ≡ old ++ length_octets count → length new ≤ length old + 5
+length_few count old new is = rw is (omega (arith, length-append old (length_octets count), length-length_octets count))
+
+pub length-element-is : (tag : Tag) (content : List ℕ) → length (element tag content) ≡ element_length (length content)
+unfolding element
+length-element-is tag content =
+    elim (cases_lt (length content) 128) [
+      | inl small ↦ rw (lt-ltb (length content) 128 small) (omega (arith, length-append (length_octets (length content)) content, length-short (length content) small))
+      | inr ge ↦ rw (le-ltb (length content) 128 ge) (omega (arith, length-append (length_octets (length content)) content, length-long (length content) ge))
+    ]
 
 pub length-integer_octets : (value : ℤ) → length (integer_octets value) ≤ 8
 length-integer_octets value = let size = length-without_needless (to_be_bytes w64 (cast_unsigned w64 value)) (omega arith) in size.1

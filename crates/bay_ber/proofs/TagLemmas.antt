@@ -2,8 +2,8 @@
 use Rattle.std.proofs.Common.{◌≡◌, ℕ, ◌+◌, ◌*◌, ◌/◌, ◌%◌, ◌<◌, ◌≤◌, Bool, true, false, cond, eqb, inl, inr, refl, ◌∙◌, ap, arith}
 use Rattle.std.proofs.lemmas.Bool.{cases_lt, lt-ltb, le-ltb}
 use Rattle.std.proofs.lemmas.Bool.Decides.{nat_tests}
-use Rattle.bay_ber.specs.declared.tlv.Class.{Class}
-use Rattle.bay_ber.specs.declared.tlv.Class.TheVariants.{Universal, Application, ContextSpecific, Private}
+use Rattle.bay_ber.specs.declared.tag.Class.{Class}
+use Rattle.bay_ber.specs.declared.tag.Class.TheVariants.{Universal, Application, ContextSpecific, Private}
 use Rattle.bay_ber.specs.Spelling.{class_bits, identifier}
 use Rattle.bay_ber.specs.Reading.{class_of, is_constructed, low_bits}
 

@@ -4,4 +4,5 @@ pub mod Growth
 pub mod Octets
 pub mod Reading
 pub mod Spelling
+pub mod Values
 pub mod Writing

@@ -2,28 +2,26 @@
 use Rattle.std.specs.Prelude.{ℕ, ◌≡◌, ◌-◌, ◌/◌, ◌%◌, ◌<◌, ◌≤◌, ◌==◌, Bool, List, [], ◌∷◌, ◌++◌, length, take, drop, Result, Ok, Err, nat_lt, if◌then◌else◌}
 use Rattle.bay_ber.specs.declared.fault.BerFault.{BerFault}
 use Rattle.bay_ber.specs.declared.fault.BerFault.TheVariants.{Truncated, Indefinite, LengthTooLong, TagTooLarge}
-use Rattle.bay_ber.specs.declared.tlv.Class.{Class}
-use Rattle.bay_ber.specs.declared.tlv.Class.TheVariants.{Universal, Application, ContextSpecific, Private}
+use Rattle.bay_ber.specs.declared.tag.Class.{Class}
+use Rattle.bay_ber.specs.declared.tag.Class.TheVariants.{Universal, Application, ContextSpecific, Private}
 use Rattle.bay_ber.specs.declared.tlv.Tlv.{Tlv}
-use Rattle.bay_ber.specs.declared.tlv.Tag.{Tag}
+use Rattle.bay_ber.specs.declared.tag.Tag.{Tag}
 use Rattle.bay_ber.specs.Octets.{number_of}
 use Rattle.bay_ber.specs.Spelling.{IsTag, Spells}
 
 -- a value that was read, and the octets behind it, without where they lie in memory
 pub record Reading : Type 0 where
-  pub class : Class
-  pub constructed : Bool
-  pub number : ℕ
+  pub tag : Tag
   pub content : List ℕ
   pub rest : List ℕ
 
 abbrev pub reading_of : Tlv → Reading
-reading_of t = record { class = t.class; constructed = t.constructed; number = t.number; content = t.content.now; rest = t.rest.now }
+reading_of t = record { tag = t.tag; content = t.content.now; rest = t.rest.now }
 
 -- A prefix of the octets is spelled so, and the rest follows it.
 pub record Begins (octets : List ℕ) (r : Reading) : Type 0 where
   pub front : List ℕ
-  pub spelled : Spells front r.class r.constructed r.number r.content
+  pub spelled : Spells front r.tag r.content
   pub parts : octets ≡ front ++ r.rest
 
 -- Some prefix is spelled.
@@ -37,13 +35,11 @@ HasLargeTag octets = ⊥
 
 -- A tag stands first, and then this octet in the length's place.
 pub record HasLengthOctet (octets : List ℕ) (octet : ℕ) : Type 0 where
-  pub class : Class
-  pub constructed : Bool
-  pub number : ℕ
-  pub tag : List ℕ
+  pub tag : Tag
+  pub front : List ℕ
   pub rest : List ℕ
-  pub is_tag : IsTag tag class constructed number
-  pub parts : octets ≡ tag ++ octet ∷ rest
+  pub is_tag : IsTag front tag
+  pub parts : octets ≡ front ++ octet ∷ rest
 
 -- The octet 0x80 stands in the length's place: the indefinite form (X.690 8.1.3.6).
 abbrev pub IsIndefinite : List ℕ → Type 0
@@ -98,4 +94,4 @@ unfoldable pub tlv_at : List ℕ → Result Reading BerFault
 tlv_at octets = do
   tag ← tag_at octets
   n ← length_at tag.1
-  if nat_lt (length n.1) n.0 then Err Truncated else Ok (record { class = tag.0.class; constructed = tag.0.constructed; number = tag.0.number; content = take n.0 n.1; rest = drop n.0 n.1 })
+  if nat_lt (length n.1) n.0 then Err Truncated else Ok (record { tag = tag.0; content = take n.0 n.1; rest = drop n.0 n.1 })

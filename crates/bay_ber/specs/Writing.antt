@@ -1,5 +1,7 @@
 -- The canonical spelling: the shortest one (X.690 8.1.3, 8.2, 8.3.2 and 8.6, with the choices of 10.1, 11.1 and 11.2).
 use Rattle.std.specs.Prelude.{ℕ, ℤ, ◌+◌, ◌-◌, ◌*◌, ◌/◌, ◌%◌, ◌^◌, ◌==◌, Bool, true, false, List, [], ◌∷◌, ◌++◌, length, take, slice_index, nat_lt, if◌then◌else◌}
+use Rattle.bay_ber.specs.declared.tag.Tag.{Tag}
+use Rattle.bay_ber.specs.Spelling.{octet_of}
 use Rattle.std.specs.Int.{w64, bytes_high_first, to_be_bytes, cast_unsigned}
 
 -- how many octets a length needs behind the first
@@ -10,9 +12,17 @@ octets_needed n = if nat_lt n 0x100 then 1 else (if nat_lt n 0x1_0000 then 2 els
 unfoldable pub length_octets : ℕ → List ℕ
 length_octets n = if nat_lt n 128 then n ∷ [] else (128 + octets_needed n) ∷ bytes_high_first (octets_needed n) n
 
--- an identifier octet, the shortest length, and the content
-unfoldable pub element : ℕ → List ℕ → List ℕ
-element identifier content = identifier ∷ (length_octets (length content) ++ content)
+-- a tag of one octet and the shortest length of a content of so many octets
+unfoldable pub header : Tag → ℕ → List ℕ
+header tag count = octet_of tag ∷ length_octets count
+
+-- a tag of one octet, the shortest length, and the content
+unfoldable pub element : Tag → List ℕ → List ℕ
+element tag content = octet_of tag ∷ (length_octets (length content) ++ content)
+
+-- how many octets a value with so many octets of content takes
+abbrev pub element_length : ℕ → ℕ
+element_length count = if nat_lt count 128 then count + 2 else count + 2 + octets_needed count
 
 -- TRUE is FF, and FALSE is 00.
 abbrev pub truth_octets : Bool → List ℕ

@@ -38,7 +38,7 @@ fn signed_of(octets: &[u8]) -> i128
 }
 
 /// The value of an integer's content (X.690 8.3): two's complement in 1 to 9 octets, the highest first, within 64 bits.
-/// Needless octets are read. BadContent where no value is spelled.
+/// Needless octets in front are read, which 8.3.2 forbids to write. BadContent where no value is spelled.
 pub fn int_of(content: &[u8]) -> Result<i64, BerFault>
     ensures ok { IfOk result (λ value. IsInteger content.now value) }
     ensures only { (value : ℤ) → IsInteger content.now value → result ≡ Ok value }
@@ -47,10 +47,7 @@ pub fn int_of(content: &[u8]) -> Result<i64, BerFault>
     if content.is_empty() || content.len() > 9 {
         return Err(BerFault::BadContent);
     }
-    match i64::try_from(signed_of(content)) {
-        Ok(value) => Ok(value),
-        Err(_) => Err(BerFault::BadContent),
-    }
+    i64::try_from(signed_of(content)).map_err(|_| BerFault::BadContent)
 }
 
 // The bits of these octets, without the unused ones.
@@ -61,10 +58,10 @@ fn bits_behind(unused: u8, octets: &[u8]) -> Result<Bits<'_>, BerFault>
     if unused > 7 || octets.len() >= 1 << 61 {
         return Err(BerFault::BadContent);
     }
-    match (8 * octets.len()).checked_sub(unused as usize) {
-        Some(count) => Ok(Bits { octets, count }),
-        None => Err(BerFault::BadContent),
-    }
+    let count = (8 * octets.len())
+        .checked_sub(unused as usize)
+        .ok_or(BerFault::BadContent)?;
+    Ok(Bits { octets, count })
 }
 
 /// The bits of a bit string's content (X.690 8.6.2): the number of unused bits, and the octets. The values of the unused

@@ -4,37 +4,17 @@ ghost use Rattle.bay_ber.specs.Octets.{number_of};
 ghost use Rattle.bay_ber.specs.Reading.{Gives, Reading, Begins, HasLargeTag, IsIndefinite, HasLongLength, IsTruncated, class_of, is_constructed, low_bits, tag_at, length_at, tlv_at, reading_of};
 
 use crate::fault::BerFault;
-
-/// The class of a tag (X.690 8.1.2.2).
-#[derive(Clone, Copy, Debug, PartialEq, Eq)]
-pub enum Class {
-    Universal,
-    Application,
-    ContextSpecific,
-    Private,
-}
+use crate::tag::{Class, Tag};
 
 /// One value at the front of a list of octets, and the octets behind it.
 #[derive(Clone, Copy, Debug, PartialEq, Eq)]
 pub struct Tlv<'a> {
-    /// The class of the tag.
-    pub class: Class,
-    /// Whether the content is itself made of values.
-    pub constructed: bool,
-    /// The number of the tag, 0 to 127.
-    pub number: u8,
+    /// The tag.
+    pub tag: Tag,
     /// The octets of the content.
     pub content: &'a [u8],
     /// The octets behind the value.
     pub rest: &'a [u8],
-}
-
-// A tag: its class, whether the content is constructed, and its number.
-#[derive(Clone, Copy)]
-struct Tag {
-    class: Class,
-    constructed: bool,
-    number: u8,
 }
 
 fn class_of(first: u8) -> Class
@@ -143,17 +123,13 @@ fn tlv_at(octets: &[u8]) -> Result<Tlv<'_>, BerFault>
         return Err(BerFault::Truncated);
     }
     let (content, rest) = rest.split_at(length);
-    Ok(Tlv {
-        class: tag.class,
-        constructed: tag.constructed,
-        number: tag.number,
-        content,
-        rest,
-    })
+    Ok(Tlv { tag, content, rest })
 }
 
 /// The value at the front of the octets (X.690 8.1), with slices of them as its content and the rest. Numbers of
-/// tags to 127 and lengths of one to five octets are read; the shortest form is not demanded.
+/// tags to 127 and lengths of one to five octets are read. This reads more than X.690 allows: a number below 31 may
+/// stand in a second tag octet too (8.1.2.2 and 8.1.2.4 have it in the first), and a length may have more octets than it
+/// needs, which 8.1.3.5 leaves to the sender.
 pub fn read_tlv(octets: &[u8]) -> Result<Tlv<'_>, BerFault>
     // What is read is spelled so at the front of the octets, and what is spelled so is read.
     ensures ok { IfOk result (λ tlv. Begins octets.now (reading_of tlv)) }

@@ -1,9 +1,10 @@
 // A writer of the canonical spelling.
-ghost use Rattle.std.specs.Prelude.{◌≡◌, ◌+◌, ◌*◌, ◌%◌, ◌^◌, ◌<◌, ◌≤◌, [], ◌∷◌, ◌++◌, length, take, drop, OnOk, OnErr};
+ghost use Rattle.std.specs.Prelude.{◌≡◌, ◌+◌, ◌-◌, ◌*◌, ◌^◌, ◌<◌, ◌≤◌, [], ◌∷◌, ◌++◌, length, take, drop, OnOk, OnErr};
 ghost use Rattle.bay_ber.specs.Growth.{Extends};
-ghost use Rattle.bay_ber.specs.Writing.{octets_needed, length_octets, element, truth_octets, is_needless, without_needless, integer_octets, bit_string_octets};
+ghost use Rattle.bay_ber.specs.Writing.{octets_needed, length_octets, header, element, element_length, truth_octets, is_needless, without_needless, integer_octets, bit_string_octets};
 
 use crate::content::Bits;
+use crate::tag::Tag;
 use std::alloc::{AllocError, Global};
 use std::marker::Model;
 
@@ -37,21 +38,49 @@ fn append_length(out: &mut Vec<u8>, length: u32) -> Result<(), AllocError>
     Ok(())
 }
 
+// Appends a tag and the shortest spelling of a length. A refused call may leave some of its octets at the end.
+#[tactic(auto, unfolding(crate::specs::Writing::header))]
+fn append_header(out: &mut Vec<u8>, tag: Tag, count: u32) -> Result<(), AllocError>
+    requires { tag.number < 31 }
+    ensures ok { OnOk result (out.new.items ≡ out.old.items ++ header tag count) }
+    ensures few { OnOk result (length out.new.items ≤ length out.old.items + 6) }
+    ensures err { OnErr result (Extends out.old.items out.new.items) }
+{
+    out.push(tag.octet())?;
+    append_length(out, count)?;
+    Ok(())
+}
+
+// Moves the octets from the second place on, six at most, before those from the first.
+fn move_forward(octets: &mut Vec<u8>, start: usize, middle: usize)
+    requires start { start ≤ middle }
+    requires middle { middle ≤ length octets.old.items }
+    requires few { length octets.old.items ≤ middle + 6 }
+    ensures { octets.new.items ≡ take start octets.old.items ++ (drop middle octets.old.items ++ take (middle - start) (drop start octets.old.items)) }
+{
+    let count = octets.len() - middle;
+    let mut moved = [0; 6];
+    moved[..count].copy_from_slice(&octets[middle..]);
+    octets.copy_within(start..middle, start + count);
+    octets[start..start + count].copy_from_slice(&moved[..count]);
+}
+
 // Appends a value whose content has three parts. A refused call may leave some of its octets at the end.
 #[tactic(auto, unfolding(crate::specs::Writing::element))]
 fn append(
     out: &mut Vec<u8>,
-    identifier: u8,
+    tag: Tag,
     first: &[u8],
     middle: &[u8],
     last: &[u8],
 ) -> Result<(), AllocError>
-    requires { length first.now + length middle.now + length last.now < 2 ^ 32 }
-    ensures ok { OnOk result (out.new.items ≡ out.old.items ++ element identifier (first.now ++ middle.now ++ last.now)) }
+    requires low { tag.number < 31 }
+    requires short { length first.now + length middle.now + length last.now < 2 ^ 32 }
+    ensures ok { OnOk result (out.new.items ≡ out.old.items ++ element tag (first.now ++ middle.now ++ last.now)) }
     ensures err { OnErr result (Extends out.old.items out.new.items) }
 {
     out.reserve(6 + first.len() + middle.len() + last.len())?;
-    out.push(identifier)?;
+    out.push(tag.octet())?;
     append_length(out, (first.len() + middle.len() + last.len()) as u32)?;
     out.extend_from_slice(first)?;
     out.extend_from_slice(middle)?;
@@ -85,8 +114,20 @@ fn without_needless(octets: &[u8]) -> &[u8]
     &octets[last..]
 }
 
+/// How many octets a value takes whose content has so many.
+pub fn element_length(count: u32) -> u64
+    ensures { result ≡ element_length count }
+{
+    let header = if count < 0x80 {
+        2
+    } else {
+        2 + octets_needed(count) as u64
+    };
+    u64::from(count) + header
+}
+
 /// A writer of values one after another, which contracts see as the octets written so far. Each value is written under
-/// an identifier octet (X.690 8.1.2) whose low five bits are below 31, with the shortest length. Where memory is wanting
+/// a tag whose number is below 31, with the shortest length. Where memory is wanting
 /// nothing is appended.
 #[derive(Debug, Drop)]
 pub struct Writer {
@@ -112,69 +153,98 @@ impl Writer {
     }
 
     /// Writes an integer in the fewest octets (X.690 8.3).
-    pub fn int(&mut self, identifier: u8, value: i64) -> Result<(), AllocError>
-        requires { identifier % 32 < 31 }
-        ensures ok { OnOk result (self.new ≡ self.old ++ element identifier (integer_octets value)) }
+    pub fn int(&mut self, tag: Tag, value: i64) -> Result<(), AllocError>
+        requires { tag.number < 31 }
+        ensures ok { OnOk result (self.new ≡ self.old ++ element tag (integer_octets value)) }
         ensures err { OnErr result (self.new ≡ self.old) }
     {
-        self.element(identifier, &[], without_needless(&value.to_be_bytes()), &[])
+        self.element(tag, &[], without_needless(&value.to_be_bytes()), &[])
     }
 
     /// Writes a bit string (X.690 8.6): its bits in the octets that they need, with 0 in the unused bits.
-    pub fn bits(&mut self, identifier: u8, bits: Bits<'_>) -> Result<(), AllocError>
-        requires tag { identifier % 32 < 31 }
+    pub fn bits(&mut self, tag: Tag, bits: Bits<'_>) -> Result<(), AllocError>
+        requires tag { tag.number < 31 }
         requires held { bits.count ≤ 8 * length bits.octets.now }
         requires short { bits.count + 16 ≤ 2 ^ 35 }
-        ensures ok { OnOk result (self.new ≡ self.old ++ element identifier (bit_string_octets bits.entry.octets.now bits.entry.count)) }
+        ensures ok { OnOk result (self.new ≡ self.old ++ element tag (bit_string_octets bits.entry.octets.now bits.entry.count)) }
         ensures err { OnErr result (self.new ≡ self.old) }
     {
         let (whole, left) = (bits.count / 8, bits.count % 8);
         if left == 0 {
-            return self.element(identifier, &[0], &bits.octets[..whole], &[]);
+            return self.element(tag, &[0], &bits.octets[..whole], &[]);
         }
         let unused = 8 - left as u8;
         let last = bits.octets[whole] >> unused << unused;
-        self.element(identifier, &[unused], &bits.octets[..whole], &[last])
+        self.element(tag, &[unused], &bits.octets[..whole], &[last])
     }
 
     /// Writes a truth value (X.690 8.2): TRUE is FF.
-    pub fn boolean(&mut self, identifier: u8, value: bool) -> Result<(), AllocError>
-        requires { identifier % 32 < 31 }
-        ensures ok { OnOk result (self.new ≡ self.old ++ element identifier (truth_octets value)) }
+    pub fn boolean(&mut self, tag: Tag, value: bool) -> Result<(), AllocError>
+        requires { tag.number < 31 }
+        ensures ok { OnOk result (self.new ≡ self.old ++ element tag (truth_octets value)) }
         ensures err { OnErr result (self.new ≡ self.old) }
     {
         let octet = if value { 0xFF } else { 0x00 };
-        self.element(identifier, &[], &[octet], &[])
+        self.element(tag, &[], &[octet], &[])
     }
 
     /// Writes a string of octets (X.690 8.7).
-    pub fn octets(&mut self, identifier: u8, octets: &[u8]) -> Result<(), AllocError>
-        requires tag { identifier % 32 < 31 }
+    pub fn octets(&mut self, tag: Tag, octets: &[u8]) -> Result<(), AllocError>
+        requires tag { tag.number < 31 }
         requires short { length octets.now < 2 ^ 32 }
-        ensures ok { OnOk result (self.new ≡ self.old ++ element identifier octets.now) }
+        ensures ok { OnOk result (self.new ≡ self.old ++ element tag octets.now) }
         ensures err { OnErr result (self.new ≡ self.old) }
     {
-        self.element(identifier, &[], octets, &[])
+        self.element(tag, &[], octets, &[])
     }
 
     /// Writes a text (X.690 8.23), as its octets in UTF-8.
-    pub fn text(&mut self, identifier: u8, text: &str) -> Result<(), AllocError>
-        requires tag { identifier % 32 < 31 }
+    pub fn text(&mut self, tag: Tag, text: &str) -> Result<(), AllocError>
+        requires tag { tag.number < 31 }
         requires short { length text.now < 2 ^ 32 }
-        ensures ok { OnOk result (self.new ≡ self.old ++ element identifier text.now) }
+        ensures ok { OnOk result (self.new ≡ self.old ++ element tag text.now) }
         ensures err { OnErr result (self.new ≡ self.old) }
     {
-        self.element(identifier, &[], text.as_bytes(), &[])
+        self.element(tag, &[], text.as_bytes(), &[])
     }
 
     /// Writes a value that is made of values (X.690 8.9), whose octets are given.
-    pub fn nest(&mut self, identifier: u8, inner: &[u8]) -> Result<(), AllocError>
-        requires tag { identifier % 32 < 31 }
+    pub fn nest(&mut self, tag: Tag, inner: &[u8]) -> Result<(), AllocError>
+        requires tag { tag.number < 31 }
         requires short { length inner.now < 2 ^ 32 }
-        ensures ok { OnOk result (self.new ≡ self.old ++ element identifier inner.now) }
+        ensures ok { OnOk result (self.new ≡ self.old ++ element tag inner.now) }
         ensures err { OnErr result (self.new ≡ self.old) }
     {
-        self.element(identifier, &[], inner, &[])
+        self.element(tag, &[], inner, &[])
+    }
+
+    /// Makes all that was written since a place the content of one value (X.690 8.9), in place. The place is what `len` was
+    /// there.
+    pub fn nest_from(&mut self, start: usize, tag: Tag) -> Result<(), AllocError>
+        requires tag { tag.number < 31 }
+        requires start { start ≤ length self.old }
+        requires short { length self.old < start + 2 ^ 32 }
+        ensures ok { OnOk result (self.new ≡ take start self.old ++ element tag (drop start self.old)) }
+        ensures err { OnErr result (self.new ≡ self.old) }
+    {
+        let written = self.octets.len();
+        match append_header(&mut self.octets, tag, (written - start) as u32) {
+            Ok(()) => {
+                move_forward(&mut self.octets, start, written);
+                Ok(())
+            }
+            Err(error) => {
+                self.octets.truncate(written);
+                Err(error)
+            }
+        }
+    }
+
+    /// How many octets were written.
+    pub fn len(&self) -> usize
+        ensures { result ≡ length self.now }
+    {
+        self.octets.len()
     }
 
     /// The octets that were written.
@@ -188,17 +258,18 @@ impl Writer {
     // Writes a value whose content has three parts; a refused call appends nothing.
     fn element(
         &mut self,
-        identifier: u8,
+        tag: Tag,
         first: &[u8],
         middle: &[u8],
         last: &[u8],
     ) -> Result<(), AllocError>
-        requires { length first.now + length middle.now + length last.now < 2 ^ 32 }
-        ensures ok { OnOk result (self.new ≡ self.old ++ element identifier (first.now ++ middle.now ++ last.now)) }
+        requires low { tag.number < 31 }
+        requires short { length first.now + length middle.now + length last.now < 2 ^ 32 }
+        ensures ok { OnOk result (self.new ≡ self.old ++ element tag (first.now ++ middle.now ++ last.now)) }
         ensures err { OnErr result (self.new ≡ self.old) }
     {
         let written = self.octets.len();
-        match append(&mut self.octets, identifier, first, middle, last) {
+        match append(&mut self.octets, tag, first, middle, last) {
             Ok(()) => Ok(()),
             Err(error) => {
                 self.octets.truncate(written);

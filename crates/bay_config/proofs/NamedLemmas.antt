@@ -9,7 +9,7 @@ use Rattle.bay_config.specs.declared.bay.Switch.{Switch}
 use Rattle.bay_config.specs.declared.bay.SwitchKind.{SwitchKind}
 use Rattle.bay_config.specs.declared.bay.SwitchKind.TheVariants.{Breaker, Disconnector, Earthing}
 use Rattle.bay_config.specs.Laws.{IsBay, HasNode, HasPosition, HasEnable, NamesPosition, NamesInterlocking}
-use Rattle.bay_config.specs.Node.{Node, row, node_rows, node_name, class_of, is_breaker, is_of, number_of, position_node, position_nodes, position_parts, interlocking_node, interlocking_nodes, interlocking_parts, nodes_of}
+use Rattle.bay_config.specs.Node.{Node, row, node_rows, node_name, class_of, is_breaker, is_of, node_number, position_node, position_nodes, position_parts, interlocking_node, interlocking_nodes, interlocking_parts, nodes_of}
 
 Contains-cons : {X : Type 0} (y : X) (xs : List X) (x : X) → Contains xs x → Contains (y ∷ xs) x
 Contains-cons y xs x w = (suc w.0, omega (arith, w.1), w.2)
@@ -93,11 +93,11 @@ has-open bay name h = record { value = h 3 (row name None) (omega arith); qualit
 has-close : (bay : Bay) (name : List ℕ) → HasNode bay (record { name = name; parts = interlocking_parts }) → HasEnable bay.rows name (codes "$ST$EnaCls")
 has-close bay name h = record { value = h 7 (row name None) (omega arith); quality = h 8 (row name None) (omega arith); moment = h 9 (row name None) (omega arith) }
 
-position-node : (bay : Bay) (place : ℕ) (s : Switch) (name : List ℕ) → slice_get bay.switches place ≡ Some s → name ≡ node_name (class_of s.kind) (number_of bay.switches s place) → IsBay bay → HasNode bay (record { name = name; parts = position_parts s.kind })
+position-node : (bay : Bay) (place : ℕ) (s : Switch) (name : List ℕ) → slice_get bay.switches place ≡ Some s → name ≡ node_name (class_of s.kind) (node_number bay.switches s place) → IsBay bay → HasNode bay (record { name = name; parts = position_parts s.kind })
 position-node bay place s name here named is_bay =
     let ss = bay.switches in
     let node : Node = record { name = name; parts = position_parts s.kind } in
-    let own : position_node (number_of ss s place, s) ≡ node = ap (λ n. record { name = n; parts = position_parts s.kind }) (sym named) in
+    let own : position_node (node_number ss s place, s) ≡ node = ap (λ n. record { name = n; parts = position_parts s.kind }) (sym named) in
     subst (λ rows. All (Contains rows) (node_rows node)) (sym is_bay.rows) (has-node (nodes_of ss) node (subst (Contains (nodes_of ss)) own (position-among (is_breaker s.kind) ss place s here refl)))
 
 abbrev interlocking_node_named : ℕ → Node
@@ -113,7 +113,7 @@ interlocking-node bay place name lt named is_bay =
     Contains-append_right (position_nodes true ss ++ position_nodes false ss) (interlocking_nodes ss) (interlocking_node (1 + place, w.0)) (Contains-map interlocking_node (enumerate_from 1 ss) (1 + place, w.0) w.1) in
     subst (λ rows. All (Contains rows) (node_rows node)) (sym is_bay.rows) (has-node (nodes_of ss) node (subst (Contains (nodes_of ss)) (own (1 + place) (omega arith)) at))
 
-pub names_position : (bay : Bay) (place : ℕ) (s : Switch) (name : List ℕ) → slice_get bay.switches place ≡ Some s → name ≡ node_name (class_of s.kind) (number_of bay.switches s place) → NamesPosition bay place name
+pub names_position : (bay : Bay) (place : ℕ) (s : Switch) (name : List ℕ) → slice_get bay.switches place ≡ Some s → name ≡ node_name (class_of s.kind) (node_number bay.switches s place) → NamesPosition bay place name
 names_position bay place s name here named =
     let node = position-node bay place s name here named in
     record { switch = s; here = here; named = named; node = node; rows = λ is_bay. has-position bay name s.kind (node is_bay) }

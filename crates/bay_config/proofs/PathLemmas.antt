@@ -11,7 +11,7 @@ use Rattle.bay_tree.specs.declared.row.Row.{Row}
 use Rattle.bay_tree.specs.Names.{parent_of}
 use Rattle.bay_tree.specs.Rows.{IsStructureNamed, CanFollow}
 use Rattle.bay_config.specs.Key.{is_among, passes}
-use Rattle.bay_config.specs.Node.{Node, row, node_rows, rows_below}
+use Rattle.bay_config.specs.Node.{Node, row, node_rows, rows_of_parts}
 use Rattle.bay_config.proofs.KeyLemmas.{or-false_parts}
 use Rattle.bay_config.proofs.TreeLemmas.{Follow, Follow-append}
 
@@ -151,14 +151,14 @@ rows-follow node earlier done (r ∷ rs) plain apart h =
 
 -- the rows of a node, by their paths
 abbrev pub paths : Node → List Row
-paths node = row [] None ∷ rows_below [] node.parts
+paths node = row [] None ∷ rows_of_parts [] node.parts
 
 pub record IsGood (node : Node) : Type 0 where
   pub plain : IsPlain node.name
   pub standing : stands [] (paths node) ≡ true
 
 rows-under : (node : Node) → map (under node.name) (paths node) ≡ node_rows node
-rows-under node = ap (λ n. row n None ∷ map (under node.name) (rows_below [] node.parts)) (append-nil node.name)
+rows-under node = ap (λ n. row n None ∷ map (under node.name) (rows_of_parts [] node.parts)) (append-nil node.name)
 
 node-follows : (node : Node) (earlier : List Row) → IsGood node → IsApart earlier node.name → Follow earlier (node_rows node)
 node-follows node earlier good apart =

@@ -8,7 +8,7 @@ use Rattle.bay_tree.specs.Rows.{IsTree}
 use Rattle.bay_config.specs.declared.bay.Bay.{Bay}
 use Rattle.bay_config.specs.declared.bay.Point.{Point}
 use Rattle.bay_config.specs.declared.bay.Switch.{Switch}
-use Rattle.bay_config.specs.Node.{Node, row, node_rows, node_name, class_of, number_of, position_parts, interlocking_parts, rows_of_all}
+use Rattle.bay_config.specs.Node.{Node, row, node_rows, node_name, class_of, node_number, position_parts, interlocking_parts, rows_of_all}
 use Rattle.bay_config.specs.Point.{place_in, points_of, points_of_all}
 
 -- the switch at a place has the point
@@ -56,7 +56,7 @@ pub record HasEnable (rows : List Row) (node object : List ℕ) : Type 0 where
 pub record NamesPosition (bay : Bay) (place : ℕ) (name : List ℕ) : Type 0 where
   pub switch : Switch
   pub here : slice_get bay.switches place ≡ Some switch
-  pub named : name ≡ node_name (class_of switch.kind) (number_of bay.switches switch place)
+  pub named : name ≡ node_name (class_of switch.kind) (node_number bay.switches switch place)
   pub node : IsBay bay → HasNode bay (record { name = name; parts = position_parts switch.kind })
   pub rows : IsBay bay → HasPosition bay.rows name
 

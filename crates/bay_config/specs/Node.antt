@@ -29,11 +29,11 @@ row name leaf = record { name = name; leaf = leaf }
 abbrev mutual
   pub rows_of : List ℕ → Part → List Row
   rows_of path (value name leaf) = row (path ++ codes "$" ++ name) (Some leaf) ∷ []
-  rows_of path (structure name parts) = row (path ++ codes "$" ++ name) None ∷ rows_below (path ++ codes "$" ++ name) parts
+  rows_of path (structure name parts) = row (path ++ codes "$" ++ name) None ∷ rows_of_parts (path ++ codes "$" ++ name) parts
 
-  pub rows_below : List ℕ → Parts → List Row
-  rows_below path end = []
-  rows_below path (part p ps) = rows_of path p ++ rows_below path ps
+  pub rows_of_parts : List ℕ → Parts → List Row
+  rows_of_parts path end = []
+  rows_of_parts path (part p ps) = rows_of path p ++ rows_of_parts path ps
 
 pub record Node : Type 0 where
   pub name : List ℕ
@@ -41,7 +41,7 @@ pub record Node : Type 0 where
 
 -- the rows of a logical node: its own, and those of its parts, which its name leads to
 abbrev pub node_rows : Node → List Row
-node_rows node = row node.name None ∷ map (λ r. row (node.name ++ r.name) r.leaf) (rows_below [] node.parts)
+node_rows node = row node.name None ∷ map (λ r. row (node.name ++ r.name) r.leaf) (rows_of_parts [] node.parts)
 
 -- a value with its quality and its moment (IEC 61850-7-3, common data classes of status)
 abbrev pub status : List ℕ → Leaf → Validity → Part
@@ -115,5 +115,5 @@ abbrev pub rows_of_all : List Switch → List Row
 rows_of_all switches = flat_map node_rows (nodes_of switches)
 
 -- the number of the switch at a place: one more than there are of its class before it
-abbrev pub number_of : List Switch → Switch → ℕ → ℕ
-number_of switches s place = length (filter (is_of (is_breaker s.kind)) (take place switches)) + 1
+abbrev pub node_number : List Switch → Switch → ℕ → ℕ
+node_number switches s place = length (filter (is_of (is_breaker s.kind)) (take place switches)) + 1

@@ -7,7 +7,7 @@ use Rattle.il_check.specs.Code as check_code
 use Rattle.il_check.specs.WellTyped.{Checked, checked_of}
 use Rattle.il_check.specs.declared.fault.CheckFault.{CheckFault}
 use Rattle.il_text.specs.Code as text_code
-use Rattle.il_text.specs.Listing.{Listing}
+use Rattle.il_text.specs.Listing.{PlainProgram}
 use Rattle.il_text.specs.declared.fault.TextFault.{TextFault}
 use Rattle.bay_device.specs.Device.{State}
 use Rattle.bay_device.specs.Slots.{declared_of, variables_of}
@@ -52,11 +52,11 @@ abbrev pub of_checked : Bay → Result Checked CheckFault → Result State LoadF
 of_checked bay (Ok program) = Ok (initial_device bay program)
 of_checked bay (Err fault) = Err (check_refusal fault)
 
-abbrev pub of_program : Bay → Result Listing TextFault → Result State LoadFault
+abbrev pub of_program : Bay → Result PlainProgram TextFault → Result State LoadFault
 of_program bay (Ok program) = of_checked bay (checked_of bay.points program)
 of_program bay (Err fault) = Err (text_refusal fault)
 
 -- the device of a bay file and a program: a fault of the bay file comes before one of the program's text, and that before one of its checks
-abbrev pub of_bay : Result Bay BayFault → Result Listing TextFault → Result State LoadFault
+abbrev pub of_bay : Result Bay BayFault → Result PlainProgram TextFault → Result State LoadFault
 of_bay (Ok bay) program = of_program bay program
 of_bay (Err fault) program = Err (bay_refusal fault)

@@ -1,7 +1,7 @@
 -- The names of a switch's values in the tree (IEC 61850-7-4: XCBR, XSWI and CILO; IEC 61850-8-1: names of variables).
 use Rattle.std.specs.Prelude.{ℕ, ◌+◌, List, ◌++◌, codes}
 use Rattle.bay_config.specs.declared.bay.Switch.{Switch}
-use Rattle.bay_config.specs.Node.{class_of, node_name, number_of}
+use Rattle.bay_config.specs.Node.{class_of, node_name, node_number}
 
 -- the names of a status value, its quality and its moment (IEC 61850-7-3)
 pub record StatusNames : Type 0 where
@@ -35,7 +35,7 @@ names_by_nodes node interlocking = record {
 
 -- a switch's node is XCBR or XSWI, with its number among the switches of its class
 abbrev pub node_of : List Switch → ℕ → Switch → List ℕ
-node_of switches k switch = node_name (class_of switch.kind) (number_of switches switch k)
+node_of switches k switch = node_name (class_of switch.kind) (node_number switches switch k)
 
 -- the node of its interlocking has the number of its place, from 1
 abbrev pub interlocking_of : ℕ → List ℕ

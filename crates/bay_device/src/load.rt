@@ -6,7 +6,7 @@ ghost use Rattle.bay_config.specs.Laws.{IsBay};
 ghost use Rattle.il_check.specs.TypedView.{typed_view};
 ghost use Rattle.il_check.specs.WellTyped.{checked_of};
 ghost use Rattle.il_text.specs.Reading.{program_of};
-ghost use Rattle.il_text.specs.Views.{listing_of};
+ghost use Rattle.il_text.specs.Views.{plain_program};
 ghost use Rattle.bay_device.specs.StateView.{state_view};
 ghost use Rattle.bay_device.specs.Load.{initial_device, of_checked, of_program, of_bay};
 
@@ -69,7 +69,7 @@ fn state_of(alloc: Global, bay: Bay, typed: Typed) -> Result<DeviceState, AllocE
 /// The device of a bay and a program.
 fn load_program(alloc: Global, bay: Bay, program: &Program<'_>) -> Result<Device, LoadFault>
     requires { IsBay bay }
-    ensures { Gives LoadFault.OutOfMemory (λ device. device) result (of_checked bay (checked_of bay.points (listing_of program.now))) }
+    ensures { Gives LoadFault.OutOfMemory (λ device. device) result (of_checked bay (checked_of bay.points (plain_program program.now))) }
 {
     let typed = check(alloc, program, bay.points.as_slice())?;
     let state = state_of(alloc, bay, typed)?;

@@ -10,7 +10,7 @@ use Rattle.std.specs.Str.Parse.{digits_value}
 use Rattle.std.specs.Str.{bytes_eq, is_utf8, IsUtf8}
 use Rattle.std.proofs.lemmas.Str.{IsUtf8-from_is_utf8, is_utf8-from_IsUtf8}
 use Rattle.std.proofs.Common.{codes}
-use Rattle.bay_main.specs.Trace.{is_space, number_of, contact_of, event_of, words_line, trace_line_of}
+use Rattle.bay_main.specs.Trace.{is_space, read_number, contact_of, event_of, words_line, trace_line_of}
 
 not_space : (b : ℕ) → b ≢ 32 → is_space b ≡ false
 not_space b h = grind (arith, nat_tests)
@@ -30,10 +30,10 @@ pub digits : IsNumeralModel (λ ds. all_ascii_digits ds ≡ true) (digits_value 
 digits = numerals_by_value _ tells_all_ascii_digits
 
 -- digits that write no number below 2 ^ 64
-pub number_of-none : (bs : List ℕ) → all_ascii_digits bs ≡ true → ¬ ((0 < length bs) × (digits_value 10 bs < 2 ^ 64)) → number_of bs ≡ None
-number_of-none bs all none = by_tests (nat_lt 0 (length bs)) (nat_lt (digits_value 10 bs) (2 ^ 64)) refl refl
+pub read_number-none : (bs : List ℕ) → all_ascii_digits bs ≡ true → ¬ ((0 < length bs) × (digits_value 10 bs < 2 ^ 64)) → read_number bs ≡ None
+read_number-none bs all none = by_tests (nat_lt 0 (length bs)) (nat_lt (digits_value 10 bs) (2 ^ 64)) refl refl
   where
-    by_tests : (v w : Bool) → nat_lt 0 (length bs) ≡ v → nat_lt (digits_value 10 bs) (2 ^ 64) ≡ w → number_of bs ≡ None
+    by_tests : (v w : Bool) → nat_lt 0 (length bs) ≡ v → nat_lt (digits_value 10 bs) (2 ^ 64) ≡ w → read_number bs ≡ None
     by_tests false w e f = rw (all, e)
     by_tests true false e f = rw (all, e, f)
     by_tests true true e f = absurd (none (grind (arith, nat_tests), grind (arith, nat_tests)))

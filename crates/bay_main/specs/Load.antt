@@ -5,7 +5,7 @@ use Rattle.bay_config.specs.Bay.{bay_of}
 use Rattle.bay_config.specs.declared.bay.Bay.{Bay}
 use Rattle.bay_config.specs.declared.fault.BayFault.{BayFault}
 use Rattle.bay_config.specs.declared.fault.BayFault.TheVariants.{BadToml}
-use Rattle.il_text.specs.Listing.{Listing}
+use Rattle.il_text.specs.Listing.{PlainProgram}
 use Rattle.il_text.specs.Reading.{program_of}
 use Rattle.il_text.specs.declared.fault.TextFault.{TextFault}
 use Rattle.il_text.specs.declared.fault.TextFault.TheVariants.{BadToken}
@@ -14,7 +14,7 @@ use Rattle.bay_device.specs.Load.{of_bay}
 use Rattle.bay_device.specs.declared.fault.LoadFault.{LoadFault}
 
 -- a program that is not in UTF-8 is a bad token at its first line
-abbrev pub text_of : List ℕ → Result Listing TextFault
+abbrev pub text_of : List ℕ → Result PlainProgram TextFault
 text_of logic = cond (is_utf8 logic) (program_of logic) (Err (BadToken 1))
 
 -- a bay file that is not in UTF-8 is no TOML

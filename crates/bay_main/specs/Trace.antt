@@ -21,8 +21,8 @@ rest_words None = []
 rest_words (Some rest) = slice_split is_space rest
 
 -- the number that decimal digits write, below 2 ^ 64
-abbrev pub number_of : List ℕ → Option ℕ
-number_of digits =
+abbrev pub read_number : List ℕ → Option ℕ
+read_number digits =
     cond (all_ascii_digits digits && nat_lt 0 (length digits) && nat_lt (digits_value 10 digits) (2 ^ 64)) (Some (digits_value 10 digits)) None
 
 -- 0 intermediate, 1 off, 2 on, 3 bad
@@ -53,7 +53,7 @@ event_of word (next ∷ others) moment = cond (bytes_eq word (codes "contact")) 
 abbrev pub words_line : List (List ℕ) → Option LineData
 words_line [] = None
 words_line (first ∷ []) = None
-words_line (first ∷ word ∷ others) = option_and_then (event_of word others) (number_of first)
+words_line (first ∷ word ∷ others) = option_and_then (event_of word others) (read_number first)
 
 -- an empty line says nothing, and what is no text can't be read
 abbrev pub trace_line_of : List ℕ → Option LineData

@@ -21,10 +21,7 @@ pub enum ReadFault {
 
 /// All octets that the reader has left, if they are at most 16,777,216. A reader of which a read has failed is
 /// not read again.
-pub fn read_all<R: Read>(
-    alloc: Global,
-    reader: &mut WatchedReader<R>,
-) -> Result<Vec<u8>, ReadFault>
+pub fn read_all<R: Read>(alloc: Global, reader: &mut WatchedReader<R>) -> Result<Vec<u8>, ReadFault>
     ensures ok { IfOk result (λ v. IfSome (R.remaining reader.old.inner) (λ xs. v.items ≡ xs)) }
     ensures within { IfOk result (λ v. vec_len v ≤ scenario_limit) }
     ensures too_long { result ≡ Err ReadFault.TooLong → IfSome (R.remaining reader.old.inner) (λ xs. scenario_limit < length xs) }

@@ -2,7 +2,7 @@
 ghost use Rattle.std.specs.Prelude.{◌≡◌, ◌∷◌, ℕ, option_map};
 ghost use Rattle.std.specs.List.{slice_split};
 ghost use Rattle.std.specs.Str.{all_ascii_digits};
-ghost use Rattle.bay_main.specs.Trace.{is_space, rest_words, number_of, position_of, contact_at, contact_of, event_of, words_line, trace_line_of};
+ghost use Rattle.bay_main.specs.Trace.{is_space, rest_words, read_number, position_of, contact_at, contact_of, event_of, words_line, trace_line_of};
 ghost use Rattle.bay_main.specs.TraceView.{line_view};
 
 use bay_tree::leaf::Dbpos;
@@ -42,7 +42,7 @@ fn has_only_digits(word: &str) -> bool
 
 /// The number that decimal digits write, if it is below 2^64. There may be leading zeros, and no sign.
 fn number(word: &str) -> Option<u64>
-    ensures { result ≡ number_of word.now }
+    ensures { result ≡ read_number word.now }
 {
     if !has_only_digits(word) {
         return None;

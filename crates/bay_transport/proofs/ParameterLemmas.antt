@@ -1,10 +1,10 @@
 -- Parameters are spelled in one way, and the answer's parameters are at most as long as the request's.
-use Rattle.std.proofs.Common.{◌≡◌, ℕ, zero, suc, ◌+◌, ◌/◌, ◌%◌, ◌≤◌, Bool, true, false, cond, eqb, List, [], ◌∷◌, ◌++◌, length, take, drop, min, Option, Some, None, Ok, Err, refl, sym, ap, ◌∙◌, inl, inr, arith}
+use Rattle.std.proofs.Common.{◌≡◌, ℕ, zero, suc, ◌+◌, ◌≤◌, Bool, true, false, cond, eqb, List, [], ◌∷◌, ◌++◌, length, take, drop, min, Option, Some, None, Ok, Err, refl, sym, ap, ◌∙◌, inl, inr, arith}
 use Rattle.std.specs.Option.{option_map}
 use Rattle.std.proofs.lemmas.Bool.{cases_eq, cases_lt, ne_eqb, lt-ltb, le-ltb}
 use Rattle.std.proofs.lemmas.List.{length-append, length-take-le, take-append-drop, take_at, drop_at}
 use Rattle.bay_transport.specs.declared.fault.TransportFault.TheVariants.{BadCotp}
-use Rattle.bay_transport.specs.Connect.{Parameter, spelled, length_octet, with_parameter, parameters_behind, parameters_of, or_else, last_value, size_of, where_there, size_value, answered, confirm, with_parameters}
+use Rattle.bay_transport.specs.Connect.{Parameter, spelled, length_octet, with_parameter, parameters_behind, parameters_of, or_else, last_value, size_of, where_there, size_value, answered, frame_header, confirm_front, confirm, with_parameters}
 use Rattle.bay_transport.proofs.RequestLemmas.{parameters_behind-is}
 
 -- ---- in one way
@@ -130,7 +130,7 @@ without_size number high low None size s w = refl
 without_size number high low (Some ps) size s w = rw (read_value 192 ps size s, w) refl
 
 -- the frame of the confirmation, up to its parameters
-pub confirm_parts : (number high low n : ℕ) (ps : List ℕ) → n ≡ length ps → confirm number high low ps ≡ (3 ∷ 0 ∷ ((n + 11) / 256) ∷ ((n + 11) % 256) ∷ (n + 6) ∷ 0xD0 ∷ high ∷ low ∷ (number / 256) ∷ (number % 256) ∷ 0 ∷ []) ++ ps
+pub confirm_parts : (number high low n : ℕ) (ps : List ℕ) → n ≡ length ps → confirm number high low ps ≡ frame_header (n + 7) ++ confirm_front number high low n ++ ps
 confirm_parts number high low n ps is =
-    let e : length ((length ps + 6) ∷ 0xD0 ∷ high ∷ low ∷ (number / 256) ∷ (number % 256) ∷ 0 ∷ ps) + 4 ≡ n + 11 = omega arith in
+    let e : length (confirm_front number high low (length ps) ++ ps) ≡ n + 7 = omega arith in
     rw (e, ← is) refl

@@ -1,11 +1,11 @@
 -- The parameters of a request, read from the left.
 use Rattle.std.proofs.Common.{◌≡◌, ℕ, zero, suc, ◌+◌, ◌-◌, ◌*◌, ◌%◌, ◌^◌, ◌<◌, ◌≤◌, Bool, true, false, cond, eqb, List, [], ◌∷◌, length, take, drop, get_or, Option, Some, None, refl, sym, ap, ◌∙◌, arith}
 use Rattle.std.specs.Option.{option_map}
-use Rattle.std.proofs.lemmas.Bool.{eq-eqb, ne_eqb}
 use Rattle.std.proofs.lemmas.List.{length-drop, drop_more, drop-drop, drop_all}
 use Rattle.std.proofs.Math.Nat.{pow-le-pow_right}
 use Rattle.bay_transport.specs.Assembly.{IsSize}
 use Rattle.bay_transport.specs.Connect.{Parameter, with_parameter, parameters_behind, parameters_of, or_else, last_value}
+use Rattle.bay_transport.specs.Found.{found_then}
 
 pub parameters_behind-is : (k : ℕ) (octets : List ℕ) → k ≤ length octets → parameters_behind k octets ≡ parameters_of (drop k octets)
 parameters_behind-is zero octets within = refl
@@ -36,17 +36,13 @@ keeps_at_first code (Some ps) = ap (λ (x : Option (List ℕ)). Some x) (or_else
 pub keeps_first : (code : ℕ) (octets : List ℕ) → Keeps code octets (drop 0 octets) None
 keeps_first code octets = keeps_at_first code (parameters_of octets)
 
--- the value after one more parameter
-abbrev pub found_at : ℕ → ℕ → List ℕ → Option (List ℕ) → Option (List ℕ)
-found_at code here value found = cond (eqb here code) (Some value) found
-
 or_else_assoc : (b : Bool) (later found : Option (List ℕ)) (value : List ℕ) → or_else (or_else later (cond b (Some value) None)) found ≡ or_else later (cond b (Some value) found)
 or_else_assoc b (Some x) found value = refl
 or_else_assoc true None found value = refl
 or_else_assoc false None found value = refl
 
 one_more : (code here count : ℕ) (behind : List ℕ) (found : Option (List ℕ)) (o : Option (List Parameter))
-    → option_map (or_found code found) (with_parameter here (count ∷ behind) o) ≡ option_map (or_found code (found_at code here (take count behind) found)) o
+    → option_map (or_found code found) (with_parameter here (count ∷ behind) o) ≡ option_map (or_found code (found_then code here (take count behind) found)) o
 one_more code here count behind found None = refl
 one_more code here count behind found (Some later) = ap (λ (x : Option (List ℕ)). Some x) (or_else_assoc (eqb here code) (last_value code later) found (take count behind))
 
@@ -59,13 +55,13 @@ two_parts octets at within =
     drop_more octets at 0 a ∙ ap (λ (ys : List ℕ). get_or octets at 0 ∷ ys) (drop_more octets (at + 1) 0 b ∙ ap (λ (n : ℕ). get_or octets (at + 1) 0 ∷ drop n octets) e)
 
 pub keeps_more : (code : ℕ) (all octets : List ℕ) (at here count next : ℕ) (found : Option (List ℕ)) → at + 2 ≤ length octets → here ≡ get_or octets at 0 → count ≡ get_or octets (at + 1) 0 → count ≤ length octets - at - 2 → next ≡ at + 2 + count
-    → Keeps code all (drop at octets) found → Keeps code all (drop next octets) (found_at code here (take count (drop (at + 2) octets)) found)
+    → Keeps code all (drop at octets) found → Keeps code all (drop next octets) (found_then code here (take count (drop (at + 2) octets)) found)
 keeps_more code all octets at here count next found within h n fits is keeps =
     let behind = drop (at + 2) octets in
     let long : count ≤ length behind = omega (arith, length-drop (at + 2) octets) in
     let rest : parameters_behind count behind ≡ parameters_of (drop next octets) = parameters_behind-is count behind long ∙ ap parameters_of (drop-drop count (at + 2) octets ∙ ap (λ (k : ℕ). drop k octets) (sym is)) in
     let parts : drop at octets ≡ here ∷ count ∷ behind = rw (h, n) (two_parts octets at within) in
-    keeps ∙ ap (λ (ys : List ℕ). option_map (or_found code found) (parameters_of ys)) parts ∙ one_more code here count behind found (parameters_behind count behind) ∙ ap (option_map (or_found code (found_at code here (take count behind) found))) rest
+    keeps ∙ ap (λ (ys : List ℕ). option_map (or_found code found) (parameters_of ys)) parts ∙ one_more code here count behind found (parameters_behind count behind) ∙ ap (option_map (or_found code (found_then code here (take count behind) found))) rest
 
 none_from : (code : ℕ) (o : Option (List Parameter)) → option_map (last_value code) o ≡ None → o ≡ None
 none_from code None e = refl
@@ -90,17 +86,11 @@ value_past octets at count within n past =
 pub keeps_all : (code : ℕ) (octets : List ℕ) (at : ℕ) (found : Option (List ℕ)) → length octets ≤ at → Keeps code octets (drop at octets) found → option_map (last_value code) (parameters_of octets) ≡ Some found
 keeps_all code octets at found all keeps = keeps ∙ ap (λ (ys : List ℕ). option_map (or_found code found) (parameters_of ys)) (drop_all at octets all)
 
-pub keeps_then : (code : ℕ) (octets : List ℕ) (at next : ℕ) (found last : Option (List ℕ)) (value : List ℕ) → at + 2 ≤ length octets → get_or octets (at + 1) 0 ≤ length octets - at - 2 → next ≡ at + (2 + get_or octets (at + 1) 0)
-    → get_or octets at 0 ≡ code → last ≡ Some value → value ≡ take (get_or octets (at + 1) 0) (drop (at + 2) octets) → Keeps code octets (drop at octets) found → Keeps code octets (drop next octets) last
-keeps_then code octets at next found last value within fits is same set there keeps =
+pub keeps_found : (code : ℕ) (octets : List ℕ) (at next : ℕ) (found last : Option (List ℕ)) (value : List ℕ) → at + 2 ≤ length octets → get_or octets (at + 1) 0 ≤ length octets - at - 2 → next ≡ at + (2 + get_or octets (at + 1) 0)
+    → value ≡ take (get_or octets (at + 1) 0) (drop (at + 2) octets) → last ≡ found_then code (get_or octets at 0) value found → Keeps code octets (drop at octets) found → Keeps code octets (drop next octets) last
+keeps_found code octets at next found last value within fits is value_is last_is keeps =
     let k = keeps_more code octets octets at (get_or octets at 0) (get_or octets (at + 1) 0) next found within refl refl fits (omega arith) keeps in
-    rw (set, there) (rw (eq-eqb (get_or octets at 0) code same) at k)
-
-pub keeps_else : (code : ℕ) (octets : List ℕ) (at next : ℕ) (found last : Option (List ℕ)) → at + 2 ≤ length octets → get_or octets (at + 1) 0 ≤ length octets - at - 2 → next ≡ at + (2 + get_or octets (at + 1) 0)
-    → (get_or octets at 0 ≡ code → ⊥) → last ≡ found → Keeps code octets (drop at octets) found → Keeps code octets (drop next octets) last
-keeps_else code octets at next found last within fits is other same keeps =
-    let k = keeps_more code octets octets at (get_or octets at 0) (get_or octets (at + 1) 0) next found within refl refl fits (omega arith) keeps in
-    rw same (rw (ne_eqb (get_or octets at 0) code other) at k)
+    rw (last_is, value_is) k
 
 pub size_of_power : (power : ℕ) → 7 ≤ power → power ≤ 13 → IsSize (1 * 2 ^ power % 18446744073709551616)
 size_of_power power some few =

@@ -1,5 +1,5 @@
 -- The request for a connection and its answer (X.224 13.3 and 13.4), in class 0.
-use Rattle.std.specs.Prelude.{ℕ, zero, suc, ◌+◌, ◌/◌, ◌%◌, ◌^◌, ◌==◌, min, Bool, List, [], ◌∷◌, ◌++◌, length, take, Option, Some, None, Result, Ok, Err, nat_lt, if◌then◌else◌}
+use Rattle.std.specs.Prelude.{ℕ, zero, suc, ◌+◌, ◌/◌, ◌%◌, ◌^◌, ◌==◌, min, Bool, false, List, [], ◌∷◌, ◌++◌, length, take, Option, Some, None, Result, Ok, Err, nat_lt, if◌then◌else◌}
 use Rattle.bay_transport.specs.declared.fault.TransportFault.{TransportFault}
 use Rattle.bay_transport.specs.declared.fault.TransportFault.TheVariants.{BadCotp, ClassRefused}
 
@@ -49,9 +49,13 @@ size_of (Some []) = None
 size_of (Some (power ∷ [])) = if nat_lt power 7 then None else Some (Some (min power 13), 2 ^ min power 13)
 size_of (Some (power ∷ more ∷ octets)) = None
 
+-- what stands before a TPDU of so many octets in its frame: the version, a reserved octet and the frame's length (RFC 1006 6)
+abbrev pub frame_header : ℕ → List ℕ
+frame_header count = 3 ∷ 0 ∷ ((count + 4) / 256) ∷ ((count + 4) % 256) ∷ []
+
 -- the frame of a TPDU
 abbrev pub framed : List ℕ → List ℕ
-framed tpdu = 3 ∷ 0 ∷ ((length tpdu + 4) / 256) ∷ ((length tpdu + 4) % 256) ∷ tpdu
+framed tpdu = frame_header (length tpdu) ++ tpdu
 
 -- the spelling of one parameter, where it is there
 abbrev pub where_there : ℕ → Option (List ℕ) → List ℕ
@@ -66,10 +70,14 @@ size_value (Some power) = Some (power ∷ [])
 abbrev pub answered : Option ℕ → Option (List ℕ) → Option (List ℕ) → List ℕ
 answered power called calling = where_there 0xC0 (size_value power) ++ where_there 0xC2 called ++ where_there 0xC1 calling
 
--- The confirmation: its length indicator, D0, the reference of the one who asked, the reference of the association, class
--- 0, and the parameters (X.224 13.4).
+-- a confirmation up to its parameters, which take so many octets: its length indicator, D0, the reference of the one who
+-- asked, the reference of the association, and class 0 (X.224 13.4)
+abbrev pub confirm_front : ℕ → ℕ → ℕ → ℕ → List ℕ
+confirm_front number high low count = (count + 6) ∷ 0xD0 ∷ high ∷ low ∷ (number / 256) ∷ (number % 256) ∷ 0 ∷ []
+
+-- the confirmation in its frame
 abbrev pub confirm : ℕ → ℕ → ℕ → List ℕ → List ℕ
-confirm number high low parameters = framed ((length parameters + 6) ∷ 0xD0 ∷ high ∷ low ∷ (number / 256) ∷ (number % 256) ∷ 0 ∷ parameters)
+confirm number high low parameters = framed (confirm_front number high low (length parameters) ++ parameters)
 
 -- a connection: the size of its TPDUs in octets, and the frame that answers the request
 pub record Connection : Type 0 where
@@ -84,10 +92,14 @@ abbrev pub with_parameters : ℕ → ℕ → ℕ → Option (List Parameter) →
 with_parameters number high low None = Err BadCotp
 with_parameters number high low (Some ps) = with_size number high low ps (size_of (last_value 0xC0 ps))
 
+-- A length indicator counts the octets of its TPDU behind it: six and the parameters. 255 is reserved (X.224 13.2.1).
+abbrev pub is_counted : ℕ → List ℕ → Bool
+is_counted indicator octets = if indicator == 255 then false else indicator == length octets + 6
+
 -- What a request comes to on the association of this number: `indicator` is its length indicator, and the octets stand
 -- behind its code: two references of two octets, the class with the options, and the parameters. The length indicator counts
 -- them all and the code, a second request is refused, and then a class other than 0.
 abbrev pub connect : ℕ → Bool → ℕ → List ℕ → Result Connection TransportFault
 connect number again indicator (to_high ∷ to_low ∷ from_high ∷ from_low ∷ class ∷ octets) =
-    if indicator == length octets + 6 then (if again then Err BadCotp else (if class / 16 == 0 then with_parameters number from_high from_low (parameters_of octets) else Err ClassRefused)) else Err BadCotp
+    if is_counted indicator octets then (if again then Err BadCotp else (if class / 16 == 0 then with_parameters number from_high from_low (parameters_of octets) else Err ClassRefused)) else Err BadCotp
 connect number again indicator octets = Err BadCotp

@@ -69,7 +69,7 @@ impl Assembly {
         }
     }
 
-    // Forgets what came.
+    /// Forgets what came.
     pub(crate) fn clear(&mut self)
         ensures sound { IsSound self.new }
         ensures number { self.new.number ≡ self.old.number }
@@ -177,10 +177,10 @@ impl Assembly {
         match front_of(&self.buffer[self.group..]) {
             Front::Begun => Ok((taken, Kind::More)),
             Front::NoFrame => Err(TransportFault::BadTpkt),
-            Front::Whole(_) => match self.on_frame() {
-                Ok(kind) => Ok((taken, kind)),
-                Err(fault) => Err(fault),
-            },
+            Front::Whole(_) => {
+                let kind = self.on_frame()?;
+                Ok((taken, kind))
+            }
         }
     }
 

@@ -30,17 +30,17 @@ pub enum TransportFault {
 }
 
 impl TransportFault {
-    /// The fault's number: 10 to 14 in the order of the faults, and 0 for want of memory.
-    pub fn code(self) -> u8
+    /// The fault's number: 10 to 14 in the order of the faults. Want of memory has none.
+    pub fn code(self) -> Option<u8>
         ensures { result ≡ code_of self }
     {
         match self {
-            TransportFault::BadTpkt => 10,
-            TransportFault::BadCotp => 11,
-            TransportFault::ClassRefused => 12,
-            TransportFault::TsduTooLong => 13,
-            TransportFault::Failed => 14,
-            TransportFault::OutOfMemory => 0,
+            TransportFault::BadTpkt => Some(10),
+            TransportFault::BadCotp => Some(11),
+            TransportFault::ClassRefused => Some(12),
+            TransportFault::TsduTooLong => Some(13),
+            TransportFault::Failed => Some(14),
+            TransportFault::OutOfMemory => None,
         }
     }
 }

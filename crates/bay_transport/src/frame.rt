@@ -1,6 +1,7 @@
 // The frames of a stream: TPKTs (RFC 1006 6).
-ghost use Rattle.std.specs.Prelude.{◌≡◌, ◌<◌, length};
+ghost use Rattle.std.specs.Prelude.{◌≡◌, ◌<◌, ◌≤◌, length};
 ghost use Rattle.bay_transport.specs.Frame.{tpdu_of, pair_of, front_of, wanted};
+ghost use Rattle.bay_transport.specs.Connect.{frame_header};
 
 /// What stands at the front of a list of octets.
 #[derive(Clone, Copy)]
@@ -43,6 +44,15 @@ fn pair_of(high: u8, low: u8) -> usize
     ensures { result ≡ pair_of high low }
 {
     high as usize * 256 + low as usize
+}
+
+/// What stands before a TPDU of so many octets in its frame.
+pub(crate) fn frame_header(count: usize) -> [u8; 4]
+    requires { count ≤ 65_531 }
+    ensures { result ≡ frame_header count }
+{
+    let [high, low] = ((count + 4) as u16).to_be_bytes();
+    [3, 0, high, low]
 }
 
 /// What stands at the front of these octets.

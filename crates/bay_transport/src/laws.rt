@@ -4,7 +4,7 @@ ghost use Rattle.bay_transport.specs.Frame.{Cut, IsCut, cut};
 ghost use Rattle.bay_transport.specs.Connect.{Parameter, spelled, parameters_of};
 ghost use Rattle.bay_transport.specs.Doings.{Doing, Left, Stream, run, and_then, doings, after};
 ghost use Rattle.bay_transport.specs.Feeding.{Completes};
-ghost use Rattle.bay_transport.specs.Shown.{Leaves};
+ghost use Rattle.bay_transport.specs.Shown.{Leaves, GoesOn};
 ghost use Rattle.bay_transport.specs.declared.transport.Fed.{Fed};
 
 /// A list of octets is whole frames followed by a rest that begins with no whole frame, in one way (RFC 1006 6).
@@ -23,7 +23,7 @@ pub fn any_cutting()
 
 /// The octets of a piece that a feeding did not take do the rest of the piece's doings, from what is left then.
 pub fn feeding_goes_on()
-    ensures doings { (old new : Stream) (piece : List ℕ) (fed : Fed) (doing : Doing) → Leaves old piece (Ok fed) new → Completes old piece fed.used doing → doings old piece ≡ doing ∷ doings new (drop fed.used piece) }
+    ensures doings { (old new : Stream) (piece : List ℕ) (fed : Fed) (doing : Doing) → Leaves old piece (Ok fed) new → Completes old piece fed.used doing → GoesOn old new piece fed.used doing }
     ensures after { (old new : Stream) (piece : List ℕ) (fed : Fed) → Leaves old piece (Ok fed) new → after old piece ≡ after new (drop fed.used piece) }
 {}
 

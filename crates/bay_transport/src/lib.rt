@@ -10,7 +10,5 @@ mod frame;
 pub mod laws;
 mod reader;
 mod request;
-#[cfg(test)]
-mod tests;
 pub mod transport;
 mod wrap;

@@ -45,28 +45,15 @@ impl Reader {
         ensures within { IfOk result (λ taken. taken.0 ≤ length piece.now) }
         ensures after { IfOk result (λ taken. stream_of self.new ≡ after (stream_of self.old) (take taken.0 piece.now)) }
         ensures fed { IfOk result (λ taken. Feeds (stream_of self.old) piece.now taken.0 (doing_for taken.1 self.new.assembly.shown.items)) }
+        ensures shown { length self.new.assembly.shown.items ≤ 70_000 }
         ensures refused { IfErr result (λ fault. RefusesPiece (stream_of self.old) piece.now fault) }
         ensures failed { OnErr result (stream_of self.new ≡ record { number = self.old.assembly.number; left = Broken }) }
     {
         match self.phase {
-            Phase::Refused => Err(TransportFault::Failed),
-            Phase::Closed => Ok((0, Kind::Ended)),
-            Phase::Open => self.receive(piece),
+            Phase::Refused => return Err(TransportFault::Failed),
+            Phase::Closed => return Ok((0, Kind::Ended)),
+            Phase::Open => {}
         }
-    }
-
-    // The same while the connection is open.
-    fn receive(&mut self, piece: &[u8]) -> Result<(usize, Kind), TransportFault>
-        requires sound { IsSound self.old.assembly }
-        requires going { self.old.phase ≡ Phase.Open }
-        ensures sound { IsSound self.new.assembly }
-        ensures limits { IsWithinLimits (stream_of self.new).left }
-        ensures within { IfOk result (λ taken. taken.0 ≤ length piece.now) }
-        ensures after { IfOk result (λ taken. stream_of self.new ≡ after (stream_of self.old) (take taken.0 piece.now)) }
-        ensures fed { IfOk result (λ taken. Feeds (stream_of self.old) piece.now taken.0 (doing_for taken.1 self.new.assembly.shown.items)) }
-        ensures refused { IfErr result (λ fault. RefusesPiece (stream_of self.old) piece.now fault) }
-        ensures failed { OnErr result (stream_of self.new ≡ record { number = self.old.assembly.number; left = Broken }) }
-    {
         match self.assembly.advance(piece) {
             Ok((used, kind)) => {
                 if let Kind::Ended = kind {

@@ -1,10 +1,12 @@
 // The request for a connection, and its answer (X.224 13.3 and 13.4).
 ghost use Rattle.std.specs.Prelude.{◌≡◌, ◌+◌, ◌/◌, ◌%◌, ◌≤◌, ◌<◌, [], ◌∷◌, ◌++◌, Ok, Err, Some, None, length, IfOk, IfErr, IfSome, OnOk};
 ghost use Rattle.std.specs.Option.{option_copied, option_map};
-ghost use Rattle.bay_transport.specs.Connect.{parameters_of, last_value, where_there, size_value, answered, size_of, confirm, with_parameters, connect};
+ghost use Rattle.bay_transport.specs.Connect.{parameters_of, where_there, size_value, size_of, frame_header, confirm_front, confirm, with_parameters, connect};
+ghost use Rattle.bay_transport.specs.Found.{found_then, HaveValues, answered_to};
 ghost use Rattle.bay_transport.specs.Assembly.{IsSize, FailsWhere};
 
 use crate::fault::TransportFault;
+use crate::frame::frame_header;
 use std::alloc::AllocError;
 
 // The codes of the parameters that are looked at.
@@ -14,12 +16,36 @@ const CALLING: u8 = 0xC1;
 
 const CALLED: u8 = 0xC2;
 
-// The value of the last parameter with this code, if there is one; BadCotp where the octets are no parameters.
-fn last_value(octets: &[u8], code: u8) -> Result<Option<&[u8]>, TransportFault>
-    ensures ok { IfOk result (λ value. option_map (last_value code) (parameters_of octets.now) ≡ Some (option_copied value)) }
+// The values of the parameters that are looked at, of each code the last one's, where it came.
+#[derive(Clone, Copy)]
+struct Values<'a> {
+    size: Option<&'a [u8]>,
+    called: Option<&'a [u8]>,
+    calling: Option<&'a [u8]>,
+}
+
+// What is found of a code once a parameter has been read.
+fn found_then<'a>(
+    wanted: u8,
+    code: u8,
+    value: &'a [u8],
+    found: Option<&'a [u8]>,
+) -> Option<&'a [u8]>
+    ensures { option_copied result ≡ found_then wanted code value.now (option_copied found.entry) }
+{
+    if code == wanted { Some(value) } else { found }
+}
+
+// The values that the parameters in these octets have; BadCotp where the octets are no parameters.
+fn values_of(octets: &[u8]) -> Result<Values<'_>, TransportFault>
+    ensures ok { IfOk result (λ values. HaveValues octets.now values) }
     ensures err { IfErr result (λ fault. (fault ≡ TransportFault.BadCotp) × (parameters_of octets.now ≡ None)) }
 {
-    let mut last = None;
+    let mut values = Values {
+        size: None,
+        called: None,
+        calling: None,
+    };
     let mut at = 0;
     while at < octets.len() {
         if octets.len() - at < 2 {
@@ -29,12 +55,16 @@ fn last_value(octets: &[u8], code: u8) -> Result<Option<&[u8]>, TransportFault>
         if octets.len() - at - 2 < count {
             return Err(TransportFault::BadCotp);
         }
-        if octets[at] == code {
-            last = Some(&octets[at + 2..at + 2 + count]);
-        }
+        let code = octets[at];
+        let value = &octets[at + 2..at + 2 + count];
+        values = Values {
+            size: found_then(SIZE, code, value, values.size),
+            called: found_then(CALLED, code, value, values.called),
+            calling: found_then(CALLING, code, value, values.calling),
+        };
         at += 2 + count;
     }
-    Ok(last)
+    Ok(values)
 }
 
 // The power of the size parameter, at most 13, and the size in octets.
@@ -95,21 +125,18 @@ fn begin(
     parameters: usize,
 ) -> Result<(), AllocError>
     requires { parameters ≤ 249 }
-    ensures { OnOk result (reply.new.items ≡ 3 ∷ 0 ∷ ((parameters + 11) / 256) ∷ ((parameters + 11) % 256) ∷ (parameters + 6) ∷ 0xD0 ∷ high ∷ low ∷ (number / 256) ∷ (number % 256) ∷ 0 ∷ []) }
+    ensures { OnOk result (reply.new.items ≡ frame_header (parameters + 7) ++ confirm_front number high low parameters) }
 {
-    let length = parameters + 11;
+    let [number_high, number_low] = number.to_be_bytes();
     reply.clear();
+    reply.extend_from_slice(&frame_header(parameters + 7))?;
     reply.extend_from_slice(&[
-        3,
-        0,
-        (length / 256) as u8,
-        (length % 256) as u8,
         (parameters + 6) as u8,
         0xD0,
         high,
         low,
-        (number / 256) as u8,
-        (number % 256) as u8,
+        number_high,
+        number_low,
         0,
     ])?;
     Ok(())
@@ -129,8 +156,8 @@ struct Request<'a> {
 
 // Writes the confirmation.
 fn confirm(reply: &mut Vec<u8>, number: u16, request: Request<'_>) -> Result<(), AllocError>
-    requires { length (answered request.power (option_copied request.called) (option_copied request.calling)) ≤ 249 }
-    ensures reply { OnOk result (reply.new.items ≡ confirm number request.entry.high request.entry.low (answered request.entry.power (option_copied request.entry.called) (option_copied request.entry.calling))) }
+    requires { length (answered_to request) ≤ 249 }
+    ensures reply { OnOk result (reply.new.items ≡ confirm number request.entry.high request.entry.low (answered_to request.entry)) }
     ensures short { OnOk result (length reply.new.items ≤ 260) }
 {
     let size = if request.power.is_some() { 3 } else { 0 };
@@ -156,16 +183,14 @@ fn respond(
     ensures short { OnOk result (length reply.new.items ≤ 260) }
     ensures err { IfErr result (λ fault. FailsWhere fault (with_parameters number high low (parameters_of parameters.now) ≡ Err fault)) }
 {
-    let proposed = last_value(parameters, SIZE)?;
-    let called = last_value(parameters, CALLED)?;
-    let calling = last_value(parameters, CALLING)?;
-    let (power, size) = size_of(proposed)?;
+    let values = values_of(parameters)?;
+    let (power, size) = size_of(values.size)?;
     let request = Request {
         high,
         low,
         power,
-        called,
-        calling,
+        called: values.called,
+        calling: values.calling,
     };
     confirm(reply, number, request)?;
     Ok(size)
@@ -187,7 +212,7 @@ pub(crate) fn answer(
 {
     match body {
         [_, _, high, low, class, parameters @ ..] => {
-            if indicator as usize != parameters.len() + 6 || again {
+            if indicator == 255 || indicator as usize != parameters.len() + 6 || again {
                 return Err(TransportFault::BadCotp);
             }
             if *class / 16 != 0 {

@@ -3,7 +3,7 @@ ghost use Rattle.std.specs.Prelude.{◌≡◌, ◌+◌, ◌≤◌, [], IfOk, IfE
 ghost use Rattle.std.specs.Borrow.{sem};
 ghost use Rattle.bay_transport.specs.Doings.{Broken, start, after};
 ghost use Rattle.bay_transport.specs.Feeding.{Feeds, RefusesPiece, agreed};
-ghost use Rattle.bay_transport.specs.Shown.{doing_in, RestsAfter};
+ghost use Rattle.bay_transport.specs.Shown.{doing_in, octets_in, RestsAfter};
 ghost use Rattle.bay_transport.specs.Wrap.{wrapped, Carries};
 
 use crate::assembly::Kind;
@@ -71,11 +71,13 @@ impl Transport {
     /// `Ended` again.
     ///
     /// A refusal is for good: later pieces are answered `Failed`, as they are after want of memory. No more is kept than
-    /// 70,000 octets of an unfinished TSDU and an unfinished frame.
+    /// 70,000 octets of an unfinished TSDU, an unfinished frame (less than 65,535 octets), and 70,000 octets of what is
+    /// answered. The buffers keep their room after an end or a refusal.
     pub fn feed(&mut self, piece: &[u8]) -> Result<Fed<'_>, TransportFault>
         // What is left is what the octets that were taken leave, or a stream that failed.
         ensures* after { sem 𝓛 (RestsAfter self.entry piece.now result) }
         ensures within { IfOk result (λ fed. fed.used ≤ length piece.now) }
+        ensures shown { IfOk result (λ fed. length (octets_in fed.got) ≤ 70_000) }
         // What is answered is the first doing of the piece, and a refusal is the fault that the octets show.
         ensures fed { IfOk result (λ fed. Feeds self.old piece.now fed.used (doing_in fed.got)) }
         ensures refused { IfErr result (λ fault. RefusesPiece self.old piece.now fault) }

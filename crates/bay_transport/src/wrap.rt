@@ -3,6 +3,7 @@ ghost use Rattle.std.specs.Prelude.{◌≡◌, ◌+◌, ◌-◌, ◌/◌, ◌%�
 ghost use Rattle.bay_transport.specs.Wrap.{data_frame, wrapped, Carries};
 ghost use Rattle.bay_transport.specs.Assembly.{IsSize};
 
+use crate::frame::frame_header;
 use std::alloc::{AllocError, Global};
 
 // Appends one data TPDU in its frame.
@@ -10,17 +11,9 @@ fn append(out: &mut Vec<u8>, is_last: bool, octets: &[u8]) -> Result<(), AllocEr
     requires { length octets.now ≤ 65_528 }
     ensures { OnOk result (out.new.items ≡ out.old.items ++ data_frame is_last octets.now) }
 {
-    let frame = octets.len() + 7;
     let mark = if is_last { 0x80 } else { 0x00 };
-    out.extend_from_slice(&[
-        3,
-        0,
-        (frame / 256) as u8,
-        (frame % 256) as u8,
-        2,
-        0xF0,
-        mark,
-    ])?;
+    out.extend_from_slice(&frame_header(octets.len() + 3))?;
+    out.extend_from_slice(&[2, 0xF0, mark])?;
     out.extend_from_slice(octets)?;
     Ok(())
 }

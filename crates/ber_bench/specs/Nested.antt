@@ -1,15 +1,16 @@
 -- Elements inside one another.
-use Rattle.std.specs.Prelude.{ℕ, zero, suc, ◌+◌, ◌/◌, pos, List, [], ◌++◌}
+use Rattle.std.specs.Prelude.{ℕ, zero, suc, ◌+◌, ◌/◌, pos, true, false, List, [], ◌++◌}
+use Rattle.bay_ber.specs.declared.tag.Class.TheVariants.{Universal}
 use Rattle.bay_ber.specs.Writing.{element, integer_octets}
 
 -- an integer
 unfoldable pub integer : ℕ → List ℕ
-integer value = element 0x02 (integer_octets (pos value))
+integer value = element (record { class = Universal; constructed = false; number = 2 }) (integer_octets (pos value))
 
 -- octets inside so many lists
 unfoldable pub nested : List ℕ → ℕ → List ℕ
 nested octets zero = octets
-nested octets (suc lists) = element 0x30 (nested octets lists)
+nested octets (suc lists) = element (record { class = Universal; constructed = true; number = 16 }) (nested octets lists)
 
 -- so many chains one after another
 unfoldable pub chains : List ℕ → ℕ → List ℕ

@@ -6,8 +6,6 @@
 #![tactic(auto)]
 
 mod reading;
-#[cfg(test)]
-mod tests;
 mod writing;
 
 use anyhow::{Context, Result, bail};

@@ -20,7 +20,7 @@ fn innermost(outer: Tlv<'_>) -> Result<(i64, usize), BerFault>
 {
     let mut inner = outer;
     let mut depth = 1;
-    while inner.constructed {
+    while inner.tag.constructed {
         inner = read_tlv(inner.content)?;
         depth += 1;
     }

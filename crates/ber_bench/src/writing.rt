@@ -1,7 +1,8 @@
 // Writes integers inside lists.
-ghost use Rattle.std.specs.Prelude.{◌≡◌, ◌*◌, ◌+◌, ◌-◌, ◌%◌, ◌<◌, ◌≤◌, length, IfOk};
-ghost use Rattle.ber_bench.specs.Nested.{integer, nested, chains, written};
+ghost use Rattle.std.specs.Prelude.{◌≡◌, ◌-◌, ◌%◌, ◌<◌, ◌++◌, length, IfOk, OnOk};
+ghost use Rattle.ber_bench.specs.Nested.{integer, nested, written};
 
+use bay_ber::tag::Tag;
 use bay_ber::writer::Writer;
 use std::alloc::{AllocError, Global};
 
@@ -14,41 +15,16 @@ pub struct Sum {
     pub sum: u64,
 }
 
-// An integer.
-#[tactic(auto, unfolding(crate::specs::Nested::integer))]
-fn integer(alloc: Global, value: u8) -> Result<Vec<u8>, AllocError>
-    ensures is { IfOk result (λ octets. octets.items ≡ integer value) }
-    ensures short { IfOk result (λ octets. length octets.items ≤ 15) }
+// Writes an integer inside so many lists.
+fn chain(writer: &mut Writer, lists: u16, value: u8) -> Result<(), AllocError>
+    ensures { OnOk result (writer.new ≡ writer.old ++ nested (integer value) lists) }
 {
-    let mut writer = Writer::new(alloc);
-    writer.int(0x02, i64::from(value))?;
-    Ok(writer.finish())
-}
-
-// An element inside so many lists.
-fn nested(alloc: Global, inner: Vec<u8>, lists: u16) -> Result<Vec<u8>, AllocError>
-    requires { length inner.items ≤ 15 }
-    ensures { IfOk result (λ octets. octets.items ≡ nested inner.items lists) }
-{
-    let mut octets = inner;
+    let start = writer.len();
+    writer.int(Tag::universal(2), i64::from(value))?;
     for _list in 0..lists {
-        let mut writer = Writer::new(alloc);
-        writer.nest(0x30, octets.as_slice())?;
-        octets = writer.finish();
+        writer.nest_from(start, Tag::sequence())?;
     }
-    Ok(octets)
-}
-
-// So many chains one after another, all of one value.
-fn chains(alloc: Global, count: u32, lists: u16, value: u8) -> Result<Vec<u8>, AllocError>
-    ensures { IfOk result (λ octets. octets.items ≡ chains (nested (integer value) lists) count) }
-{
-    let mut octets = Vec::new(alloc);
-    for _chain in 0..count {
-        let chain = nested(alloc, integer(alloc, value)?, lists)?;
-        octets.extend_from_slice(chain.as_slice())?;
-    }
-    Ok(octets)
+    Ok(())
 }
 
 // Writes 10,000 elements, in chains of an integer inside so many lists.
@@ -56,7 +32,12 @@ fn chains(alloc: Global, count: u32, lists: u16, value: u8) -> Result<Vec<u8>, A
 fn write(alloc: Global, lists: u16, value: u8) -> Result<Vec<u8>, AllocError>
     ensures { IfOk result (λ octets. octets.items ≡ written lists value) }
 {
-    chains(alloc, 10_000 / (u32::from(lists) + 1), lists, value)
+    let mut writer = Writer::new(alloc);
+    let count = 10_000 / (u32::from(lists) + 1);
+    for _chain in 0..count {
+        chain(&mut writer, lists, value)?;
+    }
+    Ok(writer.finish())
 }
 
 /// Writes 10,000 elements so many times, in chains of an integer inside so many lists; the integer is the number of the

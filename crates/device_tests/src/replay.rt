@@ -108,7 +108,13 @@ struct Outcome {
     is_flushed: bool,
 }
 
-fn outcome_of(alloc: Global, scenario: &[u8], fails_at: u64, room: usize, flushes: bool) -> Outcome {
+fn outcome_of(
+    alloc: Global,
+    scenario: &[u8],
+    fails_at: u64,
+    room: usize,
+    flushes: bool,
+) -> Outcome {
     let mut reader = WatchedReader::new(Dripping {
         rest: scenario,
         reads: 0,
@@ -411,7 +417,11 @@ fn failing_reads_and_writes(rt: HostRuntime) -> Result<(), Fail> {
     let text = scenario.as_bytes();
     for k in 1..=u64::try_from(text.len()).unwrap_or(0) {
         let found = outcome_of(rt.alloc(), text, k, 1000, true);
-        assert_eq!(rt; found.report.as_slice(), b"fault 121\n".as_slice(), "at read {k}");
+        assert_eq!(rt;
+            found.report.as_slice(),
+            b"fault 121\n".as_slice(),
+            "at read {k}"
+        );
         assert_eq!(rt; found.status, 3, "at read {k}");
         assert!(rt; found.read_failed && found.is_flushed);
     }
@@ -459,7 +469,10 @@ fn reads_no_more_than_the_limit(rt: HostRuntime) -> Result<(), Fail> {
         room: 10,
         flushes: true,
     });
-    assert_eq!(rt; replay_run(rt.alloc(), &mut reader, &mut writer).ok(), Some(3));
+    assert_eq!(rt;
+        replay_run(rt.alloc(), &mut reader, &mut writer).ok(),
+        Some(3)
+    );
     assert!(rt; !reader.has_failed() && writer.is_flushed());
     assert_eq!(rt; reader.reads(), 16_777_217);
     Ok(())

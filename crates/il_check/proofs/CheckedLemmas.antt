@@ -6,8 +6,8 @@ use Rattle.std.proofs.lemmas.List.{length-map}
 use Rattle.bay_config.specs.declared.bay.Point.{Point}
 use Rattle.bay_config.specs.declared.bay.Origin.{Origin}
 use Rattle.bay_base.specs.Names.{upper}
-use Rattle.il_text.specs.Listing.{Declared, Entry, Listing}
-use Rattle.il_text.specs.Views.{declared_of, entry_of, listing_of}
+use Rattle.il_text.specs.Listing.{Declared, Entry, PlainProgram}
+use Rattle.il_text.specs.Views.{declared_of, entry_of, plain_program}
 use Rattle.il_text.specs.declared.program.Declaration.{Declaration}
 use Rattle.il_text.specs.declared.program.Item.{Item}
 use Rattle.il_text.specs.declared.program.Program.{Program}
@@ -27,13 +27,13 @@ abbrev pub places_of : Declarations → List ℕ → Option ℕ
 places_of d name = get_by_text d.places name
 
 -- what is known once all is read
-pub record IsRead (of_bay : List Point) (program : Listing) (d : Declarations) (r : Resolved) : Type 0 where
+pub record IsRead (of_bay : List Point) (program : PlainProgram) (d : Declarations) (r : Resolved) : Type 0 where
   pub stands : StandsFor of_bay program.declarations d
   pub declared : d.found ≡ first_fault (declarations_faults of_bay [] program.declarations)
   pub instructions : r.instructions.items ≡ filter_map (entry_at (places_of d)) program.items
   pub found : r.found ≡ noted d.found (entries_faults_at (places_of d) d.writable.items false program.items)
 
-module _ (of_bay : List Point) (program : Listing) (d : Declarations) (r : Resolved) (read : IsRead of_bay program d r) where
+module _ (of_bay : List Point) (program : PlainProgram) (d : Declarations) (r : Resolved) (read : IsRead of_bay program d r) where
   knows : Knows of_bay program.declarations (places_of d) d.writable.items
   knows = record { placed = read.stands.places; rights = read.stands.writable }
 
@@ -100,7 +100,7 @@ pub is_read : (of_bay : List Point) (p : Program) (declarations : List Declarati
     → StandsFor of_bay (map declared_of declarations) d → d.found ≡ first_fault (declarations_faults of_bay [] (map declared_of declarations))
     → r.instructions.items ≡ filter_map (entry_at (places_of d)) (map entry_of items)
     → r.found ≡ noted d.found (entries_faults_at (places_of d) d.writable.items false (map entry_of items))
-    → IsRead of_bay (listing_of p) d r
+    → IsRead of_bay (plain_program p) d r
 is_read of_bay p declarations items d r same_declarations same_items stands declared instructions found = record {
   stands = subst (λ (ds : List Declaration). StandsFor of_bay (map declared_of ds) d) same_declarations stands;
   declared = subst (λ (ds : List Declaration). d.found ≡ first_fault (declarations_faults of_bay [] (map declared_of ds))) same_declarations declared;

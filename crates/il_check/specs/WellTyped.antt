@@ -10,7 +10,7 @@ use Rattle.bay_base.specs.Types.{same_type}
 use Rattle.il_text.specs.declared.program.Scope.{Scope}
 use Rattle.il_text.specs.declared.program.Scope.TheVariants.{Local, External}
 use Rattle.bay_base.specs.Names.{upper, same_name}
-use Rattle.il_text.specs.Listing.{Source, constant, variable, Action, load, store, combine, Entry, action, block, Declared, Listing}
+use Rattle.il_text.specs.Listing.{Source, constant, variable, Action, load, store, combine, Entry, action, block, Declared, PlainProgram}
 use Rattle.il_check.specs.Code.{code_of, line_of}
 use Rattle.bay_base.specs.Exact.{judged}
 use Rattle.il_check.specs.declared.fault.CheckFault.{CheckFault}
@@ -85,7 +85,7 @@ entries_faults points declared is_set [] = []
 entries_faults points declared is_set (e ∷ es) = entry_faults points declared is_set e ++ entries_faults points declared true es
 
 -- all faults of a program, in the order of its text
-abbrev pub faults_of : List Point → Listing → List CheckFault
+abbrev pub faults_of : List Point → PlainProgram → List CheckFault
 faults_of points program = declarations_faults points [] program.declarations ++ entries_faults points program.declarations false program.items
 
 -- of two numbers the first is the lower
@@ -135,7 +135,7 @@ abbrev pub plain_entry : Entry → Entry
 plain_entry (action line a) = action 0 (plain_action a)
 plain_entry (block line operator items end) = block 0 operator items 0
 
-abbrev pub checked_program : List Point → Listing → Checked
+abbrev pub checked_program : List Point → PlainProgram → Checked
 checked_program points program = record {
   names = map (λ d. upper d.name) program.declarations;
   origins = map (origin_of points) program.declarations;
@@ -144,5 +144,5 @@ checked_program points program = record {
 }
 
 -- the checked program, or the fault that is answered
-abbrev pub checked_of : List Point → Listing → Result Checked CheckFault
+abbrev pub checked_of : List Point → PlainProgram → Result Checked CheckFault
 checked_of points program = judged (first_fault (faults_of points program)) (checked_program points program)

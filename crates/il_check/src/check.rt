@@ -1,5 +1,5 @@
 // The checks of a program, and the typed program that is left of one without a fault.
-ghost use Rattle.il_text.specs.Views.{listing_of};
+ghost use Rattle.il_text.specs.Views.{plain_program};
 ghost use Rattle.bay_base.specs.Exact.{Gives};
 ghost use Rattle.il_check.specs.TypedView.{typed_view};
 ghost use Rattle.il_check.specs.WellTyped.{checked_of};
@@ -23,7 +23,7 @@ use std::alloc::Global;
 /// fault of the lowest number (IEC 61131-3:2003, 2.4.3 and 3.2).
 pub fn check(alloc: Global, program: &Program<'_>, points: &[Point]) -> Result<Typed, CheckFault>
     // The checked program, or the fault of the first faulty line with the lowest number, unless memory ran out.
-    ensures { Gives OutOfMemory typed_view result (checked_of points.now (listing_of program.now)) }
+    ensures { Gives OutOfMemory typed_view result (checked_of points.now (plain_program program.now)) }
 {
     let declared = declare_all(alloc, points, program.declarations.as_slice())?;
     let resolved = resolve_all(alloc, &declared, program.items.as_slice())?;

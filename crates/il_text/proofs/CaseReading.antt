@@ -5,13 +5,13 @@ use Rattle.std.specs.List.{position_or_len}
 use Rattle.std.specs.Option.{ok_or}
 use Rattle.il_text.specs.Forms.{is_reserved, is_mark, name_of, truth_of, header, is_alone, opened, operand, operation, instruction, tail, names_from, is_colon, declaration}
 use Rattle.il_text.specs.LetterCase.{upper_source, upper_action, upper_entry, upper_declared, upper_listing, upper_program, LettersMayBeRespelled}
-use Rattle.il_text.specs.Listing.{Source, Action, load, store, combine, action, Declared, Listing}
+use Rattle.il_text.specs.Listing.{Source, Action, load, store, combine, action, Declared, PlainProgram}
 use Rattle.il_text.specs.Reading.{onto, lines, then_on, tokens_of, Reached, with_name, at_place, declared_in, with_declarations, with_action, with_instruction, body_line, block_line, line_at, block_or_body, after_line, whole, reading, nothing_read, program_of, too_long}
 use Rattle.il_text.specs.Symbols.{Symbol, name, reserved_word, truth, other_literal, mark_symbol, Piece, blank, line_end, token, bad_token, bad_literal, cut}
 use Rattle.il_text.specs.declared.fault.TextFault.{TextFault}
 use Rattle.il_text.specs.declared.fault.TextFault.TheVariants.{BadLine}
-use Rattle.il_text.specs.declared.form.Place.{Place}
-use Rattle.il_text.specs.declared.form.Place.TheVariants as place
+use Rattle.il_text.specs.declared.form.Stage.{Stage}
+use Rattle.il_text.specs.declared.form.Stage.TheVariants as place
 use Rattle.il_text.specs.declared.form.Tail.{Tail}
 use Rattle.il_text.specs.declared.program.Scope.{Scope}
 use Rattle.il_text.specs.declared.program.Operator.TheVariants as operator
@@ -244,7 +244,7 @@ opening-up : (line last : ℕ) (r : Reached) (ss : List Symbol) (o : Option Scop
 opening-up line last r ss (Some scope) = refl
 opening-up line last r ss None = body-up line last r ss
 
-line_at-up : (line last : ℕ) (r : Reached) (ss : List Symbol) (p : Place) → line_at line last (upper_reached r) (upper_symbols ss) p ≡ upper_ok (line_at line last r ss p)
+line_at-up : (line last : ℕ) (r : Reached) (ss : List Symbol) (p : Stage) → line_at line last (upper_reached r) (upper_symbols ss) p ≡ upper_ok (line_at line last r ss p)
 line_at-up line last r ss place.Start = rw (header-up ss) (named-up r (BadLine line) (header ss))
 line_at-up line last r ss place.Declarations = rw (opened-up ss) (opening-up line last r ss (opened ss))
 line_at-up line last r ss (place.Block scope) = block-up line scope r ss
@@ -256,19 +256,19 @@ unfolding after_line
 after-up line last r [] = refl
 after-up line last r (s ∷ ss) = line_at-up line last r (s ∷ ss) r.place
 
-whole-up : (last : ℕ) (l : Listing) (p : Place) → whole last (upper_listing l) p ≡ upper_program (whole last l p)
+whole-up : (last : ℕ) (l : PlainProgram) (p : Stage) → whole last (upper_listing l) p ≡ upper_program (whole last l p)
 whole-up last l place.Start = refl
 whole-up last l place.Declarations = refl
 whole-up last l (place.Block scope) = refl
 whole-up last l place.Body = refl
 whole-up last l place.Finished = refl
 
-then_reached : (f g : Reached → Result Listing TextFault) → ((s : Reached) → f (upper_reached s) ≡ upper_program (g s)) → (x : Result Reached TextFault)
+then_reached : (f g : Reached → Result PlainProgram TextFault) → ((s : Reached) → f (upper_reached s) ≡ upper_program (g s)) → (x : Result Reached TextFault)
     → then_on (upper_ok x) f ≡ upper_program (then_on x g)
 then_reached f g h (Ok s) = h s
 then_reached f g h (Err e) = refl
 
-then_tokens : (f g : List Symbol → Result Listing TextFault) → ((ss : List Symbol) → f (upper_symbols ss) ≡ upper_program (g ss)) → (x : Result (List Symbol) TextFault)
+then_tokens : (f g : List Symbol → Result PlainProgram TextFault) → ((ss : List Symbol) → f (upper_symbols ss) ≡ upper_program (g ss)) → (x : Result (List Symbol) TextFault)
     → then_on (upper_tokens x) f ≡ upper_program (then_on x g)
 then_tokens f g h (Ok ss) = h ss
 then_tokens f g h (Err e) = refl

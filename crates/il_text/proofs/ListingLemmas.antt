@@ -8,7 +8,7 @@ use Rattle.std.specs.List.{position_or_len, before_first}
 use Rattle.std.specs.Option.{ok_or}
 use Rattle.il_text.specs.Forms.{names_from, name_of, is_mark, is_colon, is_alone, tail, declaration}
 use Rattle.il_text.specs.declared.fault.TextFault.TheVariants.{BadLine}
-use Rattle.il_text.specs.declared.form.Place.TheVariants as place
+use Rattle.il_text.specs.declared.form.Stage.TheVariants as place
 use Rattle.il_text.specs.declared.reserved.Reserved.TheVariants as word
 use Rattle.il_text.specs.Reading.{Reached, declared_in, at_place, with_declarations, block_line}
 use Rattle.il_text.specs.Declaring.{declared_from}

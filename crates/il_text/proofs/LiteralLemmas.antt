@@ -7,7 +7,7 @@ use Rattle.std.proofs.lemmas.Bool.Decides.{nat_tests}
 use Rattle.std.specs.List.{position_or_len, before_first, after_first}
 use Rattle.std.proofs.Math.Bool.{and-false}
 use Rattle.std.proofs.Math.Nat.{mul-le-mul_left, mul-le-mul_right}
-use Rattle.il_text.specs.Literals.{is_underscore, is_hash, is_integer, number, halves, decimal, based, integer, judged, untyped, Signed}
+use Rattle.il_text.specs.Literals.{is_underscore, is_hash, is_integer, number, halves, decimal, based, integer, within_range, untyped, Signed}
 use Rattle.il_text.specs.Runs.{capped, capped_signed}
 use Rattle.bay_base.proofs.ListLemmas.{front_of, none_left}
 
@@ -92,7 +92,7 @@ pub ruleset number_rules = (from_start, from_underscore, from_end, from_end_want
 pub leb_capped : (m b : ℕ) → b < 2 ^ 32 → leb (min m (2 ^ 32)) b ≡ leb m b
 leb_capped m b h = grind (arith, nat_tests)
 
-pub judged_capped : (below above : ℕ) (z : Option Signed) → below < 2 ^ 32 → above < 2 ^ 32 → judged below above (capped_signed z) ≡ judged below above z
+pub judged_capped : (below above : ℕ) (z : Option Signed) → below < 2 ^ 32 → above < 2 ^ 32 → within_range below above (capped_signed z) ≡ within_range below above z
 judged_capped below above None h k = refl
 judged_capped below above (Some (true, m)) h k = rw (leb_capped m below h) refl
 judged_capped below above (Some (false, m)) h k = rw (leb_capped m above k) refl

@@ -1,6 +1,6 @@
 -- A program with its names in upper case.
 use Rattle.std.specs.Prelude.{◌≡◌, List, map, Result, Ok, Err}
-use Rattle.il_text.specs.Listing.{Source, constant, variable, Action, load, store, combine, Entry, action, block, Entries, no_entries, entry, Declared, Listing}
+use Rattle.il_text.specs.Listing.{Source, constant, variable, Action, load, store, combine, Entry, action, block, Entries, no_entries, entry, Declared, PlainProgram}
 use Rattle.bay_base.specs.Names.{upper}
 use Rattle.il_text.specs.Reading.{program_of}
 use Rattle.il_text.specs.declared.fault.TextFault.{TextFault}
@@ -27,10 +27,10 @@ abbrev mutual
 abbrev pub upper_declared : Declared → Declared
 upper_declared d = record { line = d.line; scope = d.scope; name = upper d.name; kind = d.kind; initial = d.initial }
 
-abbrev pub upper_listing : Listing → Listing
+abbrev pub upper_listing : PlainProgram → PlainProgram
 upper_listing l = record { name = upper l.name; declarations = map upper_declared l.declarations; items = map upper_entry l.items }
 
-abbrev pub upper_program : Result Listing TextFault → Result Listing TextFault
+abbrev pub upper_program : Result PlainProgram TextFault → Result PlainProgram TextFault
 upper_program (Ok l) = Ok (upper_listing l)
 upper_program (Err e) = Err e
 

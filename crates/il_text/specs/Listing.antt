@@ -36,7 +36,7 @@ pub record Declared : Type 0 where
   pub kind : ElementaryType
   pub initial : Option Bool
 
-pub record Listing : Type 0 where
+pub record PlainProgram : Type 0 where
   pub name : List ℕ
   pub declarations : List Declared
   pub items : List Entry

@@ -2,9 +2,9 @@
 use Rattle.std.specs.Prelude.{map}
 use Rattle.il_text.specs.Reading.{Reached}
 use Rattle.il_text.specs.Views.{declared_of, entry_of}
-use Rattle.il_text.specs.declared.listing.Listing as code
+use Rattle.il_text.specs.declared.listing.Draft as code
 
-abbrev pub reached_of : code.Listing → Reached
+abbrev pub reached_of : code.Draft → Reached
 reached_of l =
     record {
       place = l.place;

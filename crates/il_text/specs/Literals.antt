@@ -62,25 +62,25 @@ unfoldable pub integer : List ℕ → Option Signed
 integer w = decimal_or_based w (halves w)
 
 -- a well-formed literal is within `below` on the negative side, and `above` on the other
-abbrev pub judged : ℕ → ℕ → Option Signed → Judged
-judged below above None = Malformed
-judged below above (Some z) = if nat_le z.1 (if z.0 then below else above) then Fine else OutOfRange
+abbrev pub within_range : ℕ → ℕ → Option Signed → Judged
+within_range below above None = Malformed
+within_range below above (Some z) = if nat_le z.1 (if z.0 then below else above) then Fine else OutOfRange
 
 -- what a literal without a type may be: the largest range is that of DINT
 unfoldable pub untyped : Option Signed → Judged
-untyped z = judged (2147483648) (2147483647) z
+untyped z = within_range (2147483648) (2147483647) z
 
 abbrev pub is_truth : List ℕ → Bool
 is_truth w = same_name w (codes "TRUE") || same_name w (codes "FALSE")
 
 unfoldable pub typed_bool : List ℕ → Judged
-typed_bool w = if is_truth w then Fine else judged 0 1 (integer w)
+typed_bool w = if is_truth w then Fine else within_range 0 1 (integer w)
 
 unfoldable pub typed_int : List ℕ → Judged
-typed_int w = if is_truth w then OutOfRange else judged (32768) (32767) (integer w)
+typed_int w = if is_truth w then OutOfRange else within_range (32768) (32767) (integer w)
 
 unfoldable pub typed_dint : List ℕ → Judged
-typed_dint w = if is_truth w then OutOfRange else judged (2147483648) (2147483647) (integer w)
+typed_dint w = if is_truth w then OutOfRange else within_range (2147483648) (2147483647) (integer w)
 
 -- what is left of a duration, its milliseconds so far, and whether a part was there
 pub record Duration : Type 0 where

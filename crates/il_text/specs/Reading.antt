@@ -1,14 +1,14 @@
 -- The program of a text (IEC 61131-3:2003, 2.5.3 and annex B).
 use Rattle.std.specs.Prelude.{ℕ, ◌+◌, false, ◌==◌, nat_lt, if◌then◌else◌, List, [], ◌∷◌, ◌++◌, map, Option, Some, None, option_map, Result, Ok, Err}
 use Rattle.std.specs.Option.{ok_or}
-use Rattle.il_text.specs.Listing.{Action, action, Declared, Listing}
+use Rattle.il_text.specs.Listing.{Action, action, Declared, PlainProgram}
 use Rattle.il_text.specs.Symbols.{Symbol, Piece, blank, line_end, token, bad_token, bad_literal, cut}
 use Rattle.il_text.specs.Forms.{header, is_alone, opened, instruction, declaration}
 use Rattle.il_text.specs.Places.{last_line}
 use Rattle.il_text.specs.declared.fault.TextFault.{TextFault}
 use Rattle.il_text.specs.declared.fault.TextFault.TheVariants.{BadToken, BadLine, BadLiteral, TooLong}
-use Rattle.il_text.specs.declared.form.Place.{Place}
-use Rattle.il_text.specs.declared.form.Place.TheVariants as place
+use Rattle.il_text.specs.declared.form.Stage.{Stage}
+use Rattle.il_text.specs.declared.form.Stage.TheVariants as place
 use Rattle.il_text.specs.declared.form.Tail.{Tail}
 use Rattle.il_text.specs.declared.program.Scope.{Scope}
 use Rattle.il_text.specs.declared.reserved.Reserved.TheVariants as word
@@ -43,9 +43,9 @@ tokens_of line (bad_literal ∷ ps) = Err (BadLiteral line)
 -- what the lines of a text make of it so far: where the next line stands, how many lines held an
 -- instruction, and the program
 pub record Reached : Type 0 where
-  pub place : Place
+  pub place : Stage
   pub instructions : ℕ
-  pub listing : Listing
+  pub listing : PlainProgram
 
 abbrev pub with_name : Reached → List ℕ → Reached
 with_name r n =
@@ -55,7 +55,7 @@ with_name r n =
       listing = record { name = n; declarations = r.listing.declarations; items = r.listing.items };
     }
 
-abbrev pub at_place : Place → Reached → Reached
+abbrev pub at_place : Stage → Reached → Reached
 at_place p r = record { place = p; instructions = r.instructions; listing = r.listing }
 
 abbrev pub declared_in : ℕ → Scope → Tail → List ℕ → Declared
@@ -101,7 +101,7 @@ abbrev pub block_or_body : ℕ → ℕ → Reached → List Symbol → Option Sc
 block_or_body line last r ts (Some scope) = Ok (at_place (place.Block scope) r)
 block_or_body line last r ts None = body_line line last r ts
 
-abbrev pub line_at : ℕ → ℕ → Reached → List Symbol → Place → Result Reached TextFault
+abbrev pub line_at : ℕ → ℕ → Reached → List Symbol → Stage → Result Reached TextFault
 line_at line last r ts place.Start = ok_or (option_map (with_name r) (header ts)) (BadLine line)
 line_at line last r ts place.Declarations = block_or_body line last r ts (opened ts)
 line_at line last r ts (place.Block scope) = block_line line scope r ts
@@ -114,7 +114,7 @@ after_line line last r [] = Ok r
 after_line line last r (t ∷ ts) = line_at line last r (t ∷ ts) r.place
 
 -- the text is whole after END_PROGRAM
-abbrev pub whole : ℕ → Listing → Place → Result Listing TextFault
+abbrev pub whole : ℕ → PlainProgram → Stage → Result PlainProgram TextFault
 whole last l place.Start = Err (BadLine last)
 whole last l place.Declarations = Err (BadLine last)
 whole last l (place.Block scope) = Err (BadLine last)
@@ -122,7 +122,7 @@ whole last l place.Body = Err (BadLine last)
 whole last l place.Finished = Ok l
 
 -- the program that lines make after others, the first of them at this number: its first faulty line decides
-unfoldable pub reading : ℕ → Reached → ℕ → List (List Piece) → Result Listing TextFault
+unfoldable pub reading : ℕ → Reached → ℕ → List (List Piece) → Result PlainProgram TextFault
 reading last r line [] = whole last r.listing r.place
 reading last r line (l ∷ ls) =
     then_on (tokens_of line l) (λ ts. then_on (after_line line last r ts) (λ s. reading last s (line + 1) ls))
@@ -131,5 +131,5 @@ abbrev pub nothing_read : Reached
 nothing_read = record { place = place.Start; instructions = 0; listing = record { name = []; declarations = []; items = [] } }
 
 -- the program of a text, or its fault
-unfoldable pub program_of : List ℕ → Result Listing TextFault
+unfoldable pub program_of : List ℕ → Result PlainProgram TextFault
 program_of text = reading (last_line text) nothing_read 1 (lines (cut false text))

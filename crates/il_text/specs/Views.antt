@@ -1,6 +1,6 @@
 -- The plain data that a program of the code stands for.
 use Rattle.std.specs.Prelude.{map}
-use Rattle.il_text.specs.Listing.{Source, constant, variable, Action, load, store, combine, Entry, action, block, entries_of, Declared, Listing}
+use Rattle.il_text.specs.Listing.{Source, constant, variable, Action, load, store, combine, Entry, action, block, entries_of, Declared, PlainProgram}
 use Rattle.il_text.specs.declared.program.Operand.{Operand}
 use Rattle.il_text.specs.declared.program.Operand.TheVariants.{Literal, Name}
 use Rattle.il_text.specs.declared.program.Instruction.{Instruction}
@@ -30,5 +30,5 @@ entry_of = fold-Item Entry entry_step
 abbrev pub declared_of : Declaration → Declared
 declared_of d = record { line = d.line; scope = d.scope; name = d.name.now; kind = d.kind; initial = d.initial }
 
-abbrev pub listing_of : Program → Listing
-listing_of p = record { name = p.name.now; declarations = map declared_of p.declarations.items; items = map entry_of p.items.items }
+abbrev pub plain_program : Program → PlainProgram
+plain_program p = record { name = p.name.now; declarations = map declared_of p.declarations.items; items = map entry_of p.items.items }

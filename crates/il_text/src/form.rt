@@ -13,7 +13,7 @@ use bay_base::types::ElementaryType;
 
 /// What the lines before a line make of the text.
 #[derive(Clone, Copy, Debug, PartialEq, Eq)]
-pub(crate) enum Place {
+pub(crate) enum Stage {
     /// Before the line of PROGRAM.
     Start,
     /// Between the declaration blocks.

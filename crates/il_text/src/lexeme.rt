@@ -22,7 +22,7 @@ pub(crate) enum Lexeme<'a> {
 /// The longest name, in characters.
 const MAX_NAME: usize = 64;
 
-fn judged<'a>(judged: Judged) -> Lexeme<'a>
+fn literal_lexeme<'a>(judged: Judged) -> Lexeme<'a>
     ensures { piece_of result ≡ spec.judged_piece judged }
 {
     match judged {
@@ -59,12 +59,12 @@ fn word_lexeme(word: &str) -> Lexeme<'_>
     ensures { piece_of result ≡ spec.word word.now }
 {
     if let Some((before, after)) = halves(word) {
-        return judged(prefixed(before, after));
+        return literal_lexeme(prefixed(before, after));
     }
     if begins_name(byte_at(word.as_bytes(), 0)) {
         plain_word(word)
     } else {
-        judged(untyped(decimal(word.as_bytes())))
+        literal_lexeme(untyped(decimal(word.as_bytes())))
     }
 }
 

@@ -12,7 +12,7 @@ ghost use Rattle.il_text.specs.declared.fault.TextFault.TheVariants.{BadLine, Ou
 
 use crate::fault::TextFault;
 use crate::form::{
-    Place, Tail, colon_at, declared_tail, header, instruction, is_alone, is_mark, name_of,
+    Stage, Tail, colon_at, declared_tail, header, instruction, is_alone, is_mark, name_of,
     opened_block,
 };
 use crate::program::{Declaration, Item, Scope};
@@ -25,8 +25,8 @@ const MAX_INSTRUCTIONS: usize = 4_000;
 
 /// What has been read of a program, and where in it the next line stands.
 #[derive(Drop)]
-pub(crate) struct Listing<'a> {
-    pub(crate) place: Place,
+pub(crate) struct Draft<'a> {
+    pub(crate) place: Stage,
     /// How many lines held an instruction.
     pub(crate) instructions: usize,
     pub(crate) name: &'a str,
@@ -41,12 +41,12 @@ pub(crate) struct Position {
     pub(crate) last: usize,
 }
 
-impl<'a> Listing<'a> {
+impl<'a> Draft<'a> {
     pub(crate) fn new(alloc: Global) -> Self
         ensures { reached_of result ≡ spec.nothing_read }
     {
-        Listing {
-            place: Place::Start,
+        Draft {
+            place: Stage::Start,
             instructions: 0,
             name: "",
             declarations: Vec::new(alloc),
@@ -69,17 +69,17 @@ impl<'a> Listing<'a> {
             return Ok(());
         }
         match self.place {
-            Place::Start => self.take_header(tokens, line),
-            Place::Declarations => match opened_block(tokens) {
+            Stage::Start => self.take_header(tokens, line),
+            Stage::Declarations => match opened_block(tokens) {
                 Some(scope) => {
-                    self.place = Place::Block(scope);
+                    self.place = Stage::Block(scope);
                     Ok(())
                 }
                 None => self.take_body_line(tokens, position),
             },
-            Place::Block(scope) => self.take_block_line(tokens, scope, line),
-            Place::Body => self.take_body_line(tokens, position),
-            Place::Finished => Err(TextFault::BadLine { line }),
+            Stage::Block(scope) => self.take_block_line(tokens, scope, line),
+            Stage::Body => self.take_body_line(tokens, position),
+            Stage::Finished => Err(TextFault::BadLine { line }),
         }
     }
 
@@ -91,7 +91,7 @@ impl<'a> Listing<'a> {
             return Err(TextFault::BadLine { line });
         };
         self.name = name;
-        self.place = Place::Declarations;
+        self.place = Stage::Declarations;
         Ok(())
     }
 
@@ -106,7 +106,7 @@ impl<'a> Listing<'a> {
         ensures refused { IfErr result (λ e. e ≢ OutOfMemory → spec.block_line line scope (reached_of self.old) (symbols_of tokens.now) ≡ Err e) }
     {
         if is_alone(tokens, Reserved::EndVar) {
-            self.place = Place::Declarations;
+            self.place = Stage::Declarations;
             return Ok(());
         }
         let colon = colon_at(tokens);
@@ -130,7 +130,7 @@ impl<'a> Listing<'a> {
     {
         let line = position.line;
         if is_alone(tokens, Reserved::EndProgram) {
-            self.place = Place::Finished;
+            self.place = Stage::Finished;
             return Ok(());
         }
         let Some(instruction) = instruction(tokens) else {
@@ -141,7 +141,7 @@ impl<'a> Listing<'a> {
         }
         self.items.push(Item::Instruction { line, instruction })?;
         self.instructions += 1;
-        self.place = Place::Body;
+        self.place = Stage::Body;
         Ok(())
     }
 }

@@ -99,7 +99,7 @@ fn integer(word: &str) -> Option<(bool, u64)>
 }
 
 fn judge(number: Option<(bool, u64)>, below: u64, above: u64) -> Judged
-    ensures { result ≡ spec.judged below above number }
+    ensures { result ≡ spec.within_range below above number }
 {
     match number {
         None => Judged::Malformed,

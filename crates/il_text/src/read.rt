@@ -3,14 +3,14 @@ ghost use Rattle.std.specs.Prelude.{◌≡◌, ◌≢◌, ◌<◌, ◌≤◌, �
 ghost use Rattle.il_text.specs.ListingViews.{reached_of};
 ghost use Rattle.il_text.specs.Pieces.{opens as starts_comment};
 ghost use Rattle.il_text.specs.Reading.{program_of};
-ghost use Rattle.il_text.specs.Views.{listing_of};
+ghost use Rattle.il_text.specs.Views.{plain_program};
 ghost use Rattle.il_text.specs.declared.fault.TextFault.TheVariants.{OutOfMemory};
 ghost use Rattle.il_text.specs.Places.{last_line};
 
 use crate::fault::TextFault;
-use crate::form::Place;
+use crate::form::Stage;
 use crate::lexeme::{Lexeme, lexeme_at};
-use crate::listing::{Listing, Position};
+use crate::listing::{Draft, Position};
 use crate::piece::{closes, ends, opens, piece_end};
 use crate::program::Program;
 use crate::token::Token;
@@ -26,7 +26,7 @@ struct Reader<'a> {
     in_comment: bool,
     /// The tokens of the line so far.
     tokens: Vec<Token<'a>>,
-    listing: Listing<'a>,
+    listing: Draft<'a>,
     ghost within: { at ≤ length text.now },
     ghost line_within: { line ≤ at + 1 },
 }
@@ -35,7 +35,7 @@ struct Reader<'a> {
 /// is the refusal; within a line a bad token or literal comes before a bad line, and the leftmost of
 /// those before the others. A text that ends early is a bad line at its last line.
 pub fn read_program<'a>(alloc: Global, text: &'a str) -> Result<Program<'a>, TextFault>
-    ensures ok { IfOk result (λ program. program_of text.now ≡ Ok (listing_of program)) }
+    ensures ok { IfOk result (λ program. program_of text.now ≡ Ok (plain_program program)) }
     ensures refused { IfErr result (λ fault. fault ≢ OutOfMemory → program_of text.now ≡ Err fault) }
 {
     let mut reader = Reader {
@@ -45,7 +45,7 @@ pub fn read_program<'a>(alloc: Global, text: &'a str) -> Result<Program<'a>, Tex
         last: last_line_of(text),
         in_comment: false,
         tokens: Vec::new(alloc),
-        listing: Listing::new(alloc),
+        listing: Draft::new(alloc),
     };
     while reader.at < text.len() {
         reader.step()?;
@@ -60,7 +60,7 @@ pub fn read_program<'a>(alloc: Global, text: &'a str) -> Result<Program<'a>, Tex
         tokens: _,
         listing,
     } = reader;
-    let Listing {
+    let Draft {
         place: _,
         instructions: _,
         name,
@@ -212,7 +212,7 @@ impl<'a> Reader<'a> {
         };
         self.listing.take_line(self.tokens.as_slice(), position)?;
         match self.listing.place {
-            Place::Finished => Ok(()),
+            Stage::Finished => Ok(()),
             _ => Err(TextFault::BadLine { line: self.last }),
         }
     }

@@ -1,7 +1,9 @@
-// Tests of the language's crates, by their public calls: `text` of il_text, `check` of il_check.
+// Tests of the language's crates, by their public calls: `text` of il_text, `check` of il_check, `image` of il_image.
 #![tactic(auto)]
 
 #[cfg(test)]
 mod check;
+#[cfg(test)]
+mod image;
 #[cfg(test)]
 mod text;

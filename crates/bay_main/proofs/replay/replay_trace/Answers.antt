@@ -31,9 +31,10 @@ returns-in_err-finish-2 g c =
 
 pub returns-then-answer : goal.returns-then-answer
 returns-then-answer g c =
-    let said = c.as_bytes.ensures.value ∙ c.in-Ok.ensures.text in
-    (Progress-fault _ _ _ _ _ _ _ _ _ _ (lines-cut _ _ _ c.cut_line.ensures.cuts) c.loop-rest.invariant.progress (sym c.in-Ok.ensures.last ∙ c.if-answer.true) (Appends-as _ _ _ _ _ said c.in_ok-finish-2.ensures.ok),
-    (sym c.in_ok-finish-2.ensures.fault, c.in_ok-finish-2.ensures.flushed))
+    let said = c.as_bytes.ensures.value ∙ c.in-Ok.ensures.text in (
+      Progress-fault _ _ _ _ _ _ _ _ _ _ (lines-cut _ _ _ c.cut_line.ensures.cuts) c.loop-rest.invariant.progress (sym c.in-Ok.ensures.last ∙ c.if-answer.true) (Appends-as _ _ _ _ _ said c.in_ok-finish-2.ensures.ok),
+      (sym c.in_ok-finish-2.ensures.fault, c.in_ok-finish-2.ensures.flushed),
+    )
 
 pub returns-in_err-put-2 : goal.returns-in_err-put-2
 returns-in_err-put-2 g c =

@@ -1,4 +1,4 @@
-use Rattle.std.proofs.Common.{◌≡◌, ◌+◌, ◌≤◌, false, length}
+use Rattle.std.proofs.Common.{◌+◌, ◌≤◌, length}
 use Rattle.bay_main.specs.Report.{DeviceReport}
 use Rattle.bay_main.specs.Scenario.{lines_of}
 use Rattle.bay_main.proofs.ReportLemmas.{Progress}

@@ -7,5 +7,7 @@ use Rattle.bay_transport.proofs.request.respond.Goals as goal
 pub confirm-requires : goal.confirm-requires
 confirm-requires c =
     let octets = c.args.parameters.now in
-    let h : length (answered c.in_ok-power.power (option_copied c.in_ok-called.called) (option_copied c.in_ok-calling.calling)) ≤ length octets = answered_within octets (parameters_of octets) (option_copied c.in_ok-proposed.proposed) (option_copied c.in_ok-called.called) (option_copied c.in_ok-calling.calling) c.in_ok-power.power c.in_ok-power.size refl c.in_ok-proposed.ensures.ok c.in_ok-called.ensures.ok c.in_ok-calling.ensures.ok c.in_ok-power.ensures.ok in
+    let values = c.in_ok-values.values in
+    let found = c.in_ok-values.ensures.ok in
+    let h : length (answered c.in_ok-power.power (option_copied values.called) (option_copied values.calling)) ≤ length octets = answered_within octets (parameters_of octets) (option_copied values.size) (option_copied values.called) (option_copied values.calling) c.in_ok-power.power c.in_ok-power.size refl found.size found.called found.calling c.in_ok-power.ensures.ok in
     omega arith

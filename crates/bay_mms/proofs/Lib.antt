@@ -1,0 +1,5 @@
+pub mod DataLemmas
+pub mod LawLemmas
+pub mod NodeLemmas
+pub mod PutLemmas
+pub mod ResponseLemmas

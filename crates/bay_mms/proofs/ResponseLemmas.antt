@@ -1,0 +1,71 @@
+-- Texts, one behind another.
+use Rattle.std.proofs.Common.{◌≡◌, ℕ, ◌+◌, ◌≤◌, List, [], ◌++◌, length, take, drop, Result, Ok, Err, refl, sym, ap, ◌∙◌, arith}
+use Rattle.std.proofs.lemmas.List.{append-nil, append_assoc, length-append, take_at, drop_at}
+use Rattle.bay_mms.specs.declared.fault.WriteFault.{WriteFault}
+use Rattle.bay_mms.specs.Writing.{IsFaultOf, Adds, Appends}
+use Rattle.bay_ber.specs.declared.tag.Tag.{Tag}
+use Rattle.bay_ber.specs.Writing.{element}
+use Rattle.bay_mms.proofs.PutLemmas.{part_fault, around_over}
+
+-- What was written since a front, and what remains to be written, are the whole.
+pub record Remains (front writer rest whole : List ℕ) : Type 0 where
+  pub is : writer ++ rest ≡ front ++ whole
+  pub grown : length front ≤ length writer
+
+pub remains_first : (front whole : List ℕ) → Remains front front whole whole
+remains_first front whole = record { is = refl; grown = omega arith }
+
+pub remains_more : (front writer new one rest later whole : List ℕ) → rest ≡ one ++ later → new ≡ writer ++ one → Remains front writer rest whole → Remains front new later whole
+remains_more front writer new one rest later whole split added r =
+    let g = r.grown in
+    record { is = ap (λ (ys : List ℕ). ys ++ later) added ∙ append_assoc writer one later ∙ ap (λ (ys : List ℕ). writer ++ ys) (sym split) ∙ r.is; grown = rw added (omega (arith, length-append writer one)) }
+
+pub remains_end : (front writer whole : List ℕ) → Remains front writer [] whole → writer ≡ front ++ whole
+remains_end front writer whole r = sym (append-nil writer) ∙ r.is
+
+pub remains_fault : (fault : WriteFault) (front writer one rest later whole : List ℕ) → rest ≡ one ++ later → Remains front writer rest whole → IsFaultOf fault one → IsFaultOf fault whole
+remains_fault fault front writer one rest later whole split r f =
+    part_fault fault one whole (λ over.
+    let g = r.grown in
+    let a : length rest ≡ length one + length later = ap length split ∙ length-append one later in
+    let b : length writer + length rest ≡ length front + length whole = sym (length-append writer rest) ∙ ap length r.is ∙ length-append front whole in
+    omega arith) f
+
+-- the last of several texts
+pub adds_last : (old middle new front one : List ℕ) (r : Result (Unit {0}) WriteFault) → middle ≡ old ++ front → Appends middle r new one → Adds old r new (front ++ one)
+adds_last old middle new front one (Ok done) is a = a.0 ∙ ap (λ (ys : List ℕ). ys ++ one) is ∙ append_assoc old front one
+adds_last old middle new front one (Err fault) is a = part_fault fault one (front ++ one) (λ over. omega (arith, length-append front one)) a
+
+pub fault_left : (fault : WriteFault) (one later : List ℕ) → IsFaultOf fault one → IsFaultOf fault (one ++ later)
+fault_left fault one later f = part_fault fault one (one ++ later) (λ over. omega (arith, length-append one later)) f
+
+pub fault_right : (fault : WriteFault) (front one : List ℕ) → IsFaultOf fault one → IsFaultOf fault (front ++ one)
+fault_right fault front one f = part_fault fault one (front ++ one) (λ over. omega (arith, length-append front one)) f
+
+pub around_fault : (fault : WriteFault) (tag : Tag) (content : List ℕ) → IsFaultOf fault content → IsFaultOf fault (element tag content)
+around_fault fault tag content f = part_fault fault content (element tag content) (λ over. around_over tag content over) f
+
+pub last_fault : (fault : WriteFault) (tag : Tag) (front one : List ℕ) → IsFaultOf fault one → IsFaultOf fault (element tag (front ++ one))
+last_fault fault tag front one f = around_fault fault tag (front ++ one) (fault_right fault front one f)
+
+-- what is behind two places
+pub placed : (start inner : ℕ) (front one two first second : List ℕ) → start ≡ length front → inner ≡ length one → one ≡ front ++ first → two ≡ one ++ second
+    → (take start two ≡ front) × (drop start (take inner two) ≡ first) × (drop inner two ≡ second)
+placed start inner front one two first second s i o t =
+    let all : two ≡ front ++ (first ++ second) = t ∙ ap (λ (ys : List ℕ). ys ++ second) o ∙ append_assoc front first second in
+    let b : take inner two ≡ one = ap (take inner) t ∙ take_at one second inner (sym i) in
+    (ap (take start) all ∙ take_at front (first ++ second) start (sym s), ap (drop start) (b ∙ o) ∙ drop_at front first start (sym s), ap (drop inner) t ∙ drop_at one second inner (sym i))
+
+-- what is behind one place
+pub behind : (start : ℕ) (front one two first second : List ℕ) → start ≡ length front → one ≡ front ++ first → two ≡ one ++ second → (take start two ≡ front) × (drop start two ≡ first ++ second)
+behind start front one two first second s o t =
+    let all : two ≡ front ++ (first ++ second) = t ∙ ap (λ (ys : List ℕ). ys ++ second) o ∙ append_assoc front first second in
+    (ap (take start) all ∙ take_at front (first ++ second) start (sym s), ap (drop start) all ∙ drop_at front (first ++ second) start (sym s))
+
+-- what is behind a place, once its last part has a tag around it
+pub wrapped : (start inner : ℕ) (tag : Tag) (front one two three first second : List ℕ) → start ≡ length front → inner ≡ length one → one ≡ front ++ first → two ≡ one ++ second → three ≡ take inner two ++ element tag (drop inner two)
+    → (take start three ≡ front) × (drop start three ≡ first ++ element tag second)
+wrapped start inner tag front one two three first second s i o t u =
+    let a : take inner two ≡ one = ap (take inner) t ∙ take_at one second inner (sym i) in
+    let b : drop inner two ≡ second = ap (drop inner) t ∙ drop_at one second inner (sym i) in
+    behind start front one three first (element tag second) s o (u ∙ ap (λ (ys : List ℕ). ys ++ element tag (drop inner two)) a ∙ ap (λ (ys : List ℕ). one ++ element tag ys) b)

@@ -1,0 +1,8 @@
+use Rattle.bay_mms.proofs.LawLemmas.{datum_spells, response_spells}
+use Rattle.bay_mms.proofs.laws.written_is_read.Goals as goal
+
+pub returns-clause-datum : goal.returns-clause-datum
+returns-clause-datum c = datum_spells
+
+pub returns-clause-response : goal.returns-clause-response
+returns-clause-response c = response_spells

@@ -1,0 +1,43 @@
+-- What stands in texts.
+use Rattle.std.specs.Prelude.{ℕ, List}
+use Rattle.bay_ber.specs.declared.tag.Tag.{Tag}
+use Rattle.bay_ber.specs.Spelling.{Spells}
+use Rattle.bay_ber.specs.Writing.{truth_octets, integer_octets, bit_string_octets}
+use Rattle.bay_mms.specs.declared.response.Response.{Response}
+use Rattle.bay_mms.specs.declared.response.Response.TheVariants as response
+use Rattle.bay_mms.specs.Tags.{context, constructed}
+use Rattle.bay_mms.specs.Data.{Datum, structure, truth, bits, integer, unsigned, octets, text, utc, data_text}
+
+-- the tag of data (ISO 9506-2, Data), and what stands under it
+abbrev pub datum_tag : Datum → Tag
+datum_tag (structure parts) = constructed 2
+datum_tag (truth value) = context 3
+datum_tag (bits value count) = context 4
+datum_tag (integer value) = context 5
+datum_tag (unsigned value) = context 6
+datum_tag (octets value) = context 9
+datum_tag (text value) = context 10
+datum_tag (utc value) = context 17
+
+abbrev pub datum_content : Datum → List ℕ
+datum_content (structure parts) = data_text parts
+datum_content (truth value) = truth_octets value
+datum_content (bits value count) = bit_string_octets value count
+datum_content (integer value) = integer_octets value
+datum_content (unsigned value) = integer_octets value
+datum_content (octets value) = value
+datum_content (text value) = value
+datum_content (utc value) = value
+
+-- the tag of a response's PDU (ISO 9506-2, MMSpdu)
+abbrev pub response_tag : Response → Tag
+response_tag (response.Initiate agreed) = constructed 9
+response_tag response.Conclude = context 12
+response_tag (response.Confirmed id service) = constructed 1
+response_tag (response.Error id class) = constructed 2
+response_tag (response.Reject id reason) = constructed 4
+
+-- The list is one value under the tag.
+pub record IsRead (list : List ℕ) (tag : Tag) : Type 0 where
+  pub content : List ℕ
+  pub spelled : Spells list tag content

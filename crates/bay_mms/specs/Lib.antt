@@ -1,0 +1,9 @@
+pub mod Data
+pub mod Laws
+pub mod Nodes
+pub mod Responses
+pub mod Tags
+pub mod Types
+pub mod Utc
+pub mod Views
+pub mod Writing

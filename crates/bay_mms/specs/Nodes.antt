@@ -1,0 +1,61 @@
+-- What stands below a row of the tree: a leaf's value, or the structure of the rows that are named by the row's name, `$` and
+-- one word, in order.
+use Rattle.std.specs.Prelude.{ℕ, ◌+◌, Option, Some, None, List, [], ◌∷◌, drop, if◌then◌else◌}
+use Rattle.bay_tree.specs.declared.row.Row.{Row}
+use Rattle.bay_tree.specs.declared.leaf.Leaf.{Leaf}
+use Rattle.bay_tree.specs.Names.{word_of, is_below}
+use Rattle.bay_tree.specs.Rows.{name_at, leaf_at}
+use Rattle.bay_mms.specs.Data as mms
+use Rattle.bay_mms.specs.Data.{Datum, Data, leaf_datum}
+use Rattle.bay_mms.specs.Types as types
+use Rattle.bay_mms.specs.Types.{TypeSpec, Components, leaf_type}
+
+mutual
+  pub data Node : Type 0 where
+    value : Leaf → Node
+    structure : Nodes → Node
+
+  pub data Nodes : Type 0 where
+    no_nodes : Nodes
+    node : List ℕ → Node → Nodes → Nodes
+
+abbrev pub node_of : Option Leaf → Nodes → Node
+node_of (Some leaf) parts = value leaf
+node_of None parts = structure parts
+
+-- The nodes of the rows in a list that are below a name, in order. A structure's rows stand behind it.
+abbrev pub nodes_in : List ℕ → List Row → Nodes
+nodes_in parent [] = no_nodes
+nodes_in parent (row ∷ later) =
+    if is_below parent row.name then node (word_of row.name) (node_of row.leaf (nodes_in row.name later)) (nodes_in parent later) else nodes_in parent later
+
+-- the node of the row at a place
+abbrev pub node_at : List Row → ℕ → Node
+node_at rows place = node_of (leaf_at rows place) (nodes_in (name_at rows place) (drop (place + 1) rows))
+
+-- ---- its data and its type
+
+abbrev mutual
+  pub node_datum : Node → Datum
+  node_datum (value leaf) = leaf_datum leaf
+  node_datum (structure parts) = mms.structure (nodes_data parts)
+
+  pub nodes_data : Nodes → Data
+  nodes_data no_nodes = mms.no_data
+  nodes_data (node name first later) = mms.datum (node_datum first) (nodes_data later)
+
+abbrev mutual
+  pub node_type : Node → TypeSpec
+  node_type (value leaf) = leaf_type leaf
+  node_type (structure parts) = types.structure (nodes_types parts)
+
+  pub nodes_types : Nodes → Components
+  nodes_types no_nodes = types.no_components
+  nodes_types (node name first later) = types.component name (node_type first) (nodes_types later)
+
+-- the data and the type of the row at a place
+abbrev pub data_at : List Row → ℕ → Datum
+data_at rows place = node_datum (node_at rows place)
+
+abbrev pub type_at : List Row → ℕ → TypeSpec
+type_at rows place = node_type (node_at rows place)

@@ -1,0 +1,147 @@
+-- The canonical texts of responses (ISO 9506-2).
+use Rattle.std.specs.Prelude.{ℕ, ℤ, pos, ◌*◌, ◌/◌, false, Option, Some, None, List, [], ◌∷◌, ◌++◌, All}
+use Rattle.bay_ber.specs.declared.tag.Tag.{Tag}
+use Rattle.bay_ber.specs.declared.tag.Class.TheVariants.{Universal}
+use Rattle.bay_ber.specs.Writing.{element, integer_octets, truth_octets, bit_string_octets}
+use Rattle.bay_tree.specs.declared.row.Row.{Row}
+use Rattle.bay_tree.specs.Rows.{IsHandle}
+use Rattle.bay_mms.specs.declared.response.Response.{Response}
+use Rattle.bay_mms.specs.declared.response.Response.TheVariants as response
+use Rattle.bay_mms.specs.declared.response.Agreed.{Agreed}
+use Rattle.bay_mms.specs.declared.response.Service.{Service}
+use Rattle.bay_mms.specs.declared.response.Service.TheVariants as service
+use Rattle.bay_mms.specs.declared.response.ReadResult.{ReadResult}
+use Rattle.bay_mms.specs.declared.response.ReadResult.TheVariants as read
+use Rattle.bay_mms.specs.declared.response.WriteResult.{WriteResult}
+use Rattle.bay_mms.specs.declared.response.WriteResult.TheVariants as wrote
+use Rattle.bay_mms.specs.declared.response.ErrorClass.{ErrorClass}
+use Rattle.bay_mms.specs.declared.response.ErrorClass.TheVariants as error
+use Rattle.bay_mms.specs.declared.response.RejectReason.{RejectReason}
+use Rattle.bay_mms.specs.declared.response.RejectReason.TheVariants as reject
+use Rattle.bay_mms.specs.Tags.{context, constructed}
+use Rattle.bay_mms.specs.Data.{datum_text}
+use Rattle.bay_mms.specs.Types.{type_text}
+use Rattle.bay_mms.specs.Nodes.{data_at, type_at}
+
+-- universal tags: an integer, and a visible string
+abbrev pub int_tag : Tag
+int_tag = record { class = Universal; constructed = false; number = 2 }
+
+abbrev pub visible_tag : Tag
+visible_tag = record { class = Universal; constructed = false; number = 26 }
+
+-- a confirmed response: the invoke id and the service
+abbrev pub confirmed : ℕ → List ℕ → List ℕ
+confirmed id service = element (constructed 1) (element int_tag (integer_octets (pos id)) ++ service)
+
+abbrev pub identity_text : List ℕ → List ℕ → List ℕ → List ℕ
+identity_text vendor model revision = element (context 0) vendor ++ (element (context 1) model ++ element (context 2) revision)
+
+abbrev pub names_text : List (List ℕ) → List ℕ
+names_text [] = []
+names_text (name ∷ names) = element visible_tag name ++ names_text names
+
+-- what is read: the data, a text in its place, or an error
+abbrev pub read_text : List Row → ReadResult → List ℕ
+read_text rows (read.Value handle) = datum_text (data_at rows handle)
+read_text rows (read.Reference value) = element (context 10) value
+read_text rows (read.Failure cause) = element (context 0) (integer_octets (pos cause))
+
+abbrev pub reads_text : List Row → List ReadResult → List ℕ
+reads_text rows [] = []
+reads_text rows (first ∷ later) = read_text rows first ++ reads_text rows later
+
+abbrev pub wrote_text : WriteResult → List ℕ
+wrote_text wrote.Success = element (context 1) []
+wrote_text (wrote.Failure cause) = element (context 0) (integer_octets (pos cause))
+
+abbrev pub writes_text : List WriteResult → List ℕ
+writes_text [] = []
+writes_text (first ∷ later) = wrote_text first ++ writes_text later
+
+-- no such object is 2 of the class access, another want of resources 0 of the class resource
+abbrev pub class_text : ErrorClass → List ℕ
+class_text error.NoSuchObject = element (context 7) (integer_octets (pos 2))
+class_text error.Resource = element (context 3) (integer_octets (pos 0))
+
+abbrev pub error_text : ℕ → ErrorClass → List ℕ
+error_text id class = element (constructed 2) (element (context 0) (integer_octets (pos id)) ++ element (constructed 2) (element (constructed 0) (class_text class)))
+
+abbrev pub id_text : Option ℕ → List ℕ
+id_text None = []
+id_text (Some id) = element (context 0) (integer_octets (pos id))
+
+abbrev pub reason_text : RejectReason → List ℕ
+reason_text reject.UnrecognizedService = element (context 1) (integer_octets (pos 1))
+reason_text reject.InvalidPdu = element (context 5) (integer_octets (pos 1))
+
+-- the number of a service's tag, and what stands under it
+abbrev pub service_number : Service → ℕ
+service_number (service.Identify vendor model revision) = 2
+service_number (service.Names names more) = 1
+service_number (service.Attributes tree handle) = 6
+service_number (service.Read tree results) = 4
+service_number (service.Write results) = 5
+
+abbrev pub content_text : Service → List ℕ
+content_text (service.Identify vendor model revision) = identity_text vendor.now model.now revision.now
+content_text (service.Names names more) = element (constructed 0) (names_text names.now) ++ element (context 1) (truth_octets more)
+content_text (service.Attributes tree handle) = element (context 0) (truth_octets false) ++ element (constructed 2) (type_text (type_at tree.now handle))
+content_text (service.Read tree results) = element (constructed 1) (reads_text tree.now results.now)
+content_text (service.Write results) = writes_text results.now
+
+abbrev pub service_text : Service → List ℕ
+service_text s = element (constructed (service_number s)) (content_text s)
+
+-- ---- an initiate's answer
+
+abbrev pub nesting_text : Option ℤ → List ℕ
+nesting_text None = []
+nesting_text (Some nesting) = element (context 3) (integer_octets nesting)
+
+abbrev pub limits_text : Agreed → List ℕ
+limits_text a = element (context 0) (integer_octets (pos a.size)) ++ (element (context 1) (integer_octets (pos a.calling)) ++ (element (context 2) (integer_octets (pos a.called)) ++ nesting_text a.nesting))
+
+-- the first three parameter conformance blocks, of eleven
+abbrev pub parameters_text : ℕ → List ℕ
+parameters_text parameters = element (context 1) (bit_string_octets (parameters / 32 * 32 ∷ 0 ∷ []) 11)
+
+-- of 85 services those that are offered: getNameList, identify, read, write, getVariableAccessAttributes, informationReport and
+-- conclude (ISO 9506-2, ServiceSupportOptions)
+abbrev pub services_text : List ℕ
+services_text = element (context 2) (bit_string_octets (0x6E ∷ 0 ∷ 0 ∷ 0 ∷ 0 ∷ 0 ∷ 0 ∷ 0 ∷ 0 ∷ 0x01 ∷ 0x10 ∷ []) 85)
+
+-- the version 1, the parameters and the services
+abbrev pub detail_text : ℕ → List ℕ
+detail_text parameters = element (context 0) (integer_octets (pos 1)) ++ (parameters_text parameters ++ services_text)
+
+abbrev pub agreed_text : Agreed → List ℕ
+agreed_text a = element (constructed 9) (limits_text a ++ element (constructed 4) (detail_text a.parameters))
+
+-- the response
+abbrev pub response_text : Response → List ℕ
+response_text (response.Initiate agreed) = agreed_text agreed
+response_text response.Conclude = element (context 12) []
+response_text (response.Confirmed id s) = confirmed id (service_text s)
+response_text (response.Error id class) = error_text id class
+response_text (response.Reject id reason) = element (constructed 4) (id_text id ++ reason_text reason)
+
+-- The handles are the tree's.
+abbrev pub IsReadOf : List Row → ReadResult → Type 0
+IsReadOf rows (read.Value handle) = IsHandle rows handle
+IsReadOf rows (read.Reference value) = Unit {0}
+IsReadOf rows (read.Failure cause) = Unit {0}
+
+abbrev pub IsOfTree : Service → Type 0
+IsOfTree (service.Identify vendor model revision) = Unit {0}
+IsOfTree (service.Names names more) = Unit {0}
+IsOfTree (service.Attributes tree handle) = IsHandle tree.now handle
+IsOfTree (service.Read tree results) = All (IsReadOf tree.now) results.now
+IsOfTree (service.Write results) = Unit {0}
+
+abbrev pub IsAnswerable : Response → Type 0
+IsAnswerable (response.Initiate agreed) = Unit {0}
+IsAnswerable response.Conclude = Unit {0}
+IsAnswerable (response.Confirmed id s) = IsOfTree s
+IsAnswerable (response.Error id class) = Unit {0}
+IsAnswerable (response.Reject id reason) = Unit {0}

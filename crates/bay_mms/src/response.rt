@@ -1,0 +1,416 @@
+// Responses, and their canonical texts.
+ghost use Rattle.std.specs.Prelude.{◌≡◌, ◌≤◌, ◌<◌, ◌++◌, false, length, take, drop, pos, All, OnOk};
+ghost use Rattle.bay_base.specs.Exact.{Gives};
+ghost use Rattle.bay_ber.specs.Writing.{element, integer_octets, truth_octets};
+ghost use Rattle.bay_tree.specs.Rows.{IsHandle};
+ghost use Rattle.bay_mms.specs.Tags.{context, constructed};
+ghost use Rattle.bay_mms.specs.Types.{type_text};
+ghost use Rattle.bay_mms.specs.Nodes.{type_at};
+ghost use Rattle.bay_mms.specs.Responses.{nesting_text, parameters_text, services_text, limits_text, detail_text, agreed_text, int_tag, confirmed, error_text, identity_text, names_text, read_text, reads_text, wrote_text, writes_text, class_text, id_text, reason_text, service_number, content_text, service_text, response_text, IsReadOf, IsOfTree, IsAnswerable};
+ghost use Rattle.bay_mms.specs.Writing.{Adds, Appends, written};
+
+use crate::fault::WriteFault;
+use crate::put::{put_around, put_integer, put_octets, put_truth};
+use crate::value::{put_type, put_value};
+use bay_base::text::Text;
+use bay_ber::content::Bits;
+use bay_ber::tag::Tag;
+use bay_ber::writer::Writer;
+use bay_tree::tree::{Handle, Tree};
+use std::alloc::{AllocError, Global};
+
+/// What is read of one variable (ISO 9506-2, AccessResult).
+#[derive(Drop)]
+pub enum ReadResult {
+    /// The data of a row.
+    Value(Handle),
+    /// A text in the place of the row's own.
+    Reference(Text),
+    /// The number of an error (ISO 9506-2, DataAccessError).
+    Failure(u8),
+}
+
+/// What comes of one write.
+#[derive(Clone, Copy)]
+pub enum WriteResult {
+    /// The value was written.
+    Success,
+    /// The number of an error (ISO 9506-2, DataAccessError).
+    Failure(u8),
+}
+
+/// Why a request is answered with an error (ISO 9506-2, ServiceError).
+#[derive(Clone, Copy)]
+pub enum ErrorClass {
+    /// There is no such object: 2 of the class access.
+    NoSuchObject,
+    /// Resources are wanting: 0 of the class resource.
+    Resource,
+}
+
+/// Why a request is rejected (ISO 9506-2, RejectPDU).
+#[derive(Clone, Copy)]
+pub enum RejectReason {
+    /// The service of a confirmed request is not known.
+    UnrecognizedService,
+    /// The request is no PDU that is read here.
+    InvalidPdu,
+}
+
+/// What answers a confirmed request.
+#[derive(Clone, Copy)]
+pub enum Service<'a> {
+    /// Who makes the device, which model it is, and of which revision.
+    Identify {
+        vendor: &'a str,
+        model: &'a str,
+        revision: &'a str,
+    },
+    /// Names, and whether more follow.
+    Names {
+        names: &'a [Text],
+        more: bool,
+    },
+    /// The type of a row.
+    Attributes {
+        tree: &'a Tree,
+        handle: Handle,
+    },
+    /// What is read of each variable, in order.
+    Read {
+        tree: &'a Tree,
+        results: &'a [ReadResult],
+    },
+    /// What comes of each write, in order.
+    Write {
+        results: &'a [WriteResult],
+    },
+}
+
+/// What is agreed of an association (ISO 9506-2, InitiateResponsePDU), in version 1 of the protocol.
+#[derive(Clone, Copy)]
+pub struct Agreed {
+    /// The octets of the largest PDU.
+    pub size: u32,
+    /// How many requests of the one who called may be outstanding, and how many of the one called.
+    pub calling: u32,
+    pub called: u32,
+    /// How deep data may nest, where it was proposed.
+    pub nesting: Option<i64>,
+    /// The first three parameter conformance blocks, in the three highest bits. The other bits are not looked at.
+    pub parameters: u8,
+}
+
+/// A response to a client.
+#[derive(Clone, Copy)]
+pub enum Response<'a> {
+    /// The answer to an initiate.
+    Initiate(Agreed),
+    /// The answer to a conclude.
+    Conclude,
+    /// The answer to a confirmed request of this invoke id.
+    Confirmed {
+        id: u32,
+        service: Service<'a>,
+    },
+    /// A confirmed error.
+    Error {
+        id: u32,
+        class: ErrorClass,
+    },
+    /// A reject, with the invoke id where it was read.
+    Reject {
+        id: Option<u32>,
+        reason: RejectReason,
+    },
+}
+
+// Makes a confirmed response of what was written since a place: the invoke id, and from the second place on the content of
+// the service of this number.
+fn put_confirmed_around(
+    writer: &mut Writer,
+    start: usize,
+    inner: usize,
+    service: u8,
+) -> Result<(), WriteFault>
+    requires start { start ≤ inner }
+    requires inner { inner ≤ length writer.old }
+    requires low { service < 31 }
+    ensures { Appends (take start writer.old) result writer.new (element (constructed 1) (drop start (take inner writer.old) ++ element (constructed service) (drop inner writer.old))) }
+{
+    put_around(writer, inner, Tag::context_constructed(service))?;
+    put_around(writer, start, Tag::context_constructed(1))
+}
+
+fn put_identity(
+    writer: &mut Writer,
+    vendor: &str,
+    model: &str,
+    revision: &str,
+) -> Result<(), WriteFault>
+    ensures { Adds writer.old result writer.new (identity_text vendor.now model.now revision.now) }
+{
+    put_octets(writer, Tag::context(0), vendor.as_bytes())?;
+    put_octets(writer, Tag::context(1), model.as_bytes())?;
+    put_octets(writer, Tag::context(2), revision.as_bytes())
+}
+
+fn put_names(writer: &mut Writer, names: &[Text]) -> Result<(), WriteFault>
+    ensures { Adds writer.old result writer.new (names_text names.now) }
+{
+    for name in names {
+        put_octets(writer, Tag::universal(26), name.as_str().as_bytes())?;
+    }
+    Ok(())
+}
+
+fn put_name_list(writer: &mut Writer, names: &[Text], more: bool) -> Result<(), WriteFault>
+    ensures { Adds writer.old result writer.new (element (constructed 0) (names_text names.now) ++ element (context 1) (truth_octets more)) }
+{
+    let start = writer.len();
+    put_names(writer, names)?;
+    put_around(writer, start, Tag::context_constructed(0))?;
+    put_truth(writer, 1, more)
+}
+
+fn put_attributes(writer: &mut Writer, tree: &Tree, handle: &Handle) -> Result<(), WriteFault>
+    requires { IsHandle tree.now handle.now }
+    ensures { Adds writer.old result writer.new (element (context 0) (truth_octets false) ++ element (constructed 2) (type_text (type_at tree.now handle.now))) }
+{
+    writer.boolean(Tag::context(0), false)?;
+    let start = writer.len();
+    put_type(writer, tree, *handle)?;
+    put_around(writer, start, Tag::context_constructed(2))
+}
+
+fn put_read(writer: &mut Writer, tree: &Tree, read: &ReadResult) -> Result<(), WriteFault>
+    requires { IsReadOf tree.now read.now }
+    ensures { Appends writer.old result writer.new (read_text tree.now read.now) }
+{
+    match read {
+        ReadResult::Value(handle) => put_value(writer, tree, *handle),
+        ReadResult::Reference(text) => {
+            put_octets(writer, Tag::context(10), text.as_str().as_bytes())
+        },
+        ReadResult::Failure(cause) => put_integer(writer, 0, i64::from(*cause)),
+    }
+}
+
+fn put_reads(writer: &mut Writer, tree: &Tree, results: &[ReadResult]) -> Result<(), WriteFault>
+    requires { All (IsReadOf tree.now) results.now }
+    ensures { Adds writer.old result writer.new (reads_text tree.now results.now) }
+{
+    for read in results {
+        put_read(writer, tree, read)?;
+    }
+    Ok(())
+}
+
+fn put_read_list(writer: &mut Writer, tree: &Tree, results: &[ReadResult]) -> Result<(), WriteFault>
+    requires { All (IsReadOf tree.now) results.now }
+    ensures { Adds writer.old result writer.new (element (constructed 1) (reads_text tree.now results.now)) }
+{
+    let start = writer.len();
+    put_reads(writer, tree, results)?;
+    put_around(writer, start, Tag::context_constructed(1))
+}
+
+fn put_write(writer: &mut Writer, wrote: WriteResult) -> Result<(), WriteFault>
+    ensures { Appends writer.old result writer.new (wrote_text wrote) }
+{
+    match wrote {
+        WriteResult::Success => put_octets(writer, Tag::context(1), &[]),
+        WriteResult::Failure(cause) => put_integer(writer, 0, i64::from(cause)),
+    }
+}
+
+fn put_writes(writer: &mut Writer, results: &[WriteResult]) -> Result<(), WriteFault>
+    ensures { Adds writer.old result writer.new (writes_text results.now) }
+{
+    for wrote in results {
+        put_write(writer, *wrote)?;
+    }
+    Ok(())
+}
+
+// The number of a service's tag.
+fn service_number(service: &Service<'_>) -> u8
+    ensures number { result ≡ service_number service.now }
+    ensures low { result < 31 }
+{
+    match service {
+        Service::Identify { .. } => 2,
+        Service::Names { .. } => 1,
+        Service::Attributes { .. } => 6,
+        Service::Read { .. } => 4,
+        Service::Write { .. } => 5,
+    }
+}
+
+fn put_content(writer: &mut Writer, service: &Service<'_>) -> Result<(), WriteFault>
+    requires { IsOfTree service.now }
+    ensures { Adds writer.old result writer.new (content_text service.now) }
+{
+    match service {
+        Service::Identify {
+            vendor,
+            model,
+            revision,
+        } => put_identity(writer, vendor, model, revision),
+        Service::Names { names, more } => put_name_list(writer, names, *more),
+        Service::Attributes { tree, handle } => put_attributes(writer, tree, handle),
+        Service::Read { tree, results } => put_read_list(writer, tree, results),
+        Service::Write { results } => put_writes(writer, results),
+    }
+}
+
+// Writes an invoke id.
+fn put_id(writer: &mut Writer, id: u32) -> Result<(), AllocError>
+    ensures { OnOk result (writer.new ≡ writer.old ++ element int_tag (integer_octets (pos id))) }
+{
+    writer.int(Tag::universal(2), i64::from(id))
+}
+
+// Writes a number under a context-specific tag.
+fn put_number(writer: &mut Writer, number: u8, value: u32) -> Result<(), AllocError>
+    requires { number < 31 }
+    ensures { OnOk result (writer.new ≡ writer.old ++ element (context number) (integer_octets (pos value))) }
+{
+    writer.int(Tag::context(number), i64::from(value))
+}
+
+fn put_confirmed(writer: &mut Writer, id: u32, service: &Service<'_>) -> Result<(), WriteFault>
+    requires { IsOfTree service.now }
+    ensures { Appends writer.old result writer.new (confirmed id (service_text service.now)) }
+{
+    let start = writer.len();
+    put_id(writer, id)?;
+    let inner = writer.len();
+    put_content(writer, service)?;
+    put_confirmed_around(writer, start, inner, service_number(service))
+}
+
+// The class of an error, and the error's number.
+#[tactic(auto, unfolding(bay_ber::specs::Writing::element, bay_ber::specs::Writing::length_octets))]
+fn error_octets(class: ErrorClass) -> &'static [u8]
+    ensures octets { result.now ≡ element (constructed 0) (class_text class) }
+    ensures short { length result.now ≤ 5 }
+{
+    match class {
+        ErrorClass::NoSuchObject => &[0xA0, 0x03, 0x87, 0x01, 0x02],
+        ErrorClass::Resource => &[0xA0, 0x03, 0x83, 0x01, 0x00],
+    }
+}
+
+fn put_error(writer: &mut Writer, id: u32, class: ErrorClass) -> Result<(), WriteFault>
+    ensures { Appends writer.old result writer.new (error_text id class) }
+{
+    let start = writer.len();
+    put_number(writer, 0, id)?;
+    writer.octets(Tag::context_constructed(2), error_octets(class))?;
+    put_around(writer, start, Tag::context_constructed(2))
+}
+
+fn put_reject(writer: &mut Writer, id: Option<u32>, reason: RejectReason) -> Result<(), WriteFault>
+    ensures { Appends writer.old result writer.new (element (constructed 4) (id_text id ++ reason_text reason)) }
+{
+    let start = writer.len();
+    if let Some(id) = id {
+        writer.int(Tag::context(0), i64::from(id))?;
+    }
+    let number = match reason {
+        RejectReason::UnrecognizedService => 1,
+        RejectReason::InvalidPdu => 5,
+    };
+    writer.int(Tag::context(number), 1)?;
+    put_around(writer, start, Tag::context_constructed(4))
+}
+
+fn put_nesting(writer: &mut Writer, nesting: Option<i64>) -> Result<(), AllocError>
+    ensures { OnOk result (writer.new ≡ writer.old ++ nesting_text nesting) }
+{
+    if let Some(nesting) = nesting {
+        writer.int(Tag::context(3), nesting)?;
+    }
+    Ok(())
+}
+
+// Writes the first parameter conformance blocks, of eleven.
+fn put_parameters(writer: &mut Writer, parameters: u8) -> Result<(), AllocError>
+    ensures { OnOk result (writer.new ≡ writer.old ++ parameters_text parameters) }
+{
+    let first = parameters / 32 * 32;
+    let bits = Bits {
+        octets: &[first, 0],
+        count: 11,
+    };
+    writer.bits(Tag::context(1), bits)?;
+    Ok(())
+}
+
+// Writes the services that are offered.
+fn put_services(writer: &mut Writer) -> Result<(), AllocError>
+    ensures { OnOk result (writer.new ≡ writer.old ++ services_text) }
+{
+    let bits = Bits {
+        octets: &[0x6E, 0, 0, 0, 0, 0, 0, 0, 0, 0x01, 0x10],
+        count: 85,
+    };
+    writer.bits(Tag::context(2), bits)?;
+    Ok(())
+}
+
+fn put_limits(writer: &mut Writer, agreed: Agreed) -> Result<(), AllocError>
+    ensures { OnOk result (writer.new ≡ writer.old ++ limits_text agreed) }
+{
+    put_number(writer, 0, agreed.size)?;
+    put_number(writer, 1, agreed.calling)?;
+    put_number(writer, 2, agreed.called)?;
+    put_nesting(writer, agreed.nesting)?;
+    Ok(())
+}
+
+// The version, the parameters and the services (ISO 9506-2, InitResponseDetail).
+fn put_detail(writer: &mut Writer, parameters: u8) -> Result<(), AllocError>
+    ensures { OnOk result (writer.new ≡ writer.old ++ detail_text parameters) }
+{
+    put_number(writer, 0, 1)?;
+    put_parameters(writer, parameters)?;
+    put_services(writer)?;
+    Ok(())
+}
+
+fn put_agreed(writer: &mut Writer, agreed: Agreed) -> Result<(), WriteFault>
+    ensures { Appends writer.old result writer.new (agreed_text agreed) }
+{
+    let start = writer.len();
+    put_limits(writer, agreed)?;
+    let inner = writer.len();
+    put_detail(writer, agreed.parameters)?;
+    put_around(writer, inner, Tag::context_constructed(4))?;
+    put_around(writer, start, Tag::context_constructed(9))
+}
+
+fn put_response(writer: &mut Writer, response: &Response<'_>) -> Result<(), WriteFault>
+    requires { IsAnswerable response.now }
+    ensures { Appends writer.old result writer.new (response_text response.now) }
+{
+    match response {
+        Response::Initiate(agreed) => put_agreed(writer, *agreed),
+        Response::Conclude => put_octets(writer, Tag::context(12), &[]),
+        Response::Confirmed { id, service } => put_confirmed(writer, *id, service),
+        Response::Error { id, class } => put_error(writer, *id, *class),
+        Response::Reject { id, reason } => put_reject(writer, *id, *reason),
+    }
+}
+
+/// The text of a response, which is the one canonical spelling (ISO 9506-2); TooLong where it would have 2^32 octets or
+/// more. The handles in it are of its trees.
+pub fn write_response(alloc: Global, response: &Response<'_>) -> Result<Vec<u8>, WriteFault>
+    requires { IsAnswerable response.now }
+    ensures { Gives WriteFault.OutOfMemory (λ octets. octets.items) result (written (response_text response.now)) }
+{
+    let mut writer = Writer::new(alloc);
+    put_response(&mut writer, response)?;
+    Ok(writer.finish())
+}

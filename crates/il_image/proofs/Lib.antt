@@ -1,0 +1,15 @@
+pub mod BackLemmas
+pub mod CodeLemmas
+pub mod EachLemmas
+pub mod ImageLemmas
+pub mod InstrLemmas
+pub mod ItemLemmas
+pub mod KindLemmas
+pub mod NameLemmas
+pub mod OctetLemmas
+pub mod PlaceLemmas
+pub mod ReadLemmas
+pub mod TimerLemmas
+pub mod TookLemmas
+pub mod ValueLemmas
+pub mod WrapLemmas

@@ -1,0 +1,71 @@
+-- Arithmetic and comparisons of the integer types (IEC 61131-3:2003, tables 24 and 28), once for all widths.
+use Rattle.std.specs.Prelude.{ℤ, pos, ◌≡◌, ◌+ℤ◌, ◌-ℤ◌, ◌*ℤ◌, ◌&&◌, ◌||◌, Bool, not, int_div, int_lt, int_le, Option, Some, None, if◌then◌else◌}
+use Rattle.std.specs.Int.{Width as Bits, w16, w32, w64, int_wrap}
+use Rattle.std.specs.Ordering.{int_eq}
+use Rattle.il_image.specs.declared.arithmetic.Width.{Width}
+use Rattle.il_image.specs.declared.arithmetic.Width.TheVariants as width
+use Rattle.il_image.specs.declared.arithmetic.Operation.{Operation}
+use Rattle.il_image.specs.declared.arithmetic.Operation.TheVariants.{Add, Sub, Mul, Div, Mod}
+use Rattle.il_image.specs.declared.arithmetic.Comparison.{Comparison}
+use Rattle.il_image.specs.declared.arithmetic.Comparison.TheVariants.{Gt, Ge, Eq, Ne, Le, Lt}
+use Rattle.bay_base.specs.declared.types.ElementaryType.{ElementaryType}
+use Rattle.bay_base.specs.declared.types.ElementaryType.TheVariants as elementary
+use Rattle.il_image.specs.declared.opcode.Connective.{Connective}
+use Rattle.il_image.specs.declared.opcode.Connective.TheVariants.{And, Or, Xor}
+use Rattle.il_image.specs.declared.opcode.Widening.{Widening}
+use Rattle.il_image.specs.declared.opcode.Widening.TheVariants.{IntToDint, DintToLint}
+use Rattle.il_image.specs.declared.value.Value.{Value}
+use Rattle.il_image.specs.declared.value.Value.TheVariants.{Short, Long, Wide}
+
+abbrev pub type_of_width : Width → ElementaryType
+type_of_width width.Int = elementary.Int
+type_of_width width.Dint = elementary.Dint
+type_of_width width.Lint = elementary.Lint
+
+abbrev pub bits_of : Width → Bits
+bits_of width.Int = w16
+bits_of width.Dint = w32
+bits_of width.Lint = w64
+
+-- the number that two's complement of the width makes of an integer
+abbrev pub wrapped : Width → ℤ → ℤ
+wrapped width z = int_wrap (bits_of width) z
+
+-- the integer result: DIV rounds toward zero, and a MOD b is a - (a DIV b) * b
+abbrev pub exact : Operation → ℤ → ℤ → ℤ
+exact Add a b = a +ℤ b
+exact Sub a b = a -ℤ b
+exact Mul a b = a *ℤ b
+exact Div a b = int_div a b
+exact Mod a b = a -ℤ (int_div a b *ℤ b)
+
+abbrev pub computed : Operation → Width → ℤ → ℤ → ℤ
+computed operation width a b = wrapped width (exact operation a b)
+
+-- The operation may be done with this second operand: a divisor is not 0.
+abbrev pub DividesBy : Operation → ℤ → Type 0
+DividesBy Add b = Unit {0}
+DividesBy Sub b = Unit {0}
+DividesBy Mul b = Unit {0}
+DividesBy Div b = b ≡ pos 0 → ⊥
+DividesBy Mod b = b ≡ pos 0 → ⊥
+
+abbrev pub compared : Comparison → ℤ → ℤ → Bool
+compared Gt a b = int_lt b a
+compared Ge a b = int_le b a
+compared Eq a b = int_eq a b
+compared Ne a b = not (int_eq a b)
+compared Le a b = int_le a b
+compared Lt a b = int_lt a b
+
+-- AND, OR and XOR of two BOOLs
+abbrev pub connected : Connective → Bool → Bool → Bool
+connected And a b = a && b
+connected Or a b = a || b
+connected Xor a b = if a then not b else b
+
+-- the value of the next wider type that has the same number
+abbrev pub widened : Widening → Value → Option Value
+widened IntToDint (Short z) = Some (Long z)
+widened DintToLint (Long z) = Some (Wide z)
+widened widening v = None

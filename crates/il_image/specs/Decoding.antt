@@ -1,0 +1,138 @@
+-- Reading an image from the left, up to its first fault.
+use Rattle.std.specs.Prelude.{ℕ, zero, suc, ◌==◌, ◌||◌, Bool, true, false, List, [], ◌∷◌, length, take, drop, Option, Some, None, Result, Ok, Err, nat_lt, if◌then◌else◌}
+use Rattle.std.specs.List.{list_all}
+use Rattle.bay_base.specs.declared.types.ElementaryType.{ElementaryType}
+use Rattle.bay_base.specs.declared.types.ElementaryType.TheVariants as elementary
+use Rattle.il_image.specs.declared.fault.ImageFault.{ImageFault}
+use Rattle.il_image.specs.declared.fault.ImageFault.TheVariants.{BadMagic, BadVersion, BadOpcode, Truncated}
+use Rattle.il_image.specs.declared.image.ImagePoint.{ImagePoint}
+use Rattle.il_image.specs.declared.instr.Instr.{Instr}
+use Rattle.il_image.specs.declared.opcode.Version.{Version}
+use Rattle.il_image.specs.declared.opcode.Version.TheVariants.{One, Two}
+use Rattle.il_image.specs.declared.timer.TimerKind.{TimerKind}
+use Rattle.il_image.specs.declared.timer.TimerKind.TheVariants.{OnDelay, OffDelay}
+use Rattle.il_image.specs.declared.value.Value.{Value}
+use Rattle.il_image.specs.Images.{Image, is_name_octet, mark, value_size}
+use Rattle.il_image.specs.Reading.{Read, ◌>>=◌, instr_from, known, number_at, octet_at, value_at}
+
+-- the octets behind these, each of which has to be there
+abbrev pub behind : List ℕ → List ℕ → Result (List ℕ) ImageFault
+behind [] octets = Ok octets
+behind (m ∷ marks) [] = Err Truncated
+behind (m ∷ marks) (octet ∷ octets) = if octet == m then behind marks octets else Err BadMagic
+
+abbrev pub version_at : List ℕ → Read Version
+version_at [] = Err Truncated
+version_at (octet ∷ rest) = if octet == 0x01 then Ok (One, rest) else (if octet == 0x02 then Ok (Two, rest) else Err BadVersion)
+
+-- LINT is new in version 2.
+abbrev pub newest_type : Version → Option ElementaryType
+newest_type One = None
+newest_type Two = Some elementary.Lint
+
+-- the type that an octet stands for
+abbrev pub type_of_octet : Version → ℕ → Option ElementaryType
+type_of_octet version octet =
+    if octet == 0x01 then Some elementary.Bool
+    else (if octet == 0x02 then Some elementary.Int
+    else (if octet == 0x03 then Some elementary.Dint
+    else (if octet == 0x04 then Some elementary.Time
+    else (if octet == 0x05 then newest_type version else None))))
+
+abbrev pub type_at : Version → List ℕ → Read ElementaryType
+type_at version octets = do
+  octet ← octet_at octets
+  t ← known (type_of_octet version octet.0)
+  Ok (t, octet.1)
+
+-- whether the point may be written
+abbrev pub access_of : ℕ → Option Bool
+access_of octet = if octet == 0x00 then Some false else (if octet == 0x01 then Some true else None)
+
+abbrev pub access_at : List ℕ → Read Bool
+access_at octets = do
+  octet ← octet_at octets
+  writable ← known (access_of octet.0)
+  Ok (writable, octet.1)
+
+-- a name of this length: its first octet that is none of a name comes before its missing end
+abbrev pub name_of_length : ℕ → List ℕ → Read (List ℕ)
+name_of_length n octets =
+    if list_all is_name_octet (take n octets) then (if nat_lt (length octets) n then Err Truncated else Ok (take n octets, drop n octets))
+    else Err BadOpcode
+
+abbrev pub name_at : List ℕ → Read (List ℕ)
+name_at octets = do
+  n ← octet_at octets
+  if (n.0 == 0) || nat_lt 64 n.0 then Err BadOpcode else name_of_length n.0 n.1
+
+unfoldable pub point_at : Version → List ℕ → Read ImagePoint
+point_at version octets = do
+  t ← type_at version octets
+  writable ← access_at t.1
+  name ← name_at writable.1
+  Ok (record { name = name.0; elementary = t.0; writable = writable.0 }, name.1)
+
+unfoldable pub variable_at : Version → List ℕ → Read Value
+variable_at version octets = do
+  t ← type_at version octets
+  value_at (value_size version) t.0 t.1
+
+abbrev pub kind_of_octet : ℕ → Option TimerKind
+kind_of_octet octet = if octet == 0x01 then Some OnDelay else (if octet == 0x02 then Some OffDelay else None)
+
+unfoldable pub timer_at : Version → List ℕ → Read TimerKind
+timer_at One octets = Ok (OnDelay, octets)
+timer_at Two octets = do
+  octet ← octet_at octets
+  kind ← known (kind_of_octet octet.0)
+  Ok (kind, octet.1)
+
+-- so many items
+abbrev pub items_at : {A : Type 0} → (List ℕ → Read A) → ℕ → List ℕ → Read (List A)
+items_at item zero octets = Ok ([], octets)
+items_at item (suc n) octets = do
+  x ← item octets
+  xs ← items_at item n x.1
+  Ok (x.0 ∷ xs.0, xs.1)
+
+-- their number, and the items
+abbrev pub counted_at : {A : Type 0} → (List ℕ → Read A) → List ℕ → Read (List A)
+counted_at item octets = do
+  n ← number_at octets
+  items_at item n.0 n.1
+
+-- the fault of what was read, or else of what is behind it
+abbrev pub fault_behind : Read Instr → (List ℕ → Option ImageFault) → Option ImageFault
+fault_behind (Ok r) fault_of = fault_of r.1
+fault_behind (Err fault) fault_of = Some fault
+
+-- the fault of the first octets that spell no instruction; no code has more instructions than octets
+abbrev pub code_fault : Version → ℕ → List ℕ → Option ImageFault
+code_fault version zero octets = None
+code_fault version (suc most) [] = None
+code_fault version (suc most) (octet ∷ octets) = fault_behind (instr_from version (octet ∷ octets)) (λ rest. code_fault version most rest)
+
+abbrev pub unless : {A : Type 0} → Option ImageFault → Result A ImageFault → Result A ImageFault
+unless None r = r
+unless (Some fault) r = Err fault
+
+-- octets that are code: a fault in them comes before a length that is not theirs
+abbrev pub code_of_length : Version → ℕ → List ℕ → Result (List ℕ) ImageFault
+code_of_length version n octets =
+    unless (code_fault version (length (take n octets)) (take n octets)) (if length octets == n then Ok octets else Err Truncated)
+
+unfoldable pub code_at : Version → List ℕ → Result (List ℕ) ImageFault
+code_at version octets = do
+  n ← number_at octets
+  code_of_length version n.0 n.1
+
+unfoldable pub decoded : List ℕ → Result Image ImageFault
+decoded octets = do
+  rest ← behind mark octets
+  version ← version_at rest
+  points ← counted_at (point_at version.0) version.1
+  variables ← counted_at (variable_at version.0) points.1
+  timers ← counted_at (timer_at version.0) variables.1
+  code ← code_at version.0 timers.1
+  Ok (record { points = points.0; variables = variables.0; timers = timers.0; code = code })

@@ -1,0 +1,114 @@
+-- Images: what they hold, and how they are spelled in each version of the format.
+use Rattle.std.specs.Prelude.{ℕ, ◌≡◌, ◌<◌, ◌≤◌, ◌&&◌, ◌||◌, ◌==◌, Bool, IsSome, IsTrue, List, [], ◌∷◌, ◌++◌, length, nat_le, if◌then◌else◌}
+use Rattle.std.specs.List.{list_all}
+use Rattle.bay_base.specs.declared.types.ElementaryType.{ElementaryType}
+use Rattle.bay_base.specs.declared.types.ElementaryType.TheVariants as elementary
+use Rattle.il_image.specs.declared.image.ImagePoint.{ImagePoint}
+use Rattle.il_image.specs.declared.instr.Instr.{Instr}
+use Rattle.il_image.specs.declared.opcode.Version.{Version}
+use Rattle.il_image.specs.declared.opcode.Version.TheVariants.{One, Two}
+use Rattle.il_image.specs.declared.timer.TimerKind.{TimerKind}
+use Rattle.il_image.specs.declared.timer.TimerKind.TheVariants.{OnDelay, OffDelay}
+use Rattle.il_image.specs.declared.value.Value.{Value}
+use Rattle.il_image.specs.declared.write.Size.{Size}
+use Rattle.il_image.specs.declared.write.Size.TheVariants as size
+use Rattle.il_image.specs.Octets.{number_octets, signed_octets}
+use Rattle.il_image.specs.Spelling.{IsInstr, spelling}
+use Rattle.il_image.specs.Values.{number_of, type_of, value_of}
+
+-- the points that the code uses, its variables with their initial values, its timers, and its octets; slots are the points
+-- and then the variables
+pub record Image : Type 0 where
+  pub points : List ImagePoint
+  pub variables : List Value
+  pub timers : List TimerKind
+  pub code : List ℕ
+
+-- ---- what an image keeps
+
+abbrev pub Each : {A : Type 0} → (A → Type 0) → List A → Type 0
+Each P [] = Unit {0}
+Each P (x ∷ xs) = P x × Each P xs
+
+-- an upper-case letter, a digit or an underscore
+abbrev pub is_name_octet : ℕ → Bool
+is_name_octet octet = (nat_le 0x41 octet && nat_le octet 0x5A) || (nat_le 0x30 octet && nat_le octet 0x39) || (octet == 0x5F)
+
+-- The name has 1 to 64 such octets.
+pub record IsName (name : List ℕ) : Type 0 where
+  pub some : 0 < length name
+  pub few : length name ≤ 64
+  pub octets : IsTrue (list_all is_name_octet name)
+
+abbrev pub HasName : ImagePoint → Type 0
+HasName p = IsName p.name
+
+-- The value's number is one of its type.
+abbrev pub IsValue : Value → Type 0
+IsValue v = IsSome (value_of (type_of v) (number_of v))
+
+abbrev pub all_spelled : List Instr → List ℕ
+all_spelled [] = []
+all_spelled (i ∷ is) = spelling i ++ all_spelled is
+
+-- The octets are spellings of instructions, one behind the other.
+pub record IsCode (code : List ℕ) : Type 0 where
+  pub instrs : List Instr
+  pub are : Each IsInstr instrs
+  pub spelled : code ≡ all_spelled instrs
+
+-- What the format can say: counts of 16 bits, names, values of their types, and code of instructions.
+pub record IsImage (i : Image) : Type 0 where
+  pub points : length i.points ≤ 65_535
+  pub variables : length i.variables ≤ 65_535
+  pub timers : length i.timers ≤ 65_535
+  pub size : length i.code ≤ 65_535
+  pub names : Each HasName i.points
+  pub values : Each IsValue i.variables
+  pub code : IsCode i.code
+
+-- ---- the spelling
+
+abbrev pub type_octet : ElementaryType → ℕ
+type_octet elementary.Bool = 0x01
+type_octet elementary.Int = 0x02
+type_octet elementary.Dint = 0x03
+type_octet elementary.Time = 0x04
+type_octet elementary.Lint = 0x05
+
+abbrev pub point_octets : ImagePoint → List ℕ
+point_octets p = type_octet p.elementary ∷ (if p.writable then 0x01 else 0x00) ∷ length p.name ∷ p.name
+
+-- the size of initial values
+abbrev pub value_size : Version → Size
+value_size One = size.Four
+value_size Two = size.Eight
+
+abbrev pub variable_octets : Version → Value → List ℕ
+variable_octets version v = type_octet (type_of v) ∷ signed_octets (value_size version) (number_of v)
+
+-- In version 1 all timers are TON, and nothing is said of them.
+abbrev pub timer_octets : Version → TimerKind → List ℕ
+timer_octets One kind = []
+timer_octets Two OnDelay = 0x01 ∷ []
+timer_octets Two OffDelay = 0x02 ∷ []
+
+abbrev pub each_spelled : {A : Type 0} → (A → List ℕ) → List A → List ℕ
+each_spelled spell [] = []
+each_spelled spell (x ∷ xs) = spell x ++ each_spelled spell xs
+
+-- the number of items, and then the items
+abbrev pub counted : {A : Type 0} → (A → List ℕ) → List A → List ℕ
+counted spell xs = number_octets (length xs) ++ each_spelled spell xs
+
+-- ILBC in ASCII
+abbrev pub mark : List ℕ
+mark = 0x49 ∷ 0x4C ∷ 0x42 ∷ 0x43 ∷ []
+
+abbrev pub version_octet : Version → ℕ
+version_octet One = 0x01
+version_octet Two = 0x02
+
+unfoldable pub encoded : Version → Image → List ℕ
+encoded version i =
+    mark ++ (version_octet version ∷ (counted point_octets i.points ++ (counted (variable_octets version) i.variables ++ (counted (timer_octets version) i.timers ++ (number_octets (length i.code) ++ i.code)))))

@@ -1,0 +1,15 @@
+pub mod Arithmetic
+pub mod Codes
+pub mod Decoding
+pub mod Effects
+pub mod Growth
+pub mod Images
+pub mod Kinds
+pub mod Machine
+pub mod Octets
+pub mod Opcodes
+pub mod Reading
+pub mod Spelling
+pub mod Tables
+pub mod Timers
+pub mod Values

@@ -1,0 +1,166 @@
+-- The stack machine. One instruction is one step; each case that has no meaning is a trap.
+use Rattle.std.specs.Prelude.{ℕ, ℤ, zero, suc, pos, ◌+◌, ◌&&◌, ◌||◌, Bool, true, false, not, List, [], ◌∷◌, length, nat_lt, slice_get, slice_set, Option, Some, None, if◌then◌else◌}
+use Rattle.std.specs.Ordering.{int_eq}
+use Rattle.il_image.specs.declared.arithmetic.Width.{Width}
+use Rattle.il_image.specs.declared.arithmetic.Width.TheVariants as width
+use Rattle.il_image.specs.declared.arithmetic.Operation.{Operation}
+use Rattle.il_image.specs.declared.arithmetic.Operation.TheVariants.{Add, Sub, Mul, Div, Mod}
+use Rattle.il_image.specs.declared.arithmetic.Comparison.{Comparison}
+use Rattle.il_image.specs.declared.arithmetic.Comparison.TheVariants.{Gt, Ge, Eq, Ne, Le, Lt}
+use Rattle.il_image.specs.declared.instr.Instr.{Instr}
+use Rattle.il_image.specs.declared.instr.Instr.TheVariants.{Halt, Push, Drop, Slot, Not, Combine, Compute, Compare, Widen, Jump, Timer}
+use Rattle.il_image.specs.declared.opcode.SlotUse.TheVariants.{Load, Store, SetIf, ResetIf}
+use Rattle.il_image.specs.declared.opcode.When.TheVariants.{Always, IfTrue, IfFalse}
+use Rattle.il_image.specs.declared.opcode.TimerUse.TheVariants.{SetInput, SetPreset, Run, LoadOutput, LoadElapsed}
+use Rattle.il_image.specs.declared.timer.Timer.{Timer as TimerState}
+use Rattle.il_image.specs.declared.value.Value.{Value}
+use Rattle.il_image.specs.declared.value.Value.TheVariants.{Truth, Short, Long, Wide, Span}
+use Rattle.bay_base.specs.declared.types.ElementaryType.TheVariants as elementary
+use Rattle.bay_base.specs.Types.{same_type}
+use Rattle.il_image.specs.Arithmetic.{compared, computed, connected, widened}
+use Rattle.il_image.specs.Reading.{instr_at}
+use Rattle.il_image.specs.Timers.{called}
+use Rattle.il_image.specs.Values.{number_of, type_of}
+
+-- the place of the next instruction, the cells of the operand stack with the top first, the slots, and the timers
+pub record State : Type 0 where
+  pub place : ℕ
+  pub cells : List Value
+  pub slots : List Value
+  pub timers : List TimerState
+
+pub data Trap : Type 0 where
+  EmptyStack : Trap
+  FullStack : Trap
+  WrongKind : Trap
+  ZeroDivisor : Trap
+  MissingSlot : Trap
+  MissingTimer : Trap
+  OutsideCode : Trap
+
+-- what one step comes to
+pub data Turn : Type 0 where
+  Goes : State → Turn
+  Halts : Turn
+  Traps : Trap → Turn
+
+-- ---- what steps are made of; what an instruction wants is looked at in this order: slot or timer, cells, kinds, divisor, room
+
+-- goes on at a place, with these cells
+abbrev pub goes : ℕ → List Value → State → Turn
+goes to cells s = Goes (record s { place = to; cells = cells })
+
+-- one more cell, of at most 32
+abbrev pub pushes : Value → ℕ → State → Turn
+pushes v to s = if nat_lt (length s.cells) 32 then goes to (v ∷ s.cells) s else Traps FullStack
+
+abbrev pub with_top : List Value → (Value → List Value → Turn) → Turn
+with_top [] act = Traps EmptyStack
+with_top (top ∷ below) act = act top below
+
+abbrev pub as_truth : Value → (Bool → Turn) → Turn
+as_truth (Truth b) act = act b
+as_truth v act = Traps WrongKind
+
+abbrev pub as_span : Value → (ℕ → Turn) → Turn
+as_span (Span n) act = act n
+as_span v act = Traps WrongKind
+
+abbrev pub as_number : Width → Value → (ℤ → Turn) → Turn
+as_number width.Int (Short z) act = act z
+as_number width.Dint (Long z) act = act z
+as_number width.Lint (Wide z) act = act z
+as_number w v act = Traps WrongKind
+
+abbrev pub with_slot : ℕ → State → (Value → Turn) → Turn
+with_slot n s act = elim (slice_get s.slots n) [ None ↦ Traps MissingSlot | Some v ↦ act v ]
+
+abbrev pub with_timer : ℕ → State → (TimerState → Turn) → Turn
+with_timer n s act = elim (slice_get s.timers n) [ None ↦ Traps MissingTimer | Some t ↦ act t ]
+
+-- a slot or a timer changes
+abbrev pub stores : ℕ → Value → ℕ → State → Turn
+stores n v to s = Goes (record s { place = to; slots = slice_set s.slots n v })
+
+abbrev pub changes : ℕ → TimerState → ℕ → List Value → State → Turn
+changes n t to cells s = Goes (record s { place = to; cells = cells; timers = slice_set s.timers n t })
+
+-- the number of a width as a value
+abbrev pub value_in : Width → ℤ → Value
+value_in width.Int z = Short z
+value_in width.Dint z = Long z
+value_in width.Lint z = Wide z
+
+abbrev pub divides : Operation → Bool
+divides Div = true
+divides Mod = true
+divides Add = false
+divides Sub = false
+divides Mul = false
+
+abbrev pub tells_equality : Comparison → Bool
+tells_equality Eq = true
+tells_equality Ne = true
+tells_equality Gt = false
+tells_equality Ge = false
+tells_equality Le = false
+tells_equality Lt = false
+
+-- Values of one type are compared, BOOLs for equality alone.
+abbrev pub is_comparable : Comparison → Value → Value → Bool
+is_comparable c a b = same_type (type_of a) (type_of b) && (not (same_type (type_of a) elementary.Bool) || tells_equality c)
+
+-- ---- one instruction, with the place behind it, at a moment
+
+unfoldable pub act : ℕ → Instr → ℕ → State → Turn
+act now Halt next s = Halts
+act now (Push v) next s = pushes v next s
+act now Drop next s = with_top s.cells (λ top below. goes next below s)
+act now (Slot Load n) next s = with_slot n s (λ slot. pushes slot next s)
+act now (Slot Store n) next s = with_slot n s (λ slot. with_top s.cells (λ top below. if same_type (type_of top) (type_of slot) then stores n top next s else Traps WrongKind))
+act now (Slot SetIf n) next s = with_slot n s (λ slot. with_top s.cells (λ top below. as_truth top (λ b. as_truth slot (λ old. stores n (Truth (b || old)) next s))))
+act now (Slot ResetIf n) next s = with_slot n s (λ slot. with_top s.cells (λ top below. as_truth top (λ b. as_truth slot (λ old. stores n (Truth (not b && old)) next s))))
+act now Not next s = with_top s.cells (λ top below. as_truth top (λ b. goes next (Truth (not b) ∷ below) s))
+act now (Combine c) next s = with_top s.cells (λ top more. with_top more (λ second below. as_truth top (λ b. as_truth second (λ a. goes next (Truth (connected c a b) ∷ below) s))))
+act now (Compute o w) next s = with_top s.cells (λ top more. with_top more (λ second below. as_number w top (λ b. as_number w second (λ a. if divides o && int_eq b (pos 0) then Traps ZeroDivisor else goes next (value_in w (computed o w a b) ∷ below) s))))
+act now (Compare c) next s = with_top s.cells (λ top more. with_top more (λ second below. if is_comparable c second top then goes next (Truth (compared c (number_of second) (number_of top)) ∷ below) s else Traps WrongKind))
+act now (Widen w) next s = with_top s.cells (λ top below. elim (widened w top) [ None ↦ Traps WrongKind | Some v ↦ goes next (v ∷ below) s ])
+act now (Jump Always distance) next s = goes (next + distance) s.cells s
+act now (Jump IfTrue distance) next s = with_top s.cells (λ top below. as_truth top (λ b. goes (if b then next + distance else next) s.cells s))
+act now (Jump IfFalse distance) next s = with_top s.cells (λ top below. as_truth top (λ b. goes (if b then next else next + distance) s.cells s))
+act now (Timer SetInput n) next s = with_timer n s (λ t. with_top s.cells (λ top below. as_truth top (λ b. changes n (record t { input = b }) next below s)))
+act now (Timer SetPreset n) next s = with_timer n s (λ t. with_top s.cells (λ top below. as_span top (λ preset. changes n (record t { preset = preset }) next below s)))
+act now (Timer Run n) next s = with_timer n s (λ t. changes n (called t now) next s.cells s)
+act now (Timer LoadOutput n) next s = with_timer n s (λ t. pushes (Truth t.output) next s)
+act now (Timer LoadElapsed n) next s = with_timer n s (λ t. pushes (Span t.elapsed) next s)
+
+-- ---- a step, and a run
+
+abbrev pub turn_of : ℕ → Option (Instr × ℕ) → State → Turn
+turn_of now None s = Traps OutsideCode
+turn_of now (Some read) s = act now read.0 read.1 s
+
+-- the step from a state
+abbrev pub turn : List ℕ → ℕ → State → Turn
+turn code now s = turn_of now (instr_at code s.place) s
+
+-- how a run ends: at HALT, with the slots, the timers and the number of steps, HALT's too; in a trap; or not within so many
+-- steps
+pub data Ending : Type 0 where
+  Halted : List Value → List TimerState → ℕ → Ending
+  Trapped : Trap → Ending
+  Unfinished : Ending
+
+abbrev pub ending_of : Turn → State → ℕ → (State → Ending) → Ending
+ending_of (Goes after) s steps rest = rest after
+ending_of Halts s steps rest = Halted s.slots s.timers steps
+ending_of (Traps trap) s steps rest = Trapped trap
+
+-- a run of at most so many steps from a state, after this many
+unfoldable pub run : List ℕ → ℕ → ℕ → State → ℕ → Ending
+run code now zero s steps = Unfinished
+run code now (suc most) s steps = ending_of (turn code now s) s (steps + 1) (λ after. run code now most after (steps + 1))
+
+-- A run begins at place 0 without cells.
+abbrev pub start : List Value → List TimerState → State
+start slots timers = record { place = 0; cells = []; slots = slots; timers = timers }

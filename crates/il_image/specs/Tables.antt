@@ -1,0 +1,101 @@
+-- Tables of the kinds on the stack before each instruction, and paths through the code.
+use Rattle.std.specs.Prelude.{ℕ, zero, suc, ◌≡◌, ◌≢◌, ◌+◌, ◌<◌, ◌≤◌, List, [], ◌++◌, length, map, Option, Some, None, option_map, IsSome, ◌⊎◌, ◌↔◌}
+use Rattle.bay_base.specs.declared.types.ElementaryType.{ElementaryType}
+use Rattle.il_image.specs.declared.instr.Instr.{Instr}
+use Rattle.il_image.specs.declared.instr.Instr.TheVariants.{Halt, Push, Drop, Slot, Not, Combine, Compute, Compare, Widen, Jump, Timer}
+use Rattle.il_image.specs.declared.kind.Kind.{Kind}
+use Rattle.il_image.specs.declared.opcode.When.TheVariants.{Always, IfTrue, IfFalse}
+use Rattle.il_image.specs.Effects.{effect}
+use Rattle.il_image.specs.Images.{Image}
+use Rattle.il_image.specs.Kinds.{AreWithin}
+use Rattle.il_image.specs.Reading.{instr_at}
+use Rattle.il_image.specs.Values.{type_of}
+
+-- the types of the slots: the points, and then the variables
+abbrev pub slot_types : Image → List ElementaryType
+slot_types i = map (λ p. p.elementary) i.points ++ map type_of i.variables
+
+-- ---- places
+
+abbrev pub behind_place : List ℕ → Option ℕ → Option ℕ
+behind_place code None = None
+behind_place code (Some place) = option_map (λ r. r.1) (instr_at code place)
+
+-- the place of the instruction of this number from 0: each instruction stands behind the one before
+abbrev pub place_of : List ℕ → ℕ → Option ℕ
+place_of code zero = Some 0
+place_of code (suc n) = behind_place code (place_of code n)
+
+-- An instruction begins at the place.
+abbrev pub IsPlace : List ℕ → ℕ → Type 0
+IsPlace code place = (place < length code) × ((n : ℕ) × (place_of code n ≡ Some place))
+
+-- The instruction goes on at this place, where the next one stands at that place.
+abbrev pub LeadsTo : Instr → ℕ → ℕ → Type 0
+LeadsTo Halt next to = ⊥
+LeadsTo (Jump Always distance) next to = to ≡ next + distance
+LeadsTo (Jump IfTrue distance) next to = (to ≡ next) ⊎ (to ≡ next + distance)
+LeadsTo (Jump IfFalse distance) next to = (to ≡ next) ⊎ (to ≡ next + distance)
+LeadsTo (Push v) next to = to ≡ next
+LeadsTo Drop next to = to ≡ next
+LeadsTo (Slot slot_use n) next to = to ≡ next
+LeadsTo Not next to = to ≡ next
+LeadsTo (Combine c) next to = to ≡ next
+LeadsTo (Compute o w) next to = to ≡ next
+LeadsTo (Compare c) next to = to ≡ next
+LeadsTo (Widen w) next to = to ≡ next
+LeadsTo (Timer timer_use n) next to = to ≡ next
+
+-- The place has an instruction, and it leads to the other place.
+pub record IsSuccessor (code : List ℕ) (place to : ℕ) : Type 0 where
+  pub instr : Instr
+  pub next : ℕ
+  pub here : instr_at code place ≡ Some (instr, next)
+  pub leads : LeadsTo instr next to
+
+-- ---- tables
+
+-- the kinds on the stack before the instruction at each place
+abbrev pub Table : Type 0
+Table = ℕ → Option (List Kind)
+
+-- The table has kinds at the place, and these are within them, one by one.
+abbrev pub Enters : Table → ℕ → List Kind → Type 0
+Enters table place kinds = (most : List Kind) × (table place ≡ Some most) × AreWithin kinds most
+
+-- The instruction at the place is allowed on these kinds, and what it gives enters each of its successors.
+pub record IsAllowed (image : Image) (table : Table) (place : ℕ) (kinds : List Kind) : Type 0 where
+  pub instr : Instr
+  pub next : ℕ
+  pub after : List Kind
+  pub here : instr_at image.code place ≡ Some (instr, next)
+  pub effect : effect (slot_types image) (length image.timers) instr kinds ≡ Some after
+  pub enters : (to : ℕ) → LeadsTo instr next to → Enters table to after
+
+-- The table agrees with the code: it has kinds exactly at the places of the code, none of them before the first instruction
+-- and at most 32 anywhere; each instruction is allowed on them; and each place but the first is a successor of another.
+pub record Agrees (image : Image) (table : Table) : Type 0 where
+  pub starts : table 0 ≡ Some []
+  pub places : (place : ℕ) → IsSome (table place) ↔ IsPlace image.code place
+  pub allowed : (place : ℕ) (kinds : List Kind) → table place ≡ Some kinds → IsAllowed image table place kinds
+  pub room : (place : ℕ) (kinds : List Kind) → table place ≡ Some kinds → length kinds ≤ 32
+  pub reached : (place : ℕ) → IsPlace image.code place → place ≢ 0 → (from : ℕ) × IsPlace image.code from × IsSuccessor image.code from place
+
+abbrev pub HasTable : Image → Type 0
+HasTable image = (table : Table) × Agrees image table
+
+-- ---- paths
+
+-- a path of so many places, from place 0 to this one, each a successor of the one before
+abbrev pub Path : List ℕ → ℕ → ℕ → Type 0
+Path code zero place = ⊥
+Path code (suc zero) place = place ≡ 0
+Path code (suc (suc n)) place = (from : ℕ) × Path code (suc n) from × IsSuccessor code from place
+
+-- A HALT stands at the place.
+abbrev pub IsHalt : List ℕ → ℕ → Type 0
+IsHalt code place = (next : ℕ) × (instr_at code place ≡ Some (Halt, next))
+
+-- a path of so many places that ends at a HALT
+abbrev pub Ends : List ℕ → ℕ → Type 0
+Ends code n = (place : ℕ) × Path code n place × IsHalt code place

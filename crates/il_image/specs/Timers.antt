@@ -1,0 +1,88 @@
+-- Timers (IEC 61131-3:2003, table 38).
+use Rattle.std.specs.Prelude.{ℕ, ◌≡◌, ◌-◌, ◌<◌, ◌≤◌, ◌⊎◌, Bool, true, false, List, [], ◌∷◌, ◌++◌, min, nat_le, nat_lt}
+use Rattle.il_image.specs.declared.timer.Phase.{Phase}
+use Rattle.il_image.specs.declared.timer.Phase.TheVariants.{Idle, Held, Since}
+use Rattle.il_image.specs.declared.timer.Timer.{Timer}
+use Rattle.il_image.specs.declared.timer.TimerKind.{TimerKind}
+use Rattle.il_image.specs.declared.timer.TimerKind.TheVariants.{OnDelay, OffDelay}
+
+abbrev pub first_state : TimerKind → Timer
+first_state kind = record { kind = kind; input = false; preset = 0; phase = Idle; output = false; elapsed = 0 }
+
+-- the phase after a call with this IN at the moment m
+abbrev pub phase_after : TimerKind → Bool → Phase → ℕ → Phase
+phase_after OnDelay false phase m = Idle
+phase_after OnDelay true Idle m = Since m
+phase_after OnDelay true Held m = Since m
+phase_after OnDelay true (Since start) m = Since start
+phase_after OffDelay true phase m = Held
+phase_after OffDelay false Idle m = Idle
+phase_after OffDelay false Held m = Since m
+phase_after OffDelay false (Since start) m = Since start
+
+-- Q: a TON's delay is over, or a TOF's is not
+abbrev pub output_of : TimerKind → ℕ → Phase → ℕ → Bool
+output_of kind preset Idle m = false
+output_of kind preset Held m = true
+output_of OnDelay preset (Since start) m = nat_le preset (m - start)
+output_of OffDelay preset (Since start) m = nat_lt (m - start) preset
+
+-- ET
+abbrev pub elapsed_of : ℕ → Phase → ℕ → ℕ
+elapsed_of preset Idle m = 0
+elapsed_of preset Held m = 0
+elapsed_of preset (Since start) m = min (m - start) preset
+
+-- one call at the moment m, with the IN and PT that the timer holds
+abbrev pub called : Timer → ℕ → Timer
+called t m =
+    let phase = phase_after t.kind t.input t.phase m in
+    record t { phase = phase; output = output_of t.kind t.preset phase m; elapsed = elapsed_of t.preset phase m }
+
+-- ---- lists of calls
+
+pub record Call : Type 0 where
+  pub input : Bool
+  pub preset : ℕ
+  pub moment : ℕ
+
+-- a timer after calls, the last of them first in the list
+abbrev pub after : TimerKind → List Call → Timer
+after kind [] = first_state kind
+after kind (c ∷ earlier) = called (record (after kind earlier) { input = c.input; preset = c.preset }) c.moment
+
+abbrev pub AllHave : Bool → List Call → Type 0
+AllHave input [] = Unit {0}
+AllHave input (c ∷ earlier) = (c.input ≡ input) × AllHave input earlier
+
+abbrev pub SomeHas : Bool → List Call → Type 0
+SomeHas input [] = ⊥
+SomeHas input (c ∷ earlier) = (c.input ≡ input) ⊎ SomeHas input earlier
+
+-- The last of the calls, if there is one, does not have this IN.
+abbrev pub IsBroken : Bool → List Call → Type 0
+IsBroken input [] = Unit {0}
+IsBroken input (c ∷ earlier) = c.input ≡ input → ⊥
+
+-- The last calls up to this first one are an unbroken run with this IN.
+pub record LastRun (input : Bool) (calls : List Call) (first : Call) : Type 0 where
+  pub later : List Call
+  pub before : List Call
+  pub parts : calls ≡ later ++ first ∷ before
+  pub first_has : first.input ≡ input
+  pub later_have : AllHave input later
+  pub begins : IsBroken input before
+
+-- The last call has IN TRUE, and PT has passed by then since the first call of the unbroken run of IN TRUE.
+pub record HasPassed (last : Call) (earlier : List Call) : Type 0 where
+  pub first : Call
+  pub run : LastRun true (last ∷ earlier) first
+  pub passed : last.preset ≤ last.moment - first.moment
+
+-- An earlier call than the last has IN TRUE, and less than PT has passed by the last since the first call of the
+-- unbroken run of IN FALSE.
+pub record HasNotPassed (last : Call) (earlier : List Call) : Type 0 where
+  pub first : Call
+  pub run : LastRun false (last ∷ earlier) first
+  pub held : SomeHas true earlier
+  pub less : last.moment - first.moment < last.preset

@@ -1,0 +1,125 @@
+// Arithmetic, comparisons, connectives and widening of values (IEC 61131-3:2003, tables 22, 24, 26 and 28).
+ghost use Rattle.std.specs.Prelude.{◌≡◌};
+ghost use Rattle.il_image.specs.declared.arithmetic.Width.{Width};
+ghost use Rattle.il_image.specs.Arithmetic.{DividesBy, compared, computed, connected, type_of_width, widened, wrapped};
+
+use crate::opcode::{Connective, Widening};
+use crate::value::Value;
+use bay_base::types::ElementaryType;
+
+/// The type of both operands of an arithmetic operation, and of its result.
+#[derive(Clone, Copy, Debug, PartialEq, Eq)]
+pub enum Width {
+    /// 16 bits.
+    Int,
+    /// 32 bits.
+    Dint,
+    /// 64 bits.
+    Lint,
+}
+
+/// An arithmetic operation. Results wrap at the width.
+#[derive(Clone, Copy, Debug, PartialEq, Eq)]
+pub enum Operation {
+    Add,
+    Sub,
+    Mul,
+    /// The quotient, rounded toward zero.
+    Div,
+    /// What the quotient leaves; it has the sign of the first operand.
+    Mod,
+}
+
+/// A comparison of two values of one type.
+#[derive(Clone, Copy, Debug, PartialEq, Eq)]
+pub enum Comparison {
+    Gt,
+    Ge,
+    Eq,
+    Ne,
+    Le,
+    Lt,
+}
+
+impl Width {
+    /// The elementary type of this width.
+    pub fn elementary(self) -> ElementaryType
+        ensures { result ≡ type_of_width self }
+    {
+        match self {
+            Width::Int => ElementaryType::Int,
+            Width::Dint => ElementaryType::Dint,
+            Width::Lint => ElementaryType::Lint,
+        }
+    }
+}
+
+/// The number that a width's lowest bits of a number stand for, in two's complement.
+pub fn wrap(width: Width, number: i64) -> i64
+    ensures { result ≡ wrapped width number }
+{
+    let bits = number.cast_unsigned();
+    match width {
+        Width::Int => i64::from(((bits % 0x1_0000) as u16).cast_signed()),
+        Width::Dint => i64::from(((bits % 0x1_0000_0000) as u32).cast_signed()),
+        Width::Lint => number,
+    }
+}
+
+// The result of an operation in 64 bits, of which each width takes its own.
+fn compute_wide(operation: Operation, first: i64, second: i64) -> i64
+    requires { DividesBy operation second }
+    ensures { (width : Width) → wrapped width result ≡ computed operation width first second }
+{
+    match operation {
+        Operation::Add => first.wrapping_add(second),
+        Operation::Sub => first.wrapping_sub(second),
+        Operation::Mul => first.wrapping_mul(second),
+        Operation::Div => first.wrapping_div(second),
+        Operation::Mod => first.wrapping_rem(second),
+    }
+}
+
+/// The result of an operation on two numbers: the exact integer, reduced into the width. A divisor is not 0.
+pub fn compute(operation: Operation, width: Width, first: i64, second: i64) -> i64
+    requires { DividesBy operation second }
+    ensures { result ≡ computed operation width first second }
+{
+    wrap(width, compute_wide(operation, first, second))
+}
+
+/// Whether a comparison of two numbers holds.
+pub fn compare(comparison: Comparison, first: i64, second: i64) -> bool
+    ensures { result ≡ compared comparison first second }
+{
+    match comparison {
+        Comparison::Gt => first > second,
+        Comparison::Ge => first >= second,
+        Comparison::Eq => first == second,
+        Comparison::Ne => first != second,
+        Comparison::Le => first <= second,
+        Comparison::Lt => first < second,
+    }
+}
+
+/// The connection of two BOOLs.
+pub fn connect(connective: Connective, first: bool, second: bool) -> bool
+    ensures { result ≡ connected connective first second }
+{
+    match connective {
+        Connective::And => first && second,
+        Connective::Or => first || second,
+        Connective::Xor => first != second,
+    }
+}
+
+/// The value of the next wider type that has the same number, for a value of the narrower type.
+pub fn widen(widening: Widening, value: Value) -> Option<Value>
+    ensures { result ≡ widened widening value }
+{
+    match (widening, value) {
+        (Widening::IntToDint, Value::Short(number)) => Some(Value::Long(i32::from(number))),
+        (Widening::DintToLint, Value::Long(number)) => Some(Value::Wide(i64::from(number))),
+        _ => None,
+    }
+}

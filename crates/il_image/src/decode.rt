@@ -1,0 +1,277 @@
+// Images read from octets, from the left up to the first fault.
+ghost use Rattle.std.specs.Prelude.{◌≡◌, ◌≤◌, ◌^◌, ◌<◌, length, IsTrue, MatchResult, None, Some};
+ghost use Rattle.std.specs.List.{list_all};
+ghost use Rattle.bay_base.specs.Exact.{Gives as GivesButMemory};
+ghost use Rattle.il_image.specs.Decoding.{access_at, access_of, behind, code_at, code_fault, counted_at, decoded, kind_of_octet, name_at, name_of_length, point_at, timer_at, type_at, type_of_octet, variable_at, version_at};
+ghost use Rattle.il_image.specs.Images.{is_name_octet, mark, value_size};
+ghost use Rattle.il_image.specs.Reading.{Gives};
+
+use crate::fault::ImageFault;
+use crate::image::{Image, ImagePoint};
+use crate::opcode::Version;
+use crate::read::{instr_from, number_at, octet_at, value_at};
+use crate::timer::TimerKind;
+use crate::value::Value;
+use crate::write::Size;
+use bay_base::listing::Listing;
+use bay_base::text::Text;
+use bay_base::types::ElementaryType;
+use std::alloc::Global;
+
+// The octets behind the mark.
+fn behind_mark(octets: &[u8]) -> Result<&[u8], ImageFault>
+    ensures { Gives (λ r. r.now) result (behind mark octets.now) }
+{
+    match octets {
+        [0x49, 0x4C, 0x42, 0x43, rest @ ..] => Ok(rest),
+        [] | [0x49] | [0x49, 0x4C] | [0x49, 0x4C, 0x42] => Err(ImageFault::Truncated),
+        _ => Err(ImageFault::BadMagic),
+    }
+}
+
+fn version_at(octets: &[u8]) -> Result<(Version, &[u8]), ImageFault>
+    ensures { Gives (λ r. (r.0, r.1.now)) result (version_at octets.now) }
+{
+    match octets {
+        [0x01, rest @ ..] => Ok((Version::One, rest)),
+        [0x02, rest @ ..] => Ok((Version::Two, rest)),
+        [_, ..] => Err(ImageFault::BadVersion),
+        [] => Err(ImageFault::Truncated),
+    }
+}
+
+// The type that an octet stands for.
+fn type_of_octet(version: Version, octet: u8) -> Option<ElementaryType>
+    ensures { result ≡ type_of_octet version octet }
+{
+    match octet {
+        0x01 => Some(ElementaryType::Bool),
+        0x02 => Some(ElementaryType::Int),
+        0x03 => Some(ElementaryType::Dint),
+        0x04 => Some(ElementaryType::Time),
+        0x05 if version == Version::Two => Some(ElementaryType::Lint),
+        _ => None,
+    }
+}
+
+fn type_at(version: Version, octets: &[u8]) -> Result<(ElementaryType, &[u8]), ImageFault>
+    ensures { Gives (λ r. (r.0, r.1.now)) result (type_at version octets.now) }
+{
+    let (octet, rest) = octet_at(octets)?;
+    match type_of_octet(version, octet) {
+        Some(elementary) => Ok((elementary, rest)),
+        None => Err(ImageFault::BadOpcode),
+    }
+}
+
+// Whether a point may be written.
+fn access_at(octets: &[u8]) -> Result<(bool, &[u8]), ImageFault>
+    ensures { Gives (λ r. (r.0, r.1.now)) result (access_at octets.now) }
+{
+    let (octet, rest) = octet_at(octets)?;
+    match octet {
+        0x00 => Ok((false, rest)),
+        0x01 => Ok((true, rest)),
+        _ => Err(ImageFault::BadOpcode),
+    }
+}
+
+fn is_name_octet(octet: u8) -> bool
+    ensures { result ≡ is_name_octet octet }
+{
+    matches!(octet, b'A'..=b'Z' | b'0'..=b'9' | b'_')
+}
+
+// Whether each octet may stand in a name.
+fn is_name(octets: &[u8]) -> bool
+    ensures { result ≡ list_all is_name_octet octets.now }
+{
+    octets.iter().all(|octet| is_name_octet(*octet))
+}
+
+// Octets that may stand in a name are text.
+fn text_of(octets: &[u8]) -> &str
+    requires { IsTrue (list_all is_name_octet octets.now) }
+    ensures { result.now ≡ octets.now }
+{
+    match str::from_utf8(octets) {
+        Ok(text) => text,
+        Err(_) => unreachable!(),
+    }
+}
+
+// A name of this length.
+fn name_of_length(count: usize, octets: &[u8]) -> Result<(&str, &[u8]), ImageFault>
+    ensures { Gives (λ r. (r.0.now, r.1.now)) result (name_of_length count octets.now) }
+{
+    if octets.len() < count {
+        if is_name(octets) {
+            return Err(ImageFault::Truncated);
+        }
+        return Err(ImageFault::BadOpcode);
+    }
+    let (name, rest) = octets.split_at(count);
+    if !is_name(name) {
+        return Err(ImageFault::BadOpcode);
+    }
+    Ok((text_of(name), rest))
+}
+
+fn name_at(octets: &[u8]) -> Result<(&str, &[u8]), ImageFault>
+    ensures { Gives (λ r. (r.0.now, r.1.now)) result (name_at octets.now) }
+{
+    let (count, rest) = octet_at(octets)?;
+    if count == 0 || count > 64 {
+        return Err(ImageFault::BadOpcode);
+    }
+    name_of_length(usize::from(count), rest)
+}
+
+#[tactic(auto, unfolding(crate::specs::Decoding::point_at))]
+fn point_at(
+    alloc: Global,
+    version: Version,
+    octets: &[u8],
+) -> Result<(ImagePoint, &[u8]), ImageFault>
+    ensures { GivesButMemory ImageFault.OutOfMemory (λ r. (r.0, r.1.now)) result (point_at version octets.now) }
+{
+    let (elementary, rest) = type_at(version, octets)?;
+    let (writable, rest) = access_at(rest)?;
+    let (name, rest) = name_at(rest)?;
+    let name = Text::from_str(alloc, name)?;
+    Ok((
+        ImagePoint {
+            name,
+            elementary,
+            writable,
+        },
+        rest,
+    ))
+}
+
+// The size of initial values.
+fn value_size(version: Version) -> Size
+    ensures { result ≡ value_size version }
+{
+    match version {
+        Version::One => Size::Four,
+        Version::Two => Size::Eight,
+    }
+}
+
+#[tactic(auto, unfolding(crate::specs::Decoding::variable_at))]
+fn variable_at(version: Version, octets: &[u8]) -> Result<(Value, &[u8]), ImageFault>
+    ensures { Gives (λ r. (r.0, r.1.now)) result (variable_at version octets.now) }
+{
+    let (elementary, rest) = type_at(version, octets)?;
+    value_at(value_size(version), elementary, rest)
+}
+
+#[tactic(auto, unfolding(crate::specs::Decoding::timer_at))]
+fn timer_at(version: Version, octets: &[u8]) -> Result<(TimerKind, &[u8]), ImageFault>
+    ensures { Gives (λ r. (r.0, r.1.now)) result (timer_at version octets.now) }
+{
+    if version == Version::One {
+        return Ok((TimerKind::OnDelay, octets));
+    }
+    let (octet, rest) = octet_at(octets)?;
+    match octet {
+        0x01 => Ok((TimerKind::OnDelay, rest)),
+        0x02 => Ok((TimerKind::OffDelay, rest)),
+        _ => Err(ImageFault::BadOpcode),
+    }
+}
+
+fn points_at(
+    alloc: Global,
+    version: Version,
+    octets: &[u8],
+) -> Result<(Listing<ImagePoint>, &[u8]), ImageFault>
+    ensures { GivesButMemory ImageFault.OutOfMemory (λ r. (r.0, r.1.now)) result (counted_at (point_at version) octets.now) }
+{
+    let (count, mut rest) = number_at(octets)?;
+    let mut points = Vec::new(alloc);
+    'items: for _ in 0..count {
+        let (point, behind) = point_at(alloc, version, rest)?;
+        points.push(point)?;
+        rest = behind;
+    }
+    Ok((Listing::new(points), rest))
+}
+
+fn variables_at(
+    alloc: Global,
+    version: Version,
+    octets: &[u8],
+) -> Result<(Listing<Value>, &[u8]), ImageFault>
+    ensures { GivesButMemory ImageFault.OutOfMemory (λ r. (r.0, r.1.now)) result (counted_at (variable_at version) octets.now) }
+{
+    let (count, mut rest) = number_at(octets)?;
+    let mut variables = Vec::new(alloc);
+    'items: for _ in 0..count {
+        let (value, behind) = variable_at(version, rest)?;
+        variables.push(value)?;
+        rest = behind;
+    }
+    Ok((Listing::new(variables), rest))
+}
+
+fn timers_at(
+    alloc: Global,
+    version: Version,
+    octets: &[u8],
+) -> Result<(Listing<TimerKind>, &[u8]), ImageFault>
+    ensures { GivesButMemory ImageFault.OutOfMemory (λ r. (r.0, r.1.now)) result (counted_at (timer_at version) octets.now) }
+{
+    let (count, mut rest) = number_at(octets)?;
+    let mut timers = Vec::new(alloc);
+    'items: for _ in 0..count {
+        let (kind, behind) = timer_at(version, rest)?;
+        timers.push(kind)?;
+        rest = behind;
+    }
+    Ok((Listing::new(timers), rest))
+}
+
+// Refuses octets that are not instructions one behind the other.
+fn check_code(version: Version, code: &[u8]) -> Result<(), ImageFault>
+    ensures { MatchResult result (λ _. code_fault version (length code.now) code.now ≡ None) (λ fault. code_fault version (length code.now) code.now ≡ Some fault) }
+{
+    let mut rest = code;
+    while rest.len() > 0 {
+        let (_, behind) = instr_from(version, rest)?;
+        rest = behind;
+    }
+    Ok(())
+}
+
+// The octets of the code, which are all that is left.
+#[tactic(auto, unfolding(crate::specs::Decoding::code_at))]
+fn code_at(version: Version, octets: &[u8]) -> Result<&[u8], ImageFault>
+    ensures { Gives (λ r. r.now) result (code_at version octets.now) }
+{
+    let (count, code) = number_at(octets)?;
+    let count = usize::from(count);
+    let (front, _) = code.split_at(count.min(code.len()));
+    match check_code(version, front) {
+        Ok(()) if code.len() == count => Ok(code),
+        Ok(()) => Err(ImageFault::Truncated),
+        Err(fault) => Err(fault),
+    }
+}
+
+/// The image that octets spell, in version 1 or 2 of the format, or their first fault from the left. The memory that is
+/// taken is a few times the octets', and one octet for each timer of version 1, of which there are at most 65,535.
+#[tactic(auto, unfolding(crate::specs::Decoding::decoded))]
+pub fn decode(alloc: Global, octets: &[u8]) -> Result<Image, ImageFault>
+    ensures { GivesButMemory ImageFault.OutOfMemory (λ i. i) result (decoded octets.now) }
+{
+    let rest = behind_mark(octets)?;
+    let (version, rest) = version_at(rest)?;
+    let (points, rest) = points_at(alloc, version, rest)?;
+    let (variables, rest) = variables_at(alloc, version, rest)?;
+    let (timers, rest) = timers_at(alloc, version, rest)?;
+    let code = code_at(version, rest)?;
+    let code = Listing::new(Vec::from_slice(alloc, code)?);
+    Ok(Image::new(points, variables, timers, code))
+}

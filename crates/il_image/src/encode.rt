@@ -1,0 +1,100 @@
+// Images written as octets.
+ghost use Rattle.std.specs.Prelude.{◌≡◌, ◌++◌, ◌≤◌, IfOk, OnOk, length};
+ghost use Rattle.il_image.specs.Images.{Each, HasName, counted, encoded, point_octets, timer_octets, type_octet, variable_octets};
+
+use crate::image::{Image, ImagePoint};
+use crate::opcode::Version;
+use crate::timer::TimerKind;
+use crate::value::Value;
+use crate::write::{Size, push_number, push_octet, push_signed};
+use bay_base::types::ElementaryType;
+use std::alloc::{AllocError, Global};
+
+// The octet of a type.
+fn type_octet(elementary: ElementaryType) -> u8
+    ensures { result ≡ type_octet elementary }
+{
+    match elementary {
+        ElementaryType::Bool => 0x01,
+        ElementaryType::Int => 0x02,
+        ElementaryType::Dint => 0x03,
+        ElementaryType::Time => 0x04,
+        ElementaryType::Lint => 0x05,
+    }
+}
+
+fn push_point(octets: &mut Vec<u8>, point: &ImagePoint) -> Result<(), AllocError>
+    requires { HasName point.now }
+    ensures { OnOk result (octets.new.items ≡ octets.old.items ++ point_octets point.now) }
+{
+    let name = point.name.as_str().as_bytes();
+    push_octet(octets, type_octet(point.elementary))?;
+    push_octet(octets, u8::from(point.writable))?;
+    push_octet(octets, name.len() as u8)?;
+    octets.extend_from_slice(name)
+}
+
+fn push_points(octets: &mut Vec<u8>, points: &[ImagePoint]) -> Result<(), AllocError>
+    requires few { length points.now ≤ 65_535 }
+    requires names { Each HasName points.now }
+    ensures { OnOk result (octets.new.items ≡ octets.old.items ++ counted point_octets points.now) }
+{
+    push_number(octets, points.len() as u16)?;
+    for point in points {
+        push_point(octets, point)?;
+    }
+    Ok(())
+}
+
+fn push_variable(octets: &mut Vec<u8>, value: Value) -> Result<(), AllocError>
+    ensures { OnOk result (octets.new.items ≡ octets.old.items ++ variable_octets Version.Two value) }
+{
+    push_octet(octets, type_octet(value.type_of()))?;
+    push_signed(octets, Size::Eight, value.number())
+}
+
+fn push_variables(octets: &mut Vec<u8>, values: &[Value]) -> Result<(), AllocError>
+    requires { length values.now ≤ 65_535 }
+    ensures { OnOk result (octets.new.items ≡ octets.old.items ++ counted (variable_octets Version.Two) values.now) }
+{
+    push_number(octets, values.len() as u16)?;
+    for value in values {
+        push_variable(octets, *value)?;
+    }
+    Ok(())
+}
+
+fn push_timer(octets: &mut Vec<u8>, kind: TimerKind) -> Result<(), AllocError>
+    ensures { OnOk result (octets.new.items ≡ octets.old.items ++ timer_octets Version.Two kind) }
+{
+    match kind {
+        TimerKind::OnDelay => push_octet(octets, 0x01),
+        TimerKind::OffDelay => push_octet(octets, 0x02),
+    }
+}
+
+fn push_timers(octets: &mut Vec<u8>, kinds: &[TimerKind]) -> Result<(), AllocError>
+    requires { length kinds.now ≤ 65_535 }
+    ensures { OnOk result (octets.new.items ≡ octets.old.items ++ counted (timer_octets Version.Two) kinds.now) }
+{
+    push_number(octets, kinds.len() as u16)?;
+    for kind in kinds {
+        push_timer(octets, *kind)?;
+    }
+    Ok(())
+}
+
+/// The octets of an image, in version 2 of the format.
+#[tactic(auto, unfolding(crate::specs::Images::encoded))]
+pub fn encode(alloc: Global, image: &Image) -> Result<Vec<u8>, AllocError>
+    ensures { IfOk result (λ octets. octets.items ≡ encoded Version.Two image.now) }
+{
+    let mut octets = Vec::from_slice(alloc, &[0x49, 0x4C, 0x42, 0x43, 0x02])?;
+    push_points(&mut octets, image.points())?;
+    push_variables(&mut octets, image.variables())?;
+    push_timers(&mut octets, image.timers())?;
+    let code = image.code();
+    push_number(&mut octets, code.len() as u16)?;
+    octets.extend_from_slice(code)?;
+    Ok(octets)
+}

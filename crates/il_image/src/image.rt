@@ -1,0 +1,94 @@
+// Images: compiled code with the points, variables and timers that it uses.
+ghost use Rattle.std.specs.Prelude.{◌≡◌};
+
+use crate::timer::TimerKind;
+use crate::value::Value;
+use bay_base::listing::Listing;
+use bay_base::text::Text;
+use bay_base::types::ElementaryType;
+use std::marker::Model;
+
+/// A point that the code reads, or reads and writes.
+#[derive(Debug, Drop)]
+pub struct ImagePoint {
+    /// Its name in upper case: 1 to 64 letters, digits and underscores.
+    pub name: Text,
+    pub elementary: ElementaryType,
+    /// Whether the code may write it.
+    pub writable: bool,
+}
+
+/// A program's code in octets, and what it uses. Slots are the points and then the variables, in their order. An image
+/// holds only what its format can say: at most 65,535 points, variables, timers and octets of code, names that are names,
+/// values of their types, and code that is instructions one behind the other.
+#[derive(Debug, Drop)]
+pub struct Image {
+    points: Listing<ImagePoint>,
+    variables: Listing<Value>,
+    timers: Listing<TimerKind>,
+    code: Listing<u8>,
+}
+
+impl Model for Image {
+    ghost use Rattle.il_image.specs.Images.{Image, IsImage};
+
+    ghost Value = { Image };
+
+    ghost view = { λ i. record { points = i.points; variables = i.variables; timers = i.timers; code = i.code } };
+
+    ghost invariant = { λ i. IsImage (record { points = i.points; variables = i.variables; timers = i.timers; code = i.code }) };
+}
+
+impl Image {
+    ghost use Rattle.il_image.specs.Images.{IsImage};
+
+    /// The image of these parts, which its format can say.
+    pub fn new(
+        points: Listing<ImagePoint>,
+        variables: Listing<Value>,
+        timers: Listing<TimerKind>,
+        code: Listing<u8>,
+    ) -> Self
+        requires { IsImage (record { points = points; variables = variables; timers = timers; code = code }) }
+        ensures { result ≡ record { points = points; variables = variables; timers = timers; code = code } }
+    {
+        Image {
+            points,
+            variables,
+            timers,
+            code,
+        }
+    }
+
+    /// The points, whose slots come first.
+    pub fn points(&self) -> &[ImagePoint]
+        ensures value { result.now ≡ self.now.points }
+        ensures kept { IsImage self.now }
+    {
+        self.points.as_slice()
+    }
+
+    /// The variables' initial values.
+    pub fn variables(&self) -> &[Value]
+        ensures value { result.now ≡ self.now.variables }
+        ensures kept { IsImage self.now }
+    {
+        self.variables.as_slice()
+    }
+
+    /// The kinds of the timers.
+    pub fn timers(&self) -> &[TimerKind]
+        ensures value { result.now ≡ self.now.timers }
+        ensures kept { IsImage self.now }
+    {
+        self.timers.as_slice()
+    }
+
+    /// The octets of the code.
+    pub fn code(&self) -> &[u8]
+        ensures value { result.now ≡ self.now.code }
+        ensures kept { IsImage self.now }
+    {
+        self.code.as_slice()
+    }
+}

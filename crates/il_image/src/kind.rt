@@ -1,0 +1,44 @@
+// What is known of a value on the operand stack.
+ghost use Rattle.std.specs.Prelude.{◌≡◌};
+ghost use Rattle.il_image.specs.Kinds.{is_within, join};
+
+use crate::arithmetic::Width;
+use bay_base::types::ElementaryType;
+
+/// What is known of a value on the operand stack. That a number is not zero says more than its type, and a type more than
+/// nothing.
+#[derive(Clone, Copy, Debug, PartialEq, Eq)]
+pub enum Kind {
+    /// Some value.
+    Any,
+    /// A value of the type.
+    Plain(ElementaryType),
+    /// A number of the width other than 0.
+    NotZero(Width),
+}
+
+/// Whether each value of the kind `lower` is one of the kind `upper`.
+pub fn is_within(lower: Kind, upper: Kind) -> bool
+    ensures { result ≡ is_within lower upper }
+{
+    match (lower, upper) {
+        (_, Kind::Any) => true,
+        (Kind::Plain(first), Kind::Plain(second)) => first == second,
+        (Kind::NotZero(width), Kind::Plain(elementary)) => width.elementary() == elementary,
+        (Kind::NotZero(first), Kind::NotZero(second)) => first == second,
+        _ => false,
+    }
+}
+
+/// The least kind above both.
+pub fn join(first: Kind, second: Kind) -> Kind
+    ensures { result ≡ join first second }
+{
+    if is_within(first, second) {
+        return second;
+    }
+    if is_within(second, first) {
+        return first;
+    }
+    Kind::Any
+}

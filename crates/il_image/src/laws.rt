@@ -1,0 +1,54 @@
+// Laws of the definitions. Each function does nothing, and its contract is the law.
+ghost use Rattle.std.specs.Prelude.{◌≡◌, ◌∷◌, ◌++◌, ◌⊎◌, ◌↔◌, IsTrue, List, Ok, Some, slice_index, true, ℕ};
+ghost use Rattle.il_image.specs.Decoding.{decoded};
+ghost use Rattle.il_image.specs.Images.{Image, IsImage, encoded};
+ghost use Rattle.il_image.specs.Kinds.{HasKind, is_within, join};
+ghost use Rattle.il_image.specs.Octets.{AreOctets};
+ghost use Rattle.il_image.specs.Reading.{StandsAt, instr_at, instr_from};
+ghost use Rattle.il_image.specs.Spelling.{IsInstr, spelling};
+ghost use Rattle.il_image.specs.declared.instr.Instr.{Instr};
+ghost use Rattle.il_image.specs.declared.kind.Kind.{Kind};
+ghost use Rattle.il_image.specs.declared.value.Value.{Value};
+ghost use Rattle.il_image.specs.declared.opcode.Version.{Version};
+ghost use Rattle.il_image.specs.declared.opcode.Version.TheVariants.{One, Two};
+ghost use Rattle.il_image.specs.Timers.{Call, HasNotPassed, HasPassed, after};
+ghost use Rattle.il_image.specs.declared.timer.TimerKind.TheVariants.{OnDelay, OffDelay};
+
+/// After any calls, of which the list has the last one first, Q of a TON is TRUE exactly where the last call has IN TRUE and
+/// its PT has passed since the first call of the last unbroken run of calls with IN TRUE.
+pub fn on_delay_timer()
+    ensures { (last : Call) (earlier : List Call) → IsTrue (after OnDelay (last ∷ earlier)).output ↔ HasPassed last earlier }
+{}
+
+/// After any calls, of which the list has the last one first, Q of a TOF is TRUE exactly where the last call has IN TRUE, or
+/// an earlier one has and less than the last call's PT has passed since the first call of the last unbroken run of calls
+/// with IN FALSE.
+pub fn off_delay_timer()
+    ensures { (last : Call) (earlier : List Call) → IsTrue (after OffDelay (last ∷ earlier)).output ↔ ((last.input ≡ true) ⊎ HasNotPassed last earlier) }
+{}
+
+/// Each instruction has one spelling, which is read back whatever follows it: what is read is spelled by the front of the
+/// octets, and at a place of code stands the one instruction that is spelled there.
+pub fn one_spelling_of_instructions()
+    ensures written { (i : Instr) (rest : List ℕ) → IsInstr i → instr_from Two (spelling i ++ rest) ≡ Ok (i, rest) }
+    ensures read { (version : Version) (octets : List ℕ) (i : Instr) (rest : List ℕ) → AreOctets octets → instr_from version octets ≡ Ok (i, rest) → IsInstr i × (octets ≡ spelling i ++ rest) }
+    ensures newer { (octets : List ℕ) (i : Instr) (rest : List ℕ) → AreOctets octets → instr_from One octets ≡ Ok (i, rest) → instr_from Two octets ≡ Ok (i, rest) }
+    ensures places { (code : List ℕ) (place : ℕ) (i : Instr) (next : ℕ) → AreOctets code → (instr_at code place ≡ Some (i, next)) ↔ StandsAt code place i next }
+{}
+
+/// What is written of an image in version 2 is read as that image. What is read of octets is an image, and the format spells
+/// it so in one of its versions; octets with the same fifth octet, the version, that are read as the same image are the same.
+pub fn one_spelling_of_images()
+    ensures written { (i : Image) → IsImage i → decoded (encoded Two i) ≡ Ok i }
+    ensures read { (octets : List ℕ) (i : Image) → AreOctets octets → decoded octets ≡ Ok i → IsImage i × ((version : Version) × (octets ≡ encoded version i)) }
+    ensures one { (octets others : List ℕ) (i : Image) → AreOctets octets → AreOctets others → decoded octets ≡ Ok i → decoded others ≡ Ok i → slice_index octets 4 ≡ slice_index others 4 → octets ≡ others }
+{}
+
+/// The kinds are in order, by the values that they have, and the join of two is the least kind above both.
+pub fn join_is_least()
+    ensures same { (a : Kind) → IsTrue (is_within a a) }
+    ensures along { (a b c : Kind) → IsTrue (is_within a b) → IsTrue (is_within b c) → IsTrue (is_within a c) }
+    ensures values { (v : Value) (a b : Kind) → IsTrue (is_within a b) → HasKind v a → HasKind v b }
+    ensures above { (a b : Kind) → IsTrue (is_within a (join a b)) × IsTrue (is_within b (join a b)) }
+    ensures least { (a b top : Kind) → IsTrue (is_within a top) → IsTrue (is_within b top) → IsTrue (is_within (join a b) top) }
+{}

@@ -1,0 +1,208 @@
+// What the first octet of an instruction says.
+ghost use Rattle.std.specs.Prelude.{◌≡◌};
+ghost use Rattle.il_image.specs.Opcodes.{is_known, octet_of, opcode_of, width_octet, width_of};
+
+use crate::arithmetic::{Comparison, Operation, Width};
+use bay_base::types::ElementaryType;
+
+/// A version of the format. Version 2 has LINT and TOF beside all that version 1 has.
+#[derive(Clone, Copy, Debug, PartialEq, Eq)]
+pub enum Version {
+    One,
+    Two,
+}
+
+/// A connective of two BOOLs.
+#[derive(Clone, Copy, Debug, PartialEq, Eq)]
+pub enum Connective {
+    And,
+    Or,
+    Xor,
+}
+
+/// What an instruction does with a slot.
+#[derive(Clone, Copy, Debug, PartialEq, Eq)]
+pub enum SlotUse {
+    /// Puts the slot's value on the stack.
+    Load,
+    /// Copies the top to the slot.
+    Store,
+    /// Sets the slot to TRUE where the top is TRUE.
+    SetIf,
+    /// Sets the slot to FALSE where the top is TRUE.
+    ResetIf,
+}
+
+/// A conversion of an integer type to the next wider one.
+#[derive(Clone, Copy, Debug, PartialEq, Eq)]
+pub enum Widening {
+    IntToDint,
+    DintToLint,
+}
+
+/// When a jump is taken.
+#[derive(Clone, Copy, Debug, PartialEq, Eq)]
+pub enum When {
+    Always,
+    /// Where the top is TRUE.
+    IfTrue,
+    /// Where the top is FALSE.
+    IfFalse,
+}
+
+/// What an instruction does with a timer.
+#[derive(Clone, Copy, Debug, PartialEq, Eq)]
+pub enum TimerUse {
+    /// Takes the top as IN.
+    SetInput,
+    /// Takes the top as PT.
+    SetPreset,
+    /// Calls the timer.
+    Run,
+    /// Puts Q on the stack.
+    LoadOutput,
+    /// Puts ET on the stack.
+    LoadElapsed,
+}
+
+/// The first octet of an instruction. What the instruction needs besides stands in the octets behind it.
+#[derive(Clone, Copy, Debug, PartialEq, Eq)]
+pub enum Opcode {
+    Halt,
+    Push(ElementaryType),
+    Drop,
+    Slot(SlotUse),
+    Not,
+    Combine(Connective),
+    Compute(Operation),
+    Compare(Comparison),
+    Widen(Widening),
+    Jump(When),
+    Timer(TimerUse),
+}
+
+impl Opcode {
+    /// The octet of an opcode.
+    pub fn octet(self) -> u8
+        ensures { result ≡ octet_of self }
+    {
+        match self {
+            Opcode::Halt => 0x01,
+            Opcode::Push(ElementaryType::Bool) => 0x02,
+            Opcode::Push(ElementaryType::Int) => 0x03,
+            Opcode::Push(ElementaryType::Dint) => 0x04,
+            Opcode::Push(ElementaryType::Time) => 0x05,
+            Opcode::Push(ElementaryType::Lint) => 0x23,
+            Opcode::Drop => 0x06,
+            Opcode::Slot(SlotUse::Load) => 0x07,
+            Opcode::Slot(SlotUse::Store) => 0x08,
+            Opcode::Slot(SlotUse::SetIf) => 0x09,
+            Opcode::Slot(SlotUse::ResetIf) => 0x0A,
+            Opcode::Not => 0x0B,
+            Opcode::Combine(Connective::And) => 0x0C,
+            Opcode::Combine(Connective::Or) => 0x0D,
+            Opcode::Combine(Connective::Xor) => 0x0E,
+            Opcode::Compute(Operation::Add) => 0x0F,
+            Opcode::Compute(Operation::Sub) => 0x10,
+            Opcode::Compute(Operation::Mul) => 0x11,
+            Opcode::Compute(Operation::Div) => 0x12,
+            Opcode::Compute(Operation::Mod) => 0x13,
+            Opcode::Compare(Comparison::Gt) => 0x14,
+            Opcode::Compare(Comparison::Ge) => 0x15,
+            Opcode::Compare(Comparison::Eq) => 0x16,
+            Opcode::Compare(Comparison::Ne) => 0x17,
+            Opcode::Compare(Comparison::Le) => 0x18,
+            Opcode::Compare(Comparison::Lt) => 0x19,
+            Opcode::Widen(Widening::IntToDint) => 0x1A,
+            Opcode::Widen(Widening::DintToLint) => 0x24,
+            Opcode::Jump(When::Always) => 0x1B,
+            Opcode::Jump(When::IfTrue) => 0x1C,
+            Opcode::Jump(When::IfFalse) => 0x1D,
+            Opcode::Timer(TimerUse::SetInput) => 0x1E,
+            Opcode::Timer(TimerUse::SetPreset) => 0x1F,
+            Opcode::Timer(TimerUse::Run) => 0x20,
+            Opcode::Timer(TimerUse::LoadOutput) => 0x21,
+            Opcode::Timer(TimerUse::LoadElapsed) => 0x22,
+        }
+    }
+
+    /// The opcode that has an octet, if there is one.
+    #[tactic(auto, unfolding(crate::specs::Opcodes::opcode_of))]
+    pub fn of(octet: u8) -> Option<Opcode>
+        ensures { result ≡ opcode_of octet }
+    {
+        Some(match octet {
+            0x01 => Opcode::Halt,
+            0x02 => Opcode::Push(ElementaryType::Bool),
+            0x03 => Opcode::Push(ElementaryType::Int),
+            0x04 => Opcode::Push(ElementaryType::Dint),
+            0x05 => Opcode::Push(ElementaryType::Time),
+            0x06 => Opcode::Drop,
+            0x07 => Opcode::Slot(SlotUse::Load),
+            0x08 => Opcode::Slot(SlotUse::Store),
+            0x09 => Opcode::Slot(SlotUse::SetIf),
+            0x0A => Opcode::Slot(SlotUse::ResetIf),
+            0x0B => Opcode::Not,
+            0x0C => Opcode::Combine(Connective::And),
+            0x0D => Opcode::Combine(Connective::Or),
+            0x0E => Opcode::Combine(Connective::Xor),
+            0x0F => Opcode::Compute(Operation::Add),
+            0x10 => Opcode::Compute(Operation::Sub),
+            0x11 => Opcode::Compute(Operation::Mul),
+            0x12 => Opcode::Compute(Operation::Div),
+            0x13 => Opcode::Compute(Operation::Mod),
+            0x14 => Opcode::Compare(Comparison::Gt),
+            0x15 => Opcode::Compare(Comparison::Ge),
+            0x16 => Opcode::Compare(Comparison::Eq),
+            0x17 => Opcode::Compare(Comparison::Ne),
+            0x18 => Opcode::Compare(Comparison::Le),
+            0x19 => Opcode::Compare(Comparison::Lt),
+            0x1A => Opcode::Widen(Widening::IntToDint),
+            0x1B => Opcode::Jump(When::Always),
+            0x1C => Opcode::Jump(When::IfTrue),
+            0x1D => Opcode::Jump(When::IfFalse),
+            0x1E => Opcode::Timer(TimerUse::SetInput),
+            0x1F => Opcode::Timer(TimerUse::SetPreset),
+            0x20 => Opcode::Timer(TimerUse::Run),
+            0x21 => Opcode::Timer(TimerUse::LoadOutput),
+            0x22 => Opcode::Timer(TimerUse::LoadElapsed),
+            0x23 => Opcode::Push(ElementaryType::Lint),
+            0x24 => Opcode::Widen(Widening::DintToLint),
+            _ => return None,
+        })
+    }
+
+    /// Whether a version has the opcode.
+    pub fn is_known(self, version: Version) -> bool
+        ensures { result ≡ is_known version self }
+    {
+        match (version, self) {
+            (Version::One, Opcode::Push(ElementaryType::Lint)) => false,
+            (Version::One, Opcode::Widen(Widening::DintToLint)) => false,
+            _ => true,
+        }
+    }
+}
+
+/// The octet of a width.
+pub(crate) fn width_octet(width: Width) -> u8
+    ensures { result ≡ width_octet width }
+{
+    match width {
+        Width::Int => 0x02,
+        Width::Dint => 0x03,
+        Width::Lint => 0x05,
+    }
+}
+
+/// The width that has an octet in a version, if there is one.
+pub(crate) fn width_of(version: Version, octet: u8) -> Option<Width>
+    ensures { result ≡ width_of version octet }
+{
+    match octet {
+        0x02 => Some(Width::Int),
+        0x03 => Some(Width::Dint),
+        0x05 if version == Version::Two => Some(Width::Lint),
+        _ => None,
+    }
+}

@@ -1,0 +1,119 @@
+// Timers (IEC 61131-3:2003, table 38): one call as a function of the timer, its inputs and the moment.
+ghost use Rattle.std.specs.Prelude.{◌≡◌};
+ghost use Rattle.il_image.specs.Timers.{called, elapsed_of, first_state, output_of, phase_after};
+
+/// A kind of timer.
+#[derive(Clone, Copy, Debug, PartialEq, Eq)]
+pub enum TimerKind {
+    /// TON: Q follows a TRUE of IN after the time PT.
+    OnDelay,
+    /// TOF: Q follows a FALSE of IN after the time PT.
+    OffDelay,
+}
+
+/// Where a timer stands in its delay.
+#[derive(Clone, Copy, Debug, PartialEq, Eq)]
+pub enum Phase {
+    /// No delay runs, and the timer has nothing to delay: IN of a TON is FALSE, or IN of a TOF was never TRUE.
+    Idle,
+    /// IN of a TOF is TRUE.
+    Held,
+    /// The delay began at this moment, in milliseconds. It may be over.
+    Since(u64),
+}
+
+/// A timer: what its next call finds, and what its last call gave.
+#[derive(Clone, Copy, Debug, PartialEq, Eq)]
+pub struct Timer {
+    pub kind: TimerKind,
+    /// IN.
+    pub input: bool,
+    /// PT in milliseconds.
+    pub preset: u32,
+    pub phase: Phase,
+    /// Q.
+    pub output: bool,
+    /// ET in milliseconds.
+    pub elapsed: u32,
+}
+
+// The phase that a call of a TON at this moment leaves.
+fn on_delay_phase(input: bool, phase: Phase, now: u64) -> Phase
+    ensures { result ≡ phase_after TimerKind.OnDelay input phase now }
+{
+    if !input {
+        return Phase::Idle;
+    }
+    match phase {
+        Phase::Idle | Phase::Held => Phase::Since(now),
+        Phase::Since(begun) => Phase::Since(begun),
+    }
+}
+
+// The phase that a call of a TOF at this moment leaves.
+fn off_delay_phase(input: bool, phase: Phase, now: u64) -> Phase
+    ensures { result ≡ phase_after TimerKind.OffDelay input phase now }
+{
+    if input {
+        return Phase::Held;
+    }
+    match phase {
+        Phase::Idle => Phase::Idle,
+        Phase::Held => Phase::Since(now),
+        Phase::Since(start) => Phase::Since(start),
+    }
+}
+
+// Q.
+fn output_of(kind: TimerKind, preset: u32, phase: Phase, now: u64) -> bool
+    ensures { result ≡ output_of kind preset phase now }
+{
+    match (kind, phase) {
+        (_, Phase::Idle) => false,
+        (_, Phase::Held) => true,
+        (TimerKind::OnDelay, Phase::Since(start)) => {
+            now.saturating_sub(start) >= u64::from(preset)
+        }
+        (TimerKind::OffDelay, Phase::Since(start)) => {
+            now.saturating_sub(start) < u64::from(preset)
+        }
+    }
+}
+
+// ET.
+fn elapsed_of(preset: u32, phase: Phase, now: u64) -> u32
+    ensures { result ≡ elapsed_of preset phase now }
+{
+    match phase {
+        Phase::Since(start) => now.saturating_sub(start).min(u64::from(preset)) as u32,
+        _ => 0,
+    }
+}
+
+impl Timer {
+    /// A timer before its first call: IN and Q are FALSE, PT and ET are 0.
+    pub fn new(kind: TimerKind) -> Timer
+        ensures { result ≡ first_state kind }
+    {
+        Timer {
+            kind,
+            input: false,
+            preset: 0,
+            phase: Phase::Idle,
+            output: false,
+            elapsed: 0,
+        }
+    }
+
+    /// One call of the timer at a moment in milliseconds, with the IN and PT that it holds.
+    pub fn call(&mut self, now: u64)
+        ensures { self.new ≡ called self.old now }
+    {
+        self.phase = match self.kind {
+            TimerKind::OnDelay => on_delay_phase(self.input, self.phase, now),
+            TimerKind::OffDelay => off_delay_phase(self.input, self.phase, now),
+        };
+        self.output = output_of(self.kind, self.preset, self.phase, now);
+        self.elapsed = elapsed_of(self.preset, self.phase, now);
+    }
+}

@@ -1,0 +1,72 @@
+// Values of the elementary types, and the numbers that they have.
+ghost use Rattle.std.specs.Prelude.{◌≡◌};
+ghost use Rattle.il_image.specs.Values.{number_of, type_of, value_of};
+
+use bay_base::types::ElementaryType;
+
+/// A value of an elementary type.
+#[derive(Clone, Copy, Debug, PartialEq, Eq)]
+pub enum Value {
+    /// A BOOL.
+    Truth(bool),
+    /// An INT.
+    Short(i16),
+    /// A DINT.
+    Long(i32),
+    /// A LINT.
+    Wide(i64),
+    /// A TIME in milliseconds. Of the numbers here those up to 2,147,483,647 are values of TIME.
+    Span(u32),
+}
+
+impl Value {
+    /// The type whose value this is.
+    pub fn type_of(self) -> ElementaryType
+        ensures { result ≡ type_of self }
+    {
+        match self {
+            Value::Truth(_) => ElementaryType::Bool,
+            Value::Short(_) => ElementaryType::Int,
+            Value::Long(_) => ElementaryType::Dint,
+            Value::Wide(_) => ElementaryType::Lint,
+            Value::Span(_) => ElementaryType::Time,
+        }
+    }
+
+    /// The value as a number: FALSE is 0 and TRUE is 1, and a TIME is its milliseconds.
+    pub fn number(self) -> i64
+        ensures { result ≡ number_of self }
+    {
+        match self {
+            Value::Truth(truth) => i64::from(truth),
+            Value::Short(number) => i64::from(number),
+            Value::Long(number) => i64::from(number),
+            Value::Wide(number) => number,
+            Value::Span(milliseconds) => i64::from(milliseconds),
+        }
+    }
+
+    /// The value of a type that has this number, if there is one.
+    pub fn of(elementary: ElementaryType, number: i64) -> Option<Value>
+        ensures { result ≡ value_of elementary number }
+    {
+        match elementary {
+            ElementaryType::Bool => match number {
+                0 => Some(Value::Truth(false)),
+                1 => Some(Value::Truth(true)),
+                _ => None,
+            },
+            ElementaryType::Int if -32_768 <= number && number <= 32_767 => {
+                Some(Value::Short(number as i16))
+            }
+            ElementaryType::Dint if -2_147_483_648 <= number && number <= 2_147_483_647 => {
+                Some(Value::Long(number as i32))
+            }
+            ElementaryType::Lint => Some(Value::Wide(number)),
+            ElementaryType::Time if 0 <= number && number <= 2_147_483_647 => {
+                Some(Value::Span(number as u32))
+            }
+            _ => None,
+        }
+    }
+}
