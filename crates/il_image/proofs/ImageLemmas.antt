@@ -43,13 +43,16 @@ took_stages octets rest0 version rest1 points rest2 variables rest3 timers rest4
       good = record { points = p.size; variables = v.size; timers = t.size; size = c.size; names = p.good; values = v.good; code = c.good };
     }
 
+of_parts : (version : Version) (octets : List ℕ) (points : List ImagePoint) (variables : List Value) (timers : List TimerKind) (code : List ℕ) (i : Image) → (◌≡◌ {A = Image} (record { points = points; variables = variables; timers = timers; code = code }) i) → TookImage version octets (record { points = points; variables = variables; timers = timers; code = code }) → TookImage version octets i
+of_parts version octets points variables timers code i same took = subst (TookImage version octets) same took
+
 took_parts : (octets rest0 : List ℕ) (version : Version) (rest1 : List ℕ) (i : Image) → AreOctets octets → behind mark octets ≡ Ok rest0 → version_at rest0 ≡ Ok (version, rest1) → (counted_at (point_at version) rest1 >>= (λ (p : List ImagePoint × List ℕ). counted_at (variable_at version) p.1 >>= (λ (x : List Value × List ℕ). counted_at (timer_at version) x.1 >>= (λ (t : List TimerKind × List ℕ). code_at version t.1 >>= (λ (code : List ℕ). Ok (record { points = p.0; variables = x.0; timers = t.0; code = code })))))) ≡ Ok i → (version : Version) × TookImage version octets i
 took_parts octets rest0 version rest1 i fits marked versioned e =
     let d = bind_ok (counted_at (point_at version) rest1) (λ (p : List ImagePoint × List ℕ). counted_at (variable_at version) p.1 >>= (λ (x : List Value × List ℕ). counted_at (timer_at version) x.1 >>= (λ (t : List TimerKind × List ℕ). code_at version t.1 >>= (λ (code : List ℕ). Ok (record { points = p.0; variables = x.0; timers = t.0; code = code }))))) i e in
     let f = bind_ok (counted_at (variable_at version) d.0.1) (λ (x : List Value × List ℕ). counted_at (timer_at version) x.1 >>= (λ (t : List TimerKind × List ℕ). code_at version t.1 >>= (λ (code : List ℕ). Ok (record { points = d.0.0; variables = x.0; timers = t.0; code = code })))) i d.2 in
     let g = bind_ok (counted_at (timer_at version) f.0.1) (λ (t : List TimerKind × List ℕ). code_at version t.1 >>= (λ (code : List ℕ). Ok (record { points = d.0.0; variables = f.0.0; timers = t.0; code = code }))) i f.2 in
     let h = bind_ok (code_at version g.0.1) (λ (code : List ℕ). Ok (record { points = d.0.0; variables = f.0.0; timers = g.0.0; code = code })) i g.2 in
-    (version, subst (TookImage version octets) (ok_same (record { points = d.0.0; variables = f.0.0; timers = g.0.0; code = h.0 }) i h.2) (took_stages octets rest0 version rest1 d.0.0 d.0.1 f.0.0 f.0.1 g.0.0 g.0.1 h.0 fits marked versioned d.1 f.1 g.1 h.1))
+    (version, of_parts version octets d.0.0 f.0.0 g.0.0 h.0 i (ok_same (record { points = d.0.0; variables = f.0.0; timers = g.0.0; code = h.0 }) i h.2) (took_stages octets rest0 version rest1 d.0.0 d.0.1 f.0.0 f.0.1 g.0.0 g.0.1 h.0 fits marked versioned d.1 f.1 g.1 h.1))
 
 pub took_decoded : (octets : List ℕ) (i : Image) → AreOctets octets → decoded octets ≡ Ok i → (version : Version) × TookImage version octets i
 unfolding decoded
