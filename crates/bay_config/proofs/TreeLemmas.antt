@@ -4,6 +4,7 @@ use Rattle.std.proofs.Math.ListN.{get_or-append}
 use Rattle.std.proofs.Math.Seq.{get_or-append_seam}
 use Rattle.std.proofs.lemmas.Bool.{cases_eq}
 use Rattle.std.proofs.lemmas.List.{get_or_default}
+use Rattle.bay_tree.proofs.RowLemmas.{IfSome-weaken}
 use Rattle.bay_tree.specs.declared.row.Row.{Row}
 use Rattle.bay_tree.specs.Names.{parent_of}
 use Rattle.bay_tree.specs.Rows.{IsTree, IsStructureNamed, CanFollow, row_at, name_at}
@@ -13,10 +14,6 @@ at-before rows r k h = get_or-append rows (r ∷ []) _ k h
 
 at-last : (rows : List Row) (r : Row) → row_at (rows ++ r ∷ []) (length rows) ≡ r
 at-last rows r = get_or-append_seam rows r [] _
-
-IfSome-map : (o : Option (List ℕ)) (P Q : List ℕ → Type 0) → ((x : List ℕ) → P x → Q x) → IfSome o P → IfSome o Q
-IfSome-map None P Q f h = tt
-IfSome-map (Some x) P Q f h = f x h
 
 IsTree-push : (rows : List Row) (r : Row) → IsTree rows → CanFollow rows r → IsTree (rows ++ r ∷ [])
 IsTree-push rows r tree follow =
@@ -35,13 +32,13 @@ IsTree-push rows r tree follow =
       parents = λ k within.
           ⊎_elim (λ (here : k ≡ length rows).
           let one : name_at all k ≡ r.name = rw here (ap (λ (x : Row). x.name) (at-last rows r)) in
-          rw one (IfSome-map (parent_of r.name) (λ p. Any (IsStructureNamed p) rows) (λ p. (j : ℕ) × (j < k) × IsStructureNamed p (row_at all j)) (λ p w.
+          rw one (IfSome-weaken (parent_of r.name) (λ p. Any (IsStructureNamed p) rows) (λ p. (j : ℕ) × (j < k) × IsStructureNamed p (row_at all j)) (λ p w.
           let lt : w.0 < k = omega (arith, w.2) in
           (w.0, lt, subst (IsStructureNamed p) (sym (at-before rows r w.0 w.2 ∙ get_or_default rows w.0 _ w.1 w.2 ∙ w.3)) w.4)) follow.parent))
           (λ (other : k ≢ length rows).
           let inside : k < length rows = omega arith in
           let same : name_at all k ≡ name_at rows k = ap (λ (x : Row). x.name) (at-before rows r k inside) in
-          rw same (IfSome-map (parent_of (name_at rows k)) (λ p. (j : ℕ) × (j < k) × IsStructureNamed p (row_at rows j)) (λ p. (j : ℕ) × (j < k) × IsStructureNamed p (row_at all j)) (λ p w.
+          rw same (IfSome-weaken (parent_of (name_at rows k)) (λ p. (j : ℕ) × (j < k) × IsStructureNamed p (row_at rows j)) (λ p. (j : ℕ) × (j < k) × IsStructureNamed p (row_at all j)) (λ p w.
           (w.0, w.1, subst (IsStructureNamed p) (sym (at-before rows r w.0 (omega (arith, w.1)))) w.2)) (tree.parents k inside))) (cases_eq k (length rows));
     }
 

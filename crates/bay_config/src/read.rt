@@ -45,10 +45,7 @@ pub fn read_bay(alloc: Global, text: &str) -> Result<Bay, BayFault>
     ensures sound { IfOk result IsBay }
 {
     match toml::table_from_str(alloc, text) {
-        Ok(file) => match bay_from(alloc, &file) {
-            Ok(bay) => Ok(bay),
-            Err(fault) => Err(fault),
-        },
+        Ok(file) => bay_from(alloc, &file),
         Err(error) => {
             if error.is_memory() {
                 Err(BayFault::OutOfMemory)
