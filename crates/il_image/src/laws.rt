@@ -31,7 +31,8 @@ pub fn off_delay_timer()
 /// octets, and at a place of code stands the one instruction that is spelled there.
 pub fn one_spelling_of_instructions()
     ensures written { (i : Instr) (rest : List ℕ) → IsInstr i → instr_from Two (spelling i ++ rest) ≡ Ok (i, rest) }
-    ensures read { (version : Version) (octets : List ℕ) (i : Instr) (rest : List ℕ) → AreOctets octets → instr_from version octets ≡ Ok (i, rest) → IsInstr i × (octets ≡ spelling i ++ rest) }
+    ensures read { (version : Version) (octets : List ℕ) (i : Instr) (rest : List ℕ) → AreOctets octets →
+        instr_from version octets ≡ Ok (i, rest) → IsInstr i × (octets ≡ spelling i ++ rest) }
     ensures newer { (octets : List ℕ) (i : Instr) (rest : List ℕ) → AreOctets octets → instr_from One octets ≡ Ok (i, rest) → instr_from Two octets ≡ Ok (i, rest) }
     ensures places { (code : List ℕ) (place : ℕ) (i : Instr) (next : ℕ) → AreOctets code → (instr_at code place ≡ Some (i, next)) ↔ StandsAt code place i next }
 {}
@@ -41,7 +42,8 @@ pub fn one_spelling_of_instructions()
 pub fn one_spelling_of_images()
     ensures written { (i : Image) → IsImage i → decoded (encoded Two i) ≡ Ok i }
     ensures read { (octets : List ℕ) (i : Image) → AreOctets octets → decoded octets ≡ Ok i → IsImage i × ((version : Version) × (octets ≡ encoded version i)) }
-    ensures one { (octets others : List ℕ) (i : Image) → AreOctets octets → AreOctets others → decoded octets ≡ Ok i → decoded others ≡ Ok i → slice_index octets 4 ≡ slice_index others 4 → octets ≡ others }
+    ensures one { (octets others : List ℕ) (i : Image) → AreOctets octets → AreOctets others →
+        decoded octets ≡ Ok i → decoded others ≡ Ok i → slice_index octets 4 ≡ slice_index others 4 → octets ≡ others }
 {}
 
 /// The kinds are in order, by the values that they have, and the join of two is the least kind above both.
