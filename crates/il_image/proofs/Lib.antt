@@ -1,6 +1,7 @@
 pub mod BackLemmas
 pub mod CodeLemmas
 pub mod EachLemmas
+pub mod FrontLemmas
 pub mod ImageLemmas
 pub mod InstrLemmas
 pub mod ItemLemmas

@@ -111,4 +111,5 @@ version_octet Two = 0x02
 
 unfoldable pub encoded : Version → Image → List ℕ
 encoded version i =
-    mark ++ (version_octet version ∷ (counted point_octets i.points ++ (counted (variable_octets version) i.variables ++ (counted (timer_octets version) i.timers ++ (number_octets (length i.code) ++ i.code)))))
+    mark ++ (version_octet version ∷ (counted point_octets i.points ++ (counted (variable_octets version) i.variables ++
+    (counted (timer_octets version) i.timers ++ (number_octets (length i.code) ++ i.code)))))

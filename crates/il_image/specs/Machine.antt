@@ -58,6 +58,12 @@ abbrev pub with_top : List Value → (Value → List Value → Turn) → Turn
 with_top [] act = Traps EmptyStack
 with_top (top ∷ below) act = act top below
 
+-- the two operands, the second of which is the top
+abbrev pub with_two : List Value → (Value → Value → List Value → Turn) → Turn
+with_two [] act = Traps EmptyStack
+with_two (top ∷ []) act = Traps EmptyStack
+with_two (second ∷ first ∷ below) act = act first second below
+
 abbrev pub as_truth : Value → (Bool → Turn) → Turn
 as_truth (Truth b) act = act b
 as_truth v act = Traps WrongKind
@@ -77,6 +83,14 @@ with_slot n s act = elim (slice_get s.slots n) [ None ↦ Traps MissingSlot | So
 
 abbrev pub with_timer : ℕ → State → (TimerState → Turn) → Turn
 with_timer n s act = elim (slice_get s.timers n) [ None ↦ Traps MissingTimer | Some t ↦ act t ]
+
+-- the top and a slot, which are BOOLs
+abbrev pub with_truths : ℕ → State → (Bool → Bool → Turn) → Turn
+with_truths n s act = with_slot n s (λ slot. with_top s.cells (λ top below. as_truth top (λ b. as_truth slot (λ old. act b old))))
+
+-- two numbers of a width
+abbrev pub with_numbers : Width → State → (ℤ → ℤ → List Value → Turn) → Turn
+with_numbers w s act = with_two s.cells (λ first second below. as_number w second (λ b. as_number w first (λ a. act a b below)))
 
 -- a slot or a timer changes
 abbrev pub stores : ℕ → Value → ℕ → State → Turn
@@ -118,12 +132,12 @@ act now (Push v) next s = pushes v next s
 act now Drop next s = with_top s.cells (λ top below. goes next below s)
 act now (Slot Load n) next s = with_slot n s (λ slot. pushes slot next s)
 act now (Slot Store n) next s = with_slot n s (λ slot. with_top s.cells (λ top below. if same_type (type_of top) (type_of slot) then stores n top next s else Traps WrongKind))
-act now (Slot SetIf n) next s = with_slot n s (λ slot. with_top s.cells (λ top below. as_truth top (λ b. as_truth slot (λ old. stores n (Truth (b || old)) next s))))
-act now (Slot ResetIf n) next s = with_slot n s (λ slot. with_top s.cells (λ top below. as_truth top (λ b. as_truth slot (λ old. stores n (Truth (not b && old)) next s))))
+act now (Slot SetIf n) next s = with_truths n s (λ top old. stores n (Truth (top || old)) next s)
+act now (Slot ResetIf n) next s = with_truths n s (λ top old. stores n (Truth (not top && old)) next s)
 act now Not next s = with_top s.cells (λ top below. as_truth top (λ b. goes next (Truth (not b) ∷ below) s))
-act now (Combine c) next s = with_top s.cells (λ top more. with_top more (λ second below. as_truth top (λ b. as_truth second (λ a. goes next (Truth (connected c a b) ∷ below) s))))
-act now (Compute o w) next s = with_top s.cells (λ top more. with_top more (λ second below. as_number w top (λ b. as_number w second (λ a. if divides o && int_eq b (pos 0) then Traps ZeroDivisor else goes next (value_in w (computed o w a b) ∷ below) s))))
-act now (Compare c) next s = with_top s.cells (λ top more. with_top more (λ second below. if is_comparable c second top then goes next (Truth (compared c (number_of second) (number_of top)) ∷ below) s else Traps WrongKind))
+act now (Combine c) next s = with_two s.cells (λ first second below. as_truth second (λ b. as_truth first (λ a. goes next (Truth (connected c a b) ∷ below) s)))
+act now (Compute o w) next s = with_numbers w s (λ a b below. if divides o && int_eq b (pos 0) then Traps ZeroDivisor else goes next (value_in w (computed o w a b) ∷ below) s)
+act now (Compare c) next s = with_two s.cells (λ a b below. if is_comparable c a b then goes next (Truth (compared c (number_of a) (number_of b)) ∷ below) s else Traps WrongKind)
 act now (Widen w) next s = with_top s.cells (λ top below. elim (widened w top) [ None ↦ Traps WrongKind | Some v ↦ goes next (v ∷ below) s ])
 act now (Jump Always distance) next s = goes (next + distance) s.cells s
 act now (Jump IfTrue distance) next s = with_top s.cells (λ top below. as_truth top (λ b. goes (if b then next + distance else next) s.cells s))

@@ -1,11 +1,12 @@
 // Laws of the definitions. Each function does nothing, and its contract is the law.
-ghost use Rattle.std.specs.Prelude.{◌≡◌, ◌∷◌, ◌++◌, ◌⊎◌, ◌↔◌, IsTrue, List, Ok, Some, slice_index, true, ℕ};
+ghost use Rattle.std.specs.Prelude.{◌≡◌, ◌∷◌, ◌++◌, ◌⊎◌, ◌↔◌, ◌<◌, Err, IsTrue, length, List, Ok, Some, slice_index, true, ℕ};
 ghost use Rattle.il_image.specs.Decoding.{decoded};
-ghost use Rattle.il_image.specs.Images.{Image, IsImage, encoded};
+ghost use Rattle.il_image.specs.Images.{Image, IsImage, encoded, mark};
 ghost use Rattle.il_image.specs.Kinds.{HasKind, is_within, join};
 ghost use Rattle.il_image.specs.Octets.{AreOctets};
 ghost use Rattle.il_image.specs.Reading.{StandsAt, instr_at, instr_from};
 ghost use Rattle.il_image.specs.Spelling.{IsInstr, spelling};
+ghost use Rattle.il_image.specs.declared.fault.ImageFault.TheVariants.{BadMagic, BadVersion};
 ghost use Rattle.il_image.specs.declared.instr.Instr.{Instr};
 ghost use Rattle.il_image.specs.declared.kind.Kind.{Kind};
 ghost use Rattle.il_image.specs.declared.value.Value.{Value};
@@ -31,7 +32,8 @@ pub fn off_delay_timer()
 /// octets, and at a place of code stands the one instruction that is spelled there.
 pub fn one_spelling_of_instructions()
     ensures written { (i : Instr) (rest : List ℕ) → IsInstr i → instr_from Two (spelling i ++ rest) ≡ Ok (i, rest) }
-    ensures read { (version : Version) (octets : List ℕ) (i : Instr) (rest : List ℕ) → AreOctets octets → instr_from version octets ≡ Ok (i, rest) → IsInstr i × (octets ≡ spelling i ++ rest) }
+    ensures read { (version : Version) (octets : List ℕ) (i : Instr) (rest : List ℕ) → AreOctets octets →
+        instr_from version octets ≡ Ok (i, rest) → IsInstr i × (octets ≡ spelling i ++ rest) }
     ensures newer { (octets : List ℕ) (i : Instr) (rest : List ℕ) → AreOctets octets → instr_from One octets ≡ Ok (i, rest) → instr_from Two octets ≡ Ok (i, rest) }
     ensures places { (code : List ℕ) (place : ℕ) (i : Instr) (next : ℕ) → AreOctets code → (instr_at code place ≡ Some (i, next)) ↔ StandsAt code place i next }
 {}
@@ -41,7 +43,8 @@ pub fn one_spelling_of_instructions()
 pub fn one_spelling_of_images()
     ensures written { (i : Image) → IsImage i → decoded (encoded Two i) ≡ Ok i }
     ensures read { (octets : List ℕ) (i : Image) → AreOctets octets → decoded octets ≡ Ok i → IsImage i × ((version : Version) × (octets ≡ encoded version i)) }
-    ensures one { (octets others : List ℕ) (i : Image) → AreOctets octets → AreOctets others → decoded octets ≡ Ok i → decoded others ≡ Ok i → slice_index octets 4 ≡ slice_index others 4 → octets ≡ others }
+    ensures one { (octets others : List ℕ) (i : Image) → AreOctets octets → AreOctets others →
+        decoded octets ≡ Ok i → decoded others ≡ Ok i → slice_index octets 4 ≡ slice_index others 4 → octets ≡ others }
 {}
 
 /// The kinds are in order, by the values that they have, and the join of two is the least kind above both.
@@ -51,4 +54,10 @@ pub fn join_is_least()
     ensures values { (v : Value) (a b : Kind) → IsTrue (is_within a b) → HasKind v a → HasKind v b }
     ensures above { (a b : Kind) → IsTrue (is_within a (join a b)) × IsTrue (is_within b (join a b)) }
     ensures least { (a b top : Kind) → IsTrue (is_within a top) → IsTrue (is_within b top) → IsTrue (is_within (join a b) top) }
+{}
+
+/// What the first octets decide, whatever follows them: another octet among the first four, and another version behind the mark.
+pub fn first_octets_decide()
+    ensures mark { (octets : List ℕ) (k : ℕ) → k < 4 → k < length octets → (slice_index octets k ≡ slice_index mark k → ⊥) → decoded octets ≡ Err BadMagic }
+    ensures version { (octet : ℕ) (rest : List ℕ) → (octet ≡ 1 → ⊥) → (octet ≡ 2 → ⊥) → decoded (mark ++ octet ∷ rest) ≡ Err BadVersion }
 {}
