@@ -88,7 +88,12 @@ tag_at (first ∷ octets) = if low_bits first == 31 then second_at first octets 
 
 unfoldable pub length_at : List ℕ → Result (ℕ × List ℕ) BerFault
 length_at [] = Err Truncated
-length_at (first ∷ octets) = if nat_lt first 128 then Ok (first, octets) else (if first == 128 then Err Indefinite else (if nat_lt 132 first then Err LengthTooLong else (if nat_lt (length octets) (first - 128) then Err Truncated else Ok (number_of (take (first - 128) octets), drop (first - 128) octets))))
+length_at (first ∷ octets) =
+    if nat_lt first 128 then Ok (first, octets)
+    else (if first == 128 then Err Indefinite
+    else (if nat_lt 132 first then Err LengthTooLong
+    else (if nat_lt (length octets) (first - 128) then Err Truncated
+    else Ok (number_of (take (first - 128) octets), drop (first - 128) octets))))
 
 unfoldable pub tlv_at : List ℕ → Result Reading BerFault
 tlv_at octets = do

@@ -25,7 +25,8 @@ pub fn one_list()
 /// value under it is read as such, and each content as the value that was written.
 pub fn written_is_read()
     ensures octet { (octet : ℕ) → octet < 256 → octet ≡ identifier (class_of octet) (is_constructed octet) (low_bits octet) }
-    ensures value { (tag : Tag) (content rest : List ℕ) → tag.number < 31 → length content < 2 ^ 32 → Begins (element tag content ++ rest) (record { tag = tag; content = content; rest = rest }) }
+    ensures value { (tag : Tag) (content rest : List ℕ) → tag.number < 31 → length content < 2 ^ 32
+        → Begins (element tag content ++ rest) (record { tag = tag; content = content; rest = rest }) }
     ensures integer { (value : ℤ) → FitsSigned w64 value → IsInteger (integer_octets value) value }
     ensures bits { (octets : List ℕ) (count : ℕ) → count ≤ 8 * length octets → count < 2 ^ 35 → IsBits (bit_string_octets octets count) (bit_octets octets count) count }
     ensures truth { (value : Bool) → IsTruth (truth_octets value) value }

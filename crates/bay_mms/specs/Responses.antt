@@ -100,7 +100,10 @@ nesting_text None = []
 nesting_text (Some nesting) = element (context 3) (integer_octets nesting)
 
 abbrev pub limits_text : Agreed → List ℕ
-limits_text a = element (context 0) (integer_octets (pos a.size)) ++ (element (context 1) (integer_octets (pos a.calling)) ++ (element (context 2) (integer_octets (pos a.called)) ++ nesting_text a.nesting))
+limits_text a =
+    element (context 0) (integer_octets (pos a.size))
+    ++ (element (context 1) (integer_octets (pos a.calling))
+    ++ (element (context 2) (integer_octets (pos a.called)) ++ nesting_text a.nesting))
 
 -- the first three parameter conformance blocks, of eleven
 abbrev pub parameters_text : ℕ → List ℕ

@@ -101,5 +101,8 @@ is_counted indicator octets = if indicator == 255 then false else indicator == l
 -- them all and the code, a second request is refused, and then a class other than 0.
 abbrev pub connect : ℕ → Bool → ℕ → List ℕ → Result Connection TransportFault
 connect number again indicator (to_high ∷ to_low ∷ from_high ∷ from_low ∷ class ∷ octets) =
-    if is_counted indicator octets then (if again then Err BadCotp else (if class / 16 == 0 then with_parameters number from_high from_low (parameters_of octets) else Err ClassRefused)) else Err BadCotp
+    if is_counted indicator octets
+    then (if again then Err BadCotp
+    else (if class / 16 == 0 then with_parameters number from_high from_low (parameters_of octets) else Err ClassRefused))
+    else Err BadCotp
 connect number again indicator octets = Err BadCotp

@@ -28,5 +28,6 @@ AreWithin size (frame ∷ frames) = (length frame ≤ size + 4) × AreWithin siz
 
 -- The octets are whole frames whose one doing is the TSDU, at any side that agreed this size and has no unfinished group.
 pub record Carries (size : ℕ) (tsdu octets : List ℕ) : Type 0 where
-  pub does : (number : ℕ) → run number (Going (record { size = Some size; group = [] }) []) octets ≡ record { doings = Delivers tsdu ∷ []; left = Going (record { size = Some size; group = [] }) [] }
+  pub does : (number : ℕ) → run number (Going (record { size = Some size; group = [] }) []) octets
+      ≡ record { doings = Delivers tsdu ∷ []; left = Going (record { size = Some size; group = [] }) [] }
   pub within : AreWithin size (cut octets).frames

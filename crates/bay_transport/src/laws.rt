@@ -23,7 +23,8 @@ pub fn any_cutting()
 
 /// The octets of a piece that a feeding did not take do the rest of the piece's doings, from what is left then.
 pub fn feeding_goes_on()
-    ensures doings { (old new : Stream) (piece : List ℕ) (fed : Fed) (doing : Doing) → Leaves old piece (Ok fed) new → Completes old piece fed.used doing → GoesOn old new piece fed.used doing }
+    ensures doings { (old new : Stream) (piece : List ℕ) (fed : Fed) (doing : Doing) → Leaves old piece (Ok fed) new
+        → Completes old piece fed.used doing → GoesOn old new piece fed.used doing }
     ensures after { (old new : Stream) (piece : List ℕ) (fed : Fed) → Leaves old piece (Ok fed) new → after old piece ≡ after new (drop fed.used piece) }
 {}
 
