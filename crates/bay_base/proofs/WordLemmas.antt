@@ -1,5 +1,5 @@
 -- A word is sought in the table of the code as in that of the definition.
-use Rattle.std.proofs.Common.{◌≡◌, ◌∙◌, ℕ, List, [], ◌∷◌, Option, Some, None, map, find, option_map, option_copied, Bor, refl, sym, ap}
+use Rattle.std.proofs.Common.{◌≡◌, ◌∙◌, ℕ, List, [], ◌∷◌, Option, Some, None, map, find, option_map, Bor, refl, sym, ap}
 use Rattle.bay_base.specs.Names.{upper, same_name}
 use Rattle.bay_base.proofs.NameLemmas.{same-upper}
 use Rattle.bay_base.specs.Words.{reserved_words, reserved_of}

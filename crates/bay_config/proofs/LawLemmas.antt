@@ -1,8 +1,8 @@
 -- What holds of every bay that is read.
-use Rattle.std.proofs.Common.{◌≡◌, ◌≢◌, ℕ, zero, suc, ◌+◌, ◌<◌, ◌≤◌, Bool, true, false, cond, nat_lt, List, [], ◌∷◌, ◌++◌, length, map, drop, get_or, slice_get, Option, None, Some, is_some, option_to_list, option_and_then, unwrap_or, Ok, codes, All, Contains, refl, sym, ap, subst, inl, inr, arith, lit<, suc-add}
+use Rattle.std.proofs.Common.{◌≡◌, ◌≢◌, ℕ, zero, suc, ◌+◌, ◌<◌, ◌≤◌, Bool, true, false, cond, nat_lt, List, [], ◌∷◌, ◌++◌, length, map, drop, get_or, slice_get, Option, None, Some, is_some, option_to_list, option_and_then, unwrap_or, Ok, codes, All, Contains, refl, sym, subst, arith, lit<, suc-add}
 use Rattle.std.proofs.lemmas.Bool.{and_parts, ltb-false}
 use Rattle.std.proofs.lemmas.List.{length-map}
-use Rattle.std.proofs.lemmas.List.Elements.{All-from_recursion, All-contains, Contains-append_left, Contains-append_right, Contains-append_cases, Contains-get_or}
+use Rattle.std.proofs.lemmas.List.Elements.{All-from_recursion, All-contains, Contains-get_or}
 use Rattle.std.proofs.lemmas.Slice.Eq.{bytes_eq-Decides}
 use Rattle.std.specs.List.{AllByRecursion}
 use Rattle.std.specs.Str.{bytes_eq}
@@ -14,7 +14,7 @@ use Rattle.bay_config.specs.declared.fault.BayFault.{BayFault}
 use Rattle.bay_config.specs.declared.fault.BayFault.TheVariants.{DuplicateName, TooMany}
 use Rattle.bay_config.specs.Bay.{bay_section, switch_section, sections, switches_in, switch_tables, bay_in, bay_of_table, file_refusal}
 use Rattle.bay_config.specs.Key.{first_of, is_among, unknown_refusal}
-use Rattle.bay_config.specs.Laws.{Owns, IsOwned, IsBay}
+use Rattle.bay_config.specs.Laws.{IsOwned, IsBay}
 use Rattle.bay_config.specs.Point.{points_of, points_from, points_of_all, has_twin, names_refusal, refused_if}
 use Rattle.bay_config.specs.Section.{some, are_tables, tables_of, list_refusal, shape_refusal, section_refusal}
 use Rattle.bay_config.specs.Switch.{switch_keys, switch_in}

@@ -1,5 +1,5 @@
 -- What is known of a reader and of a writer that are watched.
-use Rattle.std.specs.Prelude.{ℕ, Bool, true, ◌&&◌, ◌==◌, ◌||◌, nat_lt, List, length, Result, Ok, Err}
+use Rattle.std.specs.Prelude.{ℕ, Bool, true, ◌&&◌, ◌==◌, nat_lt, List, length, Result, Ok, Err}
 
 -- a reader, how often it was read, and whether a read has failed
 pub record Reading (R : Type 0) : Type 0 where

@@ -1,8 +1,8 @@
 -- One item of a program.
 use Rattle.std.proofs.Common.{◌≡◌, ℕ, Vec, Global, rules}
-use Rattle.il_text.specs.Listing.{action, block, entries_of}
-use Rattle.il_text.specs.Views.{action_of, entry_of}
-use Rattle.il_text.specs.declared.program.Item.{Item, Instruction, Block, the_lemmas}
+use Rattle.il_text.specs.Listing.{block, entries_of}
+use Rattle.il_text.specs.Views.{entry_of}
+use Rattle.il_text.specs.declared.program.Item.{Item, Block, the_lemmas}
 use Rattle.il_text.proofs.ListingLemmas.{view_instruction}
 use Rattle.il_text.specs.declared.program.Operator.{Operator}
 use Rattle.std.proofs.Common.{map}
