@@ -1,5 +1,5 @@
 -- The keys of a section of a bay file: what each may hold, and the first refusal of a table with such keys.
-use Rattle.std.specs.Prelude.{ℕ, ℤ, pos, negsuc, Bool, false, not, ◌&&◌, ◌||◌, nat_le, cond, List, [], ◌∷◌, length, map, Option, None, Some, option_map, option_and_then, unwrap_or}
+use Rattle.std.specs.Prelude.{ℕ, ℤ, pos, negsuc, Bool, false, not, ◌&&◌, ◌||◌, nat_le, List, [], ◌∷◌, length, map, Option, None, Some, option_map, option_and_then, unwrap_or, if◌then◌else◌}
 use Rattle.std.specs.Char.{is_ascii_alphabetic, is_ascii_alphanumeric}
 use Rattle.std.specs.Int.{is_in_range}
 use Rattle.std.specs.List.{list_all, list_any}
@@ -58,7 +58,7 @@ accepts (word words) d = passes (is_among words) (as_str d)
 
 abbrev pub held_refusal : Form → Option Data → Option BayFault
 held_refusal form None = Some MissingKey
-held_refusal form (Some d) = cond (accepts form d) None (Some BadValue)
+held_refusal form (Some d) = if accepts form d then None else Some BadValue
 
 -- the refusal of what a table holds at a key
 abbrev pub key_refusal : Members → Key → Option BayFault
@@ -76,7 +76,7 @@ has_unknown known no_members = false
 has_unknown known (member key d rest) = not (is_among known key) || has_unknown known rest
 
 abbrev pub unknown_refusal : List (List ℕ) → Members → Option BayFault
-unknown_refusal known table = cond (has_unknown known table) (Some UnknownKey) None
+unknown_refusal known table = if has_unknown known table then Some UnknownKey else None
 
 -- the first refusal of a table with these keys: one that is unknown, then key by key
 abbrev pub entry_refusal : List Key → Members → Option BayFault
@@ -98,4 +98,4 @@ number_in table name = unwrap_or (option_map natural (option_and_then as_integer
 -- the value that a list gives to a word
 abbrev pub named : {T : Type 0} → List (List ℕ × T) → List ℕ → Option T
 named [] s = None
-named (e ∷ es) s = cond (bytes_eq s e.0) (Some e.1) (named es s)
+named (e ∷ es) s = if bytes_eq s e.0 then Some e.1 else named es s

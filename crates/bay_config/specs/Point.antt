@@ -1,5 +1,5 @@
 -- The points of switches, and the refusal of their names.
-use Rattle.std.specs.Prelude.{ℕ, ◌+◌, Bool, true, false, ◌||◌, cond, List, [], ◌∷◌, ◌++◌, map, codes, Option, None, Some, is_some}
+use Rattle.std.specs.Prelude.{ℕ, ◌+◌, Bool, true, false, ◌||◌, List, [], ◌∷◌, ◌++◌, map, codes, Option, None, Some, is_some, if◌then◌else◌}
 use Rattle.std.specs.List.{list_any}
 use Rattle.std.specs.Str.{str_to_ascii_uppercase}
 use Rattle.bay_config.specs.declared.bay.Switch.{Switch}
@@ -62,7 +62,7 @@ has_twin [] = false
 has_twin (s ∷ rest) = is_among rest s || has_twin rest
 
 abbrev pub refused_if : Bool → BayFault → Option BayFault
-refused_if test fault = cond test (Some fault) None
+refused_if test fault = if test then Some fault else None
 
 -- two points of one name, then a point that is named as a reserved word
 abbrev pub names_refusal : List Point → Option BayFault

@@ -1,5 +1,5 @@
 -- The sections of a bay file: how often each stands, which keys its tables have, and its first refusal.
-use Rattle.std.specs.Prelude.{ℕ, nat_lt, Bool, true, ◌&&◌, cond, List, [], ◌++◌, length, map, Option, None, Some, is_some, option_to_list}
+use Rattle.std.specs.Prelude.{ℕ, nat_lt, Bool, true, ◌&&◌, List, [], ◌++◌, length, map, Option, None, Some, is_some, option_to_list, if◌then◌else◌}
 use Rattle.toml.specs.Data.{Data, Items, no_items, item, Members, get_member, as_table, as_array}
 use Rattle.bay_config.specs.declared.fault.BayFault.{BayFault}
 use Rattle.bay_config.specs.declared.fault.BayFault.TheVariants.{MissingKey, BadValue, TooMany}
@@ -35,13 +35,13 @@ one_refusal keys (Some table) = entry_refusal (keys table) table
 -- too many tables, then table by table
 abbrev pub tables_refusal : ℕ → (Members → List Key) → List Members → Option BayFault
 tables_refusal most keys tables =
-    cond (nat_lt most (length tables)) (Some TooMany) (first_of (map (λ table. entry_refusal (keys table) table) tables))
+    if nat_lt most (length tables) then Some TooMany else first_of (map (λ table. entry_refusal (keys table) table) tables)
 
 abbrev pub list_refusal : ℕ → (Members → List Key) → Option Items → Option BayFault
 list_refusal most keys None = Some BadValue
 list_refusal most keys (Some no_items) = Some MissingKey
 list_refusal most keys (Some (item d ds)) =
-    cond (are_tables (item d ds)) (tables_refusal most keys (tables_of (item d ds))) (Some BadValue)
+    if are_tables (item d ds) then tables_refusal most keys (tables_of (item d ds)) else Some BadValue
 
 abbrev pub shape_refusal : Shape → (Members → List Key) → Option Data → Option BayFault
 shape_refusal shape keys None = Some MissingKey

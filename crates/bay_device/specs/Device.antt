@@ -1,5 +1,5 @@
 -- What a device is, and what one event makes of it (IEC 61850-7-4: XCBR, XSWI and CILO; IEC 61850-7-3: status values).
-use Rattle.std.specs.Prelude.{ℕ, ◌+◌, Bool, true, false, not, ◌&&◌, ◌||◌, cond, nat_lt, ◌==◌, pos, ◌+ℤ◌, int_lt, List, [], ◌∷◌, slice_get, Option, None, Some, Result, Ok, Err}
+use Rattle.std.specs.Prelude.{ℕ, ◌+◌, Bool, true, false, not, ◌&&◌, ◌||◌, nat_lt, ◌==◌, pos, ◌+ℤ◌, int_lt, List, [], ◌∷◌, slice_get, Option, None, Some, Result, Ok, Err, if◌then◌else◌}
 use Rattle.bay_tree.specs.Rows.{leaf_of, with_leaf_of}
 use Rattle.bay_tree.specs.declared.row.Row.{Row}
 use Rattle.bay_tree.specs.declared.leaf.Leaf.{Leaf}
@@ -83,13 +83,13 @@ is_quality q (Some (leaf.Quality r)) = same_quality q r
 is_quality q other = false
 
 abbrev pub is_truth : Bool → Option Leaf → Bool
-is_truth b (Some (leaf.Truth c)) = cond b c (not c)
+is_truth b (Some (leaf.Truth c)) = if b then c else not c
 is_truth b other = false
 
 -- one operation more, up to the greatest value
 abbrev pub counted : StatusNames → Option Leaf → ℕ → List Row → List Row
 counted names (Some (leaf.Int32 n)) now rows =
-    cond (int_lt n (pos 2147483647)) (with_leaf_of names.time (leaf.Utc now) (with_leaf_of names.value (leaf.Int32 (n +ℤ pos 1)) rows)) rows
+    if int_lt n (pos 2147483647) then with_leaf_of names.time (leaf.Utc now) (with_leaf_of names.value (leaf.Int32 (n +ℤ pos 1)) rows) else rows
 counted names other now rows = rows
 
 -- a contact counts where it moves the switch to an end position
@@ -109,11 +109,11 @@ tells names position rows =
 abbrev pub rows_after_change : SwitchNames → Dbpos → ℕ → List Row → List Row
 rows_after_change names position now rows =
     let after = with_status names.position (leaf.Dbpos position) (position_quality position) now rows in
-    cond (is_operation position (leaf_of names.position.value rows)) (operation_counted names.operations now after) after
+    if is_operation position (leaf_of names.position.value rows) then operation_counted names.operations now after else after
 
 -- the rows after a contact: one that leaves value and quality as they are changes nothing
 abbrev pub rows_after_contact : SwitchNames → Dbpos → ℕ → List Row → List Row
-rows_after_contact names position now rows = cond (tells names.position position rows) rows (rows_after_change names position now rows)
+rows_after_contact names position now rows = if tells names.position position rows then rows else rows_after_change names position now rows
 
 -- a contact of a switch; one that changes value or quality makes the last scan stale
 abbrev pub contact_taken : ℕ → ℕ → Switch → Dbpos → State → State
@@ -172,13 +172,13 @@ is_true (truth b) = b
 abbrev pub output_of : ℕ → SwitchPoint → List Variable → Variables → Bool
 output_of k point [] vs = false
 output_of k point (d ∷ ds) [] = false
-output_of k point (d ∷ ds) (v ∷ vs) = cond (is_point k point d.origin) (is_true v.1) (output_of k point ds vs)
+output_of k point (d ∷ ds) (v ∷ vs) = if is_point k point d.origin then is_true v.1 else output_of k point ds vs
 
 -- an interlocking value and its quality, with the moment where one of them changed
 abbrev pub with_enabled : StatusNames → Bool → ℕ → List Row → List Row
 with_enabled names value now rows =
-    cond (is_truth value (leaf_of names.value rows) && is_quality Good (leaf_of names.quality rows)) rows
-    (with_status names (leaf.Truth value) Good now rows)
+    if is_truth value (leaf_of names.value rows) && is_quality Good (leaf_of names.quality rows) then rows
+    else with_status names (leaf.Truth value) Good now rows
 
 -- both interlocking values of a switch: whether it may be opened, and closed
 abbrev pub with_output : SwitchNames → Bool → Bool → ℕ → List Row → List Row
@@ -228,7 +228,9 @@ event_outcome now Scan s = record { answer = Ok (record { scanned = true }); aft
 -- of an event at a moment, which is neither too large nor before the last event's
 abbrev pub outcome : ℕ → Event → State → Outcome
 outcome now event s =
-    cond (nat_lt last_moment now) (refused MomentTooLarge s) (cond (nat_lt now s.moment) (refused TimeWentBack s) (event_outcome now event s))
+    if nat_lt last_moment now then refused MomentTooLarge s
+    else if nat_lt now s.moment then refused TimeWentBack s
+    else event_outcome now event s
 
 -- what a list of events does, one after the other: their answers, and the device after them
 pub record Outcomes : Type 0 where

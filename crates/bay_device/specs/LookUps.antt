@@ -1,5 +1,5 @@
 -- What the look-ups of a device answer.
-use Rattle.std.specs.Prelude.{ℕ, Bool, true, cond, nat_lt, List, length, position, Option, None, Some, codes}
+use Rattle.std.specs.Prelude.{ℕ, Bool, true, nat_lt, List, length, position, Option, None, Some, codes, if◌then◌else◌}
 use Rattle.bay_tree.specs.Rows.{leaf_of}
 use Rattle.bay_base.specs.Names.{same_name}
 use Rattle.bay_device.specs.Device.{State, is_truth}
@@ -22,4 +22,4 @@ may_close s k = enabled s k (codes "$ST$EnaCls")
 
 -- both of them, of a switch that is there
 abbrev pub enabled_of : State → ℕ → Option (Bool × Bool)
-enabled_of s k = cond (nat_lt k (length s.switches)) (Some (may_open s k, may_close s k)) None
+enabled_of s k = if nat_lt k (length s.switches) then Some (may_open s k, may_close s k) else None

@@ -1,5 +1,5 @@
 -- The device that the octets of a bay file and of a program load to, or why they are refused.
-use Rattle.std.specs.Prelude.{ℕ, cond, List, Result, Err}
+use Rattle.std.specs.Prelude.{ℕ, List, Result, Err, if◌then◌else◌}
 use Rattle.std.specs.Str.{is_utf8}
 use Rattle.bay_config.specs.Bay.{bay_of}
 use Rattle.bay_config.specs.declared.bay.Bay.{Bay}
@@ -15,11 +15,11 @@ use Rattle.bay_device.specs.declared.fault.LoadFault.{LoadFault}
 
 -- a program that is not in UTF-8 is a bad token at its first line
 abbrev pub text_of : List ℕ → Result PlainProgram TextFault
-text_of logic = cond (is_utf8 logic) (program_of logic) (Err (BadToken 1))
+text_of logic = if is_utf8 logic then program_of logic else Err (BadToken 1)
 
 -- a bay file that is not in UTF-8 is no TOML
 abbrev pub file_of : List ℕ → Result Bay BayFault
-file_of bay = cond (is_utf8 bay) (bay_of bay) (Err BadToml)
+file_of bay = if is_utf8 bay then bay_of bay else Err BadToml
 
 -- the device of the octets of a bay file and of a program, or their first refusal
 abbrev pub load_of : List ℕ → List ℕ → Result State LoadFault

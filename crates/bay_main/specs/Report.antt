@@ -1,5 +1,5 @@
 -- What is printed for a scenario, and with which status.
-use Rattle.std.specs.Prelude.{◌≡◌, ℕ, ◌+◌, ◌==◌, ◌≤◌, ◌<◌, Bool, true, false, cond, List, [], ◌∷◌, ◌++◌, length, position, codes, unwrap_or, Option, None, Some, IfSome, Result, Ok, Err, ◌⊎◌, MatchBool}
+use Rattle.std.specs.Prelude.{◌≡◌, ℕ, ◌+◌, ◌==◌, ◌≤◌, ◌<◌, Bool, true, false, List, [], ◌∷◌, ◌++◌, length, position, codes, unwrap_or, Option, None, Some, IfSome, Result, Ok, Err, ◌⊎◌, MatchBool, if◌then◌else◌}
 use Rattle.std.specs.Fmt.{decimal}
 use Rattle.std.specs.Io.KnownBytes.{Appends}
 use Rattle.bay_config.specs.declared.bay.Switch.{Switch}
@@ -23,8 +23,8 @@ use Rattle.bay_main.specs.Input.{scenario_limit}
 -- a refusal at a line of the program, or one that has none
 abbrev pub numbered_refusal : ℕ → ℕ → List ℕ
 numbered_refusal code line =
-    cond (line == 0) (codes "load refused " ++ decimal code ++ codes "\n")
-    (codes "load refused " ++ (decimal code ++ (codes " line " ++ (decimal line ++ codes "\n"))))
+    if line == 0 then codes "load refused " ++ decimal code ++ codes "\n"
+    else codes "load refused " ++ (decimal code ++ (codes " line " ++ (decimal line ++ codes "\n")))
 
 -- the line that says why a load is refused
 abbrev pub refusal_of : LoadFault → List ℕ
@@ -33,7 +33,7 @@ refusal_of (Refused code line) = numbered_refusal code line
 
 -- TRUE is 1
 abbrev pub digit_of : Bool → List ℕ
-digit_of b = cond b (codes "1") (codes "0")
+digit_of b = if b then codes "1" else codes "0"
 
 -- a switch's id, and whether it may be opened and closed
 abbrev pub switch_text : List ℕ → Bool → Bool → List ℕ
@@ -60,7 +60,7 @@ refused_text now fault = decimal now ++ (codes " refused " ++ (decimal (step_cod
 -- the line of an event, by its answer and the device after it
 abbrev pub step_text : ℕ → Result Step StepFault → State → List ℕ
 step_text now (Err fault) s = refused_text now fault
-step_text now (Ok step) s = cond step.scanned (scan_text now s) []
+step_text now (Ok step) s = if step.scanned then scan_text now s else []
 
 -- what is printed for a line of the trace, whether the replay ends there, and the device after it
 pub record LineAnswer : Type 0 where

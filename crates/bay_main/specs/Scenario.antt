@@ -1,5 +1,5 @@
 -- The lines of a scenario, and the three parts between the first two lines that are `%%`.
-use Rattle.std.specs.Prelude.{◌≡◌, ℕ, ◌-◌, Bool, ◌==◌, cond, List, [], ◌∷◌, ◌++◌, length, take, drop, map, codes, Option, None, Some, option_and_then, option_map}
+use Rattle.std.specs.Prelude.{◌≡◌, ℕ, ◌-◌, Bool, ◌==◌, List, [], ◌∷◌, ◌++◌, length, take, drop, map, codes, Option, None, Some, option_and_then, option_map, if◌then◌else◌}
 use Rattle.std.specs.List.{concat, onto_first}
 use Rattle.std.specs.Str.{bytes_eq}
 
@@ -9,7 +9,7 @@ is_line_feed b = b == 10
 -- the lines of a text with their ends: each runs up to its line feed, and the last may have none
 abbrev pub pieces : List ℕ → List (List ℕ)
 pieces [] = []
-pieces (b ∷ bs) = cond (is_line_feed b) ((b ∷ []) ∷ pieces bs) (onto_first b (pieces bs))
+pieces (b ∷ bs) = if is_line_feed b then (b ∷ []) ∷ pieces bs else onto_first b (pieces bs)
 
 -- whether a list ends with another
 abbrev pub ends_with : List ℕ → List ℕ → Bool
@@ -17,11 +17,11 @@ ends_with end xs = bytes_eq (drop (length xs - length end) xs) end
 
 -- the list without that end, if it has it
 abbrev pub without_end : List ℕ → List ℕ → List ℕ
-without_end end xs = cond (ends_with end xs) (take (length xs - length end) xs) xs
+without_end end xs = if ends_with end xs then take (length xs - length end) xs else xs
 
 -- a line without its end, which is LF or CR LF
 abbrev pub content : List ℕ → List ℕ
-content piece = cond (ends_with (10 ∷ []) piece) (without_end (13 ∷ []) (without_end (10 ∷ []) piece)) piece
+content piece = if ends_with (10 ∷ []) piece then without_end (13 ∷ []) (without_end (10 ∷ []) piece) else piece
 
 -- the lines of a text, without their ends
 abbrev pub lines_of : List ℕ → List (List ℕ)
@@ -40,7 +40,7 @@ is_separator line = bytes_eq line (codes "%%")
 -- what stands before the first separator, and what follows it
 abbrev pub part_of : List (List ℕ) → Option (List ℕ × List ℕ)
 part_of [] = None
-part_of (piece ∷ rest) = cond (is_separator (content piece)) (Some ([], concat rest)) (option_map (λ parts. (piece ++ parts.0, parts.1)) (part_of rest))
+part_of (piece ∷ rest) = if is_separator (content piece) then Some ([], concat rest) else option_map (λ parts. (piece ++ parts.0, parts.1)) (part_of rest)
 
 -- the bay file, the program and the trace
 pub record ScenarioParts : Type 0 where

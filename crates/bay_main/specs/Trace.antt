@@ -1,5 +1,5 @@
 -- What a line of the trace says: words parted by one space.
-use Rattle.std.specs.Prelude.{ℕ, ◌==◌, ◌&&◌, ◌^◌, Bool, cond, nat_lt, List, [], ◌∷◌, length, codes, Option, None, Some, option_map, option_and_then}
+use Rattle.std.specs.Prelude.{ℕ, ◌==◌, ◌&&◌, ◌^◌, Bool, nat_lt, List, [], ◌∷◌, length, codes, Option, None, Some, option_map, option_and_then, if◌then◌else◌}
 use Rattle.std.specs.List.{slice_split}
 use Rattle.std.specs.Str.{all_ascii_digits, bytes_eq, is_utf8}
 use Rattle.std.specs.Str.Parse.{digits_value}
@@ -23,11 +23,16 @@ rest_words (Some rest) = slice_split is_space rest
 -- the number that decimal digits write, below 2 ^ 64
 abbrev pub read_number : List ℕ → Option ℕ
 read_number digits =
-    cond (all_ascii_digits digits && nat_lt 0 (length digits) && nat_lt (digits_value 10 digits) (2 ^ 64)) (Some (digits_value 10 digits)) None
+    if all_ascii_digits digits && nat_lt 0 (length digits) && nat_lt (digits_value 10 digits) (2 ^ 64) then Some (digits_value 10 digits) else None
 
 -- 0 intermediate, 1 off, 2 on, 3 bad
 abbrev pub position_of_digit : ℕ → Option Dbpos
-position_of_digit d = cond (d == 48) (Some Intermediate) (cond (d == 49) (Some Off) (cond (d == 50) (Some On) (cond (d == 51) (Some Bad) None)))
+position_of_digit d =
+    if d == 48 then Some Intermediate
+    else if d == 49 then Some Off
+    else if d == 50 then Some On
+    else if d == 51 then Some Bad
+    else None
 
 abbrev pub position_of : List ℕ → Option Dbpos
 position_of [] = None
@@ -35,7 +40,7 @@ position_of (d ∷ []) = position_of_digit d
 position_of (d ∷ e ∷ ds) = None
 
 abbrev pub contact_at : List ℕ → List ℕ → ℕ → Option LineData
-contact_at id position moment = cond (nat_lt 0 (length id)) (option_map (contact moment id) (position_of position)) None
+contact_at id position moment = if nat_lt 0 (length id) then option_map (contact moment id) (position_of position) else None
 
 -- a switch's id and its position
 abbrev pub contact_of : List (List ℕ) → ℕ → Option LineData
@@ -46,8 +51,8 @@ contact_of (id ∷ position ∷ more ∷ others) moment = None
 
 -- `scan` stands alone, and `contact` before an id and a position
 abbrev pub event_of : List ℕ → List (List ℕ) → ℕ → Option LineData
-event_of word [] moment = cond (bytes_eq word (codes "scan")) (Some (scan moment)) None
-event_of word (next ∷ others) moment = cond (bytes_eq word (codes "contact")) (contact_of (next ∷ others) moment) None
+event_of word [] moment = if bytes_eq word (codes "scan") then Some (scan moment) else None
+event_of word (next ∷ others) moment = if bytes_eq word (codes "contact") then contact_of (next ∷ others) moment else None
 
 -- a moment, and what happens then
 abbrev pub words_line : List (List ℕ) → Option LineData
@@ -58,4 +63,4 @@ words_line (first ∷ word ∷ others) = option_and_then (event_of word others) 
 -- an empty line says nothing, and what is no text can't be read
 abbrev pub trace_line_of : List ℕ → Option LineData
 trace_line_of [] = Some blank
-trace_line_of (b ∷ bs) = cond (is_utf8 (b ∷ bs)) (words_line (slice_split is_space (b ∷ bs))) None
+trace_line_of (b ∷ bs) = if is_utf8 (b ∷ bs) then words_line (slice_split is_space (b ∷ bs)) else None

@@ -1,6 +1,6 @@
 -- The rows of a tree: named values in one list, each structure before what stands in it (IEC 61850-8-1, the
 -- mapping of names to MMS named variables, whose words are parted by `$`).
-use Rattle.std.specs.Prelude.{◌≡◌, ◌≢◌, ℕ, ◌+◌, ◌<◌, cond, Option, Some, None, option_map, option_and_then, IfSome, List, [], ◌∷◌, length, map, filter, find, drop, slice_index_or, slice_set, position, All, Any, if◌then◌else◌}
+use Rattle.std.specs.Prelude.{◌≡◌, ◌≢◌, ℕ, ◌+◌, ◌<◌, Option, Some, None, option_map, option_and_then, IfSome, List, [], ◌∷◌, length, map, filter, find, drop, slice_index_or, slice_set, position, All, Any, if◌then◌else◌}
 use Rattle.std.specs.List.{position_from}
 use Rattle.std.specs.Str.{bytes_eq}
 use Rattle.bay_tree.specs.declared.row.Row.{Row}
@@ -56,7 +56,7 @@ leaf_of name rows = option_and_then (λ row. row.leaf) (find (λ row. bytes_eq r
 
 -- the rows with another value at a name
 abbrev pub with_leaf_of : List ℕ → Leaf → List Row → List Row
-with_leaf_of name value rows = map (λ row. cond (bytes_eq row.name name) (record { name = row.name; leaf = Some value }) row) rows
+with_leaf_of name value rows = map (λ row. if bytes_eq row.name name then record { name = row.name; leaf = Some value } else row) rows
 
 -- the names of the rows, in order
 abbrev pub names_of : List Row → List (List ℕ)

@@ -1,5 +1,5 @@
 -- The places of declared names, and what instructions are by them.
-use Rattle.std.specs.Prelude.{ℕ, Bool, true, false, not, ◌&&◌, cond, is_none, List, [], ◌∷◌, ◌++◌, Option, None, Some, option_map, slice_index_or}
+use Rattle.std.specs.Prelude.{ℕ, Bool, true, false, not, ◌&&◌, is_none, List, [], ◌∷◌, ◌++◌, Option, None, Some, option_map, slice_index_or, if◌then◌else◌}
 use Rattle.std.specs.List.{position_from}
 use Rattle.std.specs.Str.{bytes_eq}
 use Rattle.bay_base.specs.Names.{upper}
@@ -19,7 +19,7 @@ place_in declared name = position_from (λ d. bytes_eq (upper d.name) name) 0 de
 
 -- the places after a name is given one, which stays where the name has a place
 abbrev pub with_place : (List ℕ → Option ℕ) → List ℕ → ℕ → List ℕ → Option ℕ
-with_place places name place other = cond (bytes_eq name other && is_none (places name)) (Some place) (places other)
+with_place places name place other = if bytes_eq name other && is_none (places name) then Some place else places other
 
 abbrev pub source_at : (List ℕ → Option ℕ) → listing.Source → Option Source
 source_at places (listing.constant value) = Some (Literal value)

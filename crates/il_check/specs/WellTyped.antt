@@ -1,7 +1,7 @@
 -- What is wrong with a program that can be read: its names, its points and its current result
 -- (IEC 61131-3:2003, 2.4.3 for declarations, 3.2 for the current result); and the program that is left of
 -- one without a fault.
-use Rattle.std.specs.Prelude.{ℕ, Bool, true, false, not, ◌&&◌, cond, nat_lt, nat_le, ◌==◌, is_none, List, [], ◌∷◌, ◌++◌, length, map, find, unwrap_or, Option, None, Some, option_map, Result}
+use Rattle.std.specs.Prelude.{ℕ, Bool, true, false, not, ◌&&◌, nat_lt, nat_le, ◌==◌, is_none, List, [], ◌∷◌, ◌++◌, length, map, find, unwrap_or, Option, None, Some, option_map, Result, if◌then◌else◌}
 use Rattle.std.specs.List.{list_any}
 use Rattle.bay_config.specs.declared.bay.Point.{Point}
 use Rattle.bay_config.specs.declared.bay.Origin.{Origin}
@@ -18,7 +18,7 @@ use Rattle.il_check.specs.declared.fault.CheckFault.TheVariants.{OutsideSubset, 
 
 -- the fault, where the test holds
 abbrev pub fault_if : Bool → CheckFault → List CheckFault
-fault_if test fault = cond test (fault ∷ []) []
+fault_if test fault = if test then fault ∷ [] else []
 
 abbrev pub is_external : Scope → Bool
 is_external Local = false
@@ -95,7 +95,7 @@ is_lower first second = false
 
 -- of a fault and a later one: the later one where it is of the same line and has a lower number
 abbrev pub better : CheckFault → CheckFault → CheckFault
-better f g = cond (line_of g == line_of f && is_lower (code_of g) (code_of f)) g f
+better f g = if line_of g == line_of f && is_lower (code_of g) (code_of f) then g else f
 
 abbrev pub best_of : CheckFault → List CheckFault → CheckFault
 best_of f [] = f
@@ -115,11 +115,11 @@ pub record Checked : Type 0 where
 
 -- what a declaration stands for: an external the point of its name
 abbrev pub origin_of : List Point → Declared → Option Origin
-origin_of points d = cond (is_external d.scope) (option_map (λ p. p.origin) (point_of points d.name)) None
+origin_of points d = if is_external d.scope then option_map (λ p. p.origin) (point_of points d.name) else None
 
 -- the value that a variable begins with
 abbrev pub initial_value : Declared → Bool
-initial_value d = cond (is_external d.scope) false (unwrap_or d.initial false)
+initial_value d = if is_external d.scope then false else unwrap_or d.initial false
 
 -- names in upper case, and no lines
 abbrev pub plain_source : Source → Source
