@@ -1,17 +1,20 @@
 -- What load makes of a bay and a checked program.
-use Rattle.std.proofs.Common.{◌≡◌, ℕ, zero, suc, ◌+◌, ◌<◌, Bool, List, [], ◌∷◌, ◌++◌, length, get_or, slice_get, Option, Some, refl, ap, sym, ◌∙◌, arith}
+use Rattle.std.proofs.Common.{◌≡◌, ℕ, zero, suc, ◌+◌, ◌<◌, Bool, List, [], ◌∷◌, ◌++◌, length, map, get_or, slice_get, Option, Some, refl, ap, sym, ◌∙◌, arith}
 use Rattle.std.proofs.lemmas.Option.{slice_get_within}
 use Rattle.bay_tree.specs.declared.row.Row.{Row}
 use Rattle.bay_config.specs.declared.bay.Bay.{Bay}
 use Rattle.bay_config.specs.declared.bay.Switch.{Switch}
-use Rattle.il_check.specs.Slots.{items_named}
+use Rattle.il_check.specs.Slots.{items_named, names_of}
+use Rattle.il_check.specs.declared.typed.Variable as typed
+use Rattle.il_text.specs.Listing.{Entry}
+use Rattle.bay_device.specs.Device.{State}
 use Rattle.il_check.specs.WellTyped.{Checked}
 use Rattle.bay_device.specs.Bound.{IsProgram, bound_from}
 use Rattle.bay_device.specs.Load.{initial_device}
 use Rattle.bay_device.specs.Layout.{Layout, switches_of, AreBound}
 use Rattle.bay_device.specs.Names.{switch_names, names_by_nodes, node_of}
 use Rattle.bay_device.specs.Nodes.{AreAllNodes, AreAllRows}
-use Rattle.bay_device.specs.Slots.{outputs_at, variables_of, declared_of}
+use Rattle.bay_device.specs.Slots.{outputs_at, origins_of, variables_of, declared_of}
 use Rattle.bay_device.specs.declared.nodes.Nodes.{Nodes}
 use Rattle.bay_device.specs.declared.program.BoundProgram.{BoundProgram}
 use Rattle.bay_config.specs.declared.bay.Origin.{Origin}
@@ -87,15 +90,19 @@ are-bound bay nodes layout slots rows named placed same long k b h =
 
 -- a device before its first event
 pub loaded-view : (bay : Bay) (checked : Checked) (program : BoundProgram) (values : List Bool) (rows : List Row) (switches : List Switch) → IsProgram checked program values → rows ≡ bay.rows → switches ≡ bay.switches
-    → record (initial_device bay checked) { switches = switches; declared = declared_of program.names program.slots; items = items_named program.names program.instructions; rows = rows; variables = variables_of program.names values } ≡ initial_device bay checked
+    → record (initial_device bay checked) {
+      switches = switches;
+      declared = declared_of (names_of program.variables) (origins_of program.variables);
+      items = items_named (names_of program.variables) program.instructions;
+      rows = rows;
+      variables = variables_of (names_of program.variables) values;
+    } ≡ initial_device bay checked
 loaded-view bay checked program values rows switches b r w =
     let s = initial_device bay checked in
-    let declared : declared_of program.names program.slots ≡ declared_of checked.names checked.origins =
-    ap (λ names. declared_of names program.slots) b.names ∙ ap (declared_of checked.names) b.slots in
-    let variables : variables_of program.names values ≡ variables_of checked.names checked.initial =
-    ap (λ names. variables_of names values) b.names ∙ ap (variables_of checked.names) b.initial in
-    ap (λ ds. record s { switches = switches; declared = ds; items = items_named program.names program.instructions; rows = rows; variables = variables_of program.names values }) declared
-    ∙ ap (λ is. record s { switches = switches; items = is; rows = rows; variables = variables_of program.names values }) b.items
-    ∙ ap (λ rs. record s { switches = switches; rows = rs; variables = variables_of program.names values }) r
-    ∙ ap (λ vs. record s { switches = switches; variables = vs }) variables
-    ∙ ap (λ ss. record s { switches = ss }) w
+    let state : List typed.Variable → List Entry → List Row → List Bool → List Switch → State = λ vs is rs xs ss.
+    record s { switches = ss; declared = declared_of (names_of vs) (origins_of vs); items = is; rows = rs; variables = variables_of (names_of vs) xs } in
+    ap (λ is. state program.variables is rows values switches) b.items
+    ∙ ap (λ vs. state vs checked.items rows values switches) b.variables
+    ∙ ap (λ rs. state checked.variables checked.items rs values switches) r
+    ∙ ap (λ xs. state checked.variables checked.items bay.rows xs switches) b.initial
+    ∙ ap (state checked.variables checked.items bay.rows (map (λ (v : typed.Variable). v.initial) checked.variables)) w

@@ -3,16 +3,18 @@ use Rattle.std.proofs.Common.{◌≡◌, ℕ, zero, suc, ◌+◌, ◌<◌, Bool,
 use Rattle.std.proofs.lemmas.Iterator.Adapters.{position_from-zero}
 use Rattle.std.proofs.lemmas.Option.{slice_get-map, slice_get-get_or}
 use Rattle.std.specs.List.{position_from}
+use Rattle.std.proofs.lemmas.List.{length-map}
+use Rattle.il_check.specs.declared.typed.Variable as typed
 use Rattle.bay_tree.specs.declared.row.Row.{Row}
 use Rattle.bay_tree.specs.Rows.{leaf_of}
 use Rattle.bay_config.specs.declared.bay.Switch.{Switch}
 use Rattle.il_text.specs.Meaning.{Value, truth, Variables, mean}
-use Rattle.il_check.specs.Slots.{AreApart, items_named}
+use Rattle.il_check.specs.Slots.{AreApart, items_named, names_of}
 use Rattle.bay_device.specs.Device.{is_point, input_of, input_of_switch, input_value, or_else, with_inputs, output_of, with_output, with_outputs, scanned}
 use Rattle.bay_device.specs.Layout.{Layout, layout_of, switches_of, IsBound, AreBound, AreKinded}
 use Rattle.bay_device.specs.Names.{SwitchNames, switch_names}
 use Rattle.bay_device.specs.Scans.{switch_input, slot_input, inputs_put, outputs_put}
-use Rattle.bay_device.specs.Slots.{variables_of, declared_of, output_slot, slot_value}
+use Rattle.bay_device.specs.Slots.{variables_of, declared_of, origins_of, output_slot, slot_value}
 use Rattle.bay_device.specs.StateView.{state_view}
 use Rattle.bay_device.specs.declared.state.DeviceState.{DeviceState}
 use Rattle.bay_device.specs.declared.switch.BoundSwitch.{BoundSwitch}
@@ -131,19 +133,21 @@ module _ (layout : Layout) (switches : List Switch) (names : List (List ℕ)) (s
 
 -- a scan, on slots and by names
 pub scan-done : (d : DeviceState) (now : ℕ) (ran : List Bool) (rows : List Row)
-    → ((names : List (List ℕ)) → AreApart names → length names ≡ length d.values → variables_of names ran ≡ (mean (items_named names d.program.instructions) None (variables_of names (inputs_put d.tree d.switches d.program.slots d.values))).variables)
+    → ((names : List (List ℕ)) → AreApart names → length names ≡ length d.values → variables_of names ran ≡ (mean (items_named names d.program.instructions) None (variables_of names (inputs_put d.tree d.switches (origins_of d.program.variables) d.values))).variables)
     → length ran ≡ length d.values
     → rows ≡ outputs_put (layout_of d.tree) d.switches ran now d.tree
-    → record (state_view d) { rows = rows; variables = variables_of d.program.names ran; moment = now; last_scan = Some now; is_stale = false } ≡ scanned now (state_view d)
+    → record (state_view d) { rows = rows; variables = variables_of (names_of d.program.variables) ran; moment = now; last_scan = Some now; is_stale = false } ≡ scanned now (state_view d)
 scan-done d now ran rows runs keeps writes =
-    let names = d.program.names in
-    let slots = d.program.slots in
+    let names = names_of d.program.variables in
+    let slots = origins_of d.program.variables in
     let s = state_view d in
-    let long : length slots ≡ length d.values = sym d.sized in
+    let named : length names ≡ length d.program.variables = length-map d.program.variables (λ (v : typed.Variable). v.name) in
+    let sized : length names ≡ length slots = named ∙ sym (length-map d.program.variables (λ (v : typed.Variable). v.origin)) in
+    let long : length slots ≡ length d.values = sym sized ∙ named ∙ sym d.sized in
     let meant : variables_of names ran ≡ (mean s.items None (with_inputs s.switches s.rows s.declared s.variables)).variables =
-    runs names d.program.apart (d.program.sized ∙ long) ∙ ap (λ vs. (mean s.items None vs).variables) (inputs-from d.tree slots d.switches d.bound names slots d.values d.program.sized long) in
+    runs names d.program.apart (sized ∙ long) ∙ ap (λ vs. (mean s.items None vs).variables) (inputs-from d.tree slots d.switches d.bound names slots d.values sized long) in
     let written : rows ≡ with_outputs s.switches s.declared (variables_of names ran) now 0 s.switches s.rows =
-    writes ∙ outputs-named (layout_of d.tree) s.switches names slots ran d.program.sized (long ∙ sym keeps) now 0 d.switches d.tree
+    writes ∙ outputs-named (layout_of d.tree) s.switches names slots ran sized (long ∙ sym keeps) now 0 d.switches d.tree
     (λ j b h. let none : j ≡ 0 + j = omega arith in subst (λ m. IsBound (layout_of d.tree) slots s.switches m b) none (d.bound j b h)) in
     ap (λ rs. record s { rows = rs; variables = variables_of names ran; moment = now; last_scan = Some now; is_stale = false }) written
     ∙ ap (λ vs. record s { rows = with_outputs s.switches s.declared vs now 0 s.switches s.rows; variables = vs; moment = now; last_scan = Some now; is_stale = false }) meant

@@ -1,8 +1,8 @@
 -- A checked program on slots, and a bay's switches with their rows and their slots.
-use Rattle.std.specs.Prelude.{◌≡◌, ℕ, ◌+◌, Bool, List, [], ◌∷◌, length, Option}
+use Rattle.std.specs.Prelude.{◌≡◌, ℕ, ◌+◌, Bool, List, [], ◌∷◌, length, map, Option}
 use Rattle.bay_config.specs.declared.bay.Origin.{Origin}
 use Rattle.bay_config.specs.declared.bay.Switch.{Switch}
-use Rattle.il_check.specs.Slots.{items_named}
+use Rattle.il_check.specs.Slots.{items_named, names_of}
 use Rattle.il_check.specs.WellTyped.{Checked}
 use Rattle.bay_device.specs.Slots.{outputs_at}
 use Rattle.bay_device.specs.declared.program.BoundProgram.{BoundProgram}
@@ -10,11 +10,10 @@ use Rattle.bay_device.specs.declared.rows.SwitchRows.{SwitchRows}
 use Rattle.bay_device.specs.declared.switch.BoundSwitch.{BoundSwitch}
 
 pub record IsProgram (checked : Checked) (program : BoundProgram) (values : List Bool) : Type 0 where
-  pub names : program.names ≡ checked.names
-  pub slots : program.slots ≡ checked.origins
-  pub items : items_named program.names program.instructions ≡ checked.items
-  pub initial : values ≡ checked.initial
-  pub sized : length values ≡ length program.slots
+  pub variables : program.variables ≡ checked.variables
+  pub items : items_named (names_of program.variables) program.instructions ≡ checked.items
+  pub initial : values ≡ map (λ v. v.initial) checked.variables
+  pub sized : length values ≡ length program.variables
 
 -- the switches with their rows, from place k on, and the slots of their interlocking values
 abbrev pub bound_from : List (Option Origin) → ℕ → List Switch → List SwitchRows → List BoundSwitch

@@ -1,16 +1,17 @@
 -- The device that a bay file and a program load to, or why they are refused.
-use Rattle.std.specs.Prelude.{ℕ, false, Option, None, Some, Result, Ok, Err}
+use Rattle.std.specs.Prelude.{ℕ, false, map, Option, None, Some, Result, Ok, Err}
 use Rattle.bay_config.specs.Code as bay_code
 use Rattle.bay_config.specs.declared.bay.Bay.{Bay}
 use Rattle.bay_config.specs.declared.fault.BayFault.{BayFault}
 use Rattle.il_check.specs.Code as check_code
+use Rattle.il_check.specs.Slots.{names_of}
 use Rattle.il_check.specs.WellTyped.{Checked, checked_of}
 use Rattle.il_check.specs.declared.fault.CheckFault.{CheckFault}
 use Rattle.il_text.specs.Code as text_code
 use Rattle.il_text.specs.Listing.{PlainProgram}
 use Rattle.il_text.specs.declared.fault.TextFault.{TextFault}
 use Rattle.bay_device.specs.Device.{State}
-use Rattle.bay_device.specs.Slots.{declared_of, variables_of}
+use Rattle.bay_device.specs.Slots.{declared_of, origins_of, variables_of}
 use Rattle.bay_device.specs.declared.fault.LoadFault.{LoadFault}
 use Rattle.bay_device.specs.declared.fault.LoadFault.TheVariants.{Refused, OutOfMemory}
 
@@ -23,10 +24,10 @@ initial_device bay program = record {
   revision = bay.revision;
   scan_max_age_ms = bay.scan_max_age_ms;
   switches = bay.switches;
-  declared = declared_of program.names program.origins;
+  declared = declared_of (names_of program.variables) (origins_of program.variables);
   items = program.items;
   rows = bay.rows;
-  variables = variables_of program.names program.initial;
+  variables = variables_of (names_of program.variables) (map (λ v. v.initial) program.variables);
   moment = 0;
   last_scan = None;
   is_stale = false;

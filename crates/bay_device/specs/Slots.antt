@@ -1,5 +1,5 @@
 -- A program on slots: what its slots stand for, and their values by name, whatever the slots are called.
-use Rattle.std.specs.Prelude.{ℕ, Bool, false, List, [], ◌∷◌, slice_get, unwrap_or, position, Option, Some, None}
+use Rattle.std.specs.Prelude.{ℕ, Bool, false, map, List, [], ◌∷◌, slice_get, unwrap_or, position, Option, Some, None}
 use Rattle.il_text.specs.Meaning.{truth, Variables}
 use Rattle.il_check.specs.declared.typed.Source.{Source}
 use Rattle.il_check.specs.declared.typed.Source.TheVariants as source
@@ -8,6 +8,11 @@ use Rattle.bay_config.specs.declared.bay.Origin.{Origin}
 use Rattle.bay_config.specs.declared.bay.SwitchPoint.{SwitchPoint}
 use Rattle.bay_config.specs.declared.bay.SwitchPoint.TheVariants.{EnableOpen, EnableClose}
 use Rattle.bay_device.specs.declared.program.SwitchOutputs.{SwitchOutputs}
+use Rattle.il_check.specs.declared.typed.Variable as typed
+
+-- what variables stand for
+abbrev pub origins_of : List typed.Variable → List (Option Origin)
+origins_of variables = map (λ v. v.origin) variables
 
 -- the values of the slots, by their names
 abbrev pub variables_of : List (List ℕ) → List Bool → Variables

@@ -1,8 +1,8 @@
 -- The device that a state of the code stands for.
-use Rattle.il_check.specs.Slots.{items_named}
+use Rattle.il_check.specs.Slots.{items_named, names_of}
 use Rattle.bay_device.specs.Device.{State}
 use Rattle.bay_device.specs.Layout.{switches_of}
-use Rattle.bay_device.specs.Slots.{declared_of, variables_of}
+use Rattle.bay_device.specs.Slots.{declared_of, origins_of, variables_of}
 use Rattle.bay_device.specs.declared.state.DeviceState.{DeviceState}
 
 abbrev pub state_view : DeviceState → State
@@ -13,10 +13,10 @@ state_view d = record {
   revision = d.revision;
   scan_max_age_ms = d.scan_max_age_ms;
   switches = switches_of d.switches;
-  declared = declared_of d.program.names d.program.slots;
-  items = items_named d.program.names d.program.instructions;
+  declared = declared_of (names_of d.program.variables) (origins_of d.program.variables);
+  items = items_named (names_of d.program.variables) d.program.instructions;
   rows = d.tree;
-  variables = variables_of d.program.names d.values;
+  variables = variables_of (names_of d.program.variables) d.values;
   moment = d.moment;
   last_scan = d.last_scan;
   is_stale = d.is_stale;

@@ -1,9 +1,10 @@
 // A checked program on the points of a bay's switches.
-ghost use Rattle.std.specs.Prelude.{◌≡◌, length, IfOk};
+ghost use Rattle.std.specs.Prelude.{◌≡◌, length, map, position, IfOk};
+ghost use Rattle.il_check.specs.Slots.{items_named, names_of};
 ghost use Rattle.il_check.specs.TypedView.{typed_view};
 ghost use Rattle.bay_device.specs.Bound.{IsProgram, bound_from};
 ghost use Rattle.bay_device.specs.Device.{same_point, is_point};
-ghost use Rattle.bay_device.specs.Slots.{output_slot, outputs_at};
+ghost use Rattle.bay_device.specs.Slots.{outputs_at, origins_of};
 
 use crate::program::{BoundProgram, SwitchOutputs};
 use crate::rows::SwitchRows;
@@ -11,7 +12,7 @@ use crate::switch::BoundSwitch;
 use crate::values::Values;
 use bay_base::listing::Listing;
 use bay_config::bay::{Origin, Switch, SwitchPoint};
-use il_check::typed::Typed;
+use il_check::typed::{Typed, Variable};
 use std::alloc::{AllocError, Global};
 
 fn same_point(first: SwitchPoint, second: SwitchPoint) -> bool
@@ -36,19 +37,21 @@ fn is_point(slot: Option<Origin>, switch: usize, point: SwitchPoint) -> bool
 }
 
 /// The slot of a point of the switch at a place, if the program names it.
-fn output_slot(slots: &[Option<Origin>], switch: usize, point: SwitchPoint) -> Option<usize>
-    ensures { result ≡ output_slot slots.now switch point }
+fn output_slot(variables: &[Variable], switch: usize, point: SwitchPoint) -> Option<usize>
+    ensures { result ≡ position (λ v. is_point switch point v.origin) variables.now }
 {
-    slots.iter().position(|slot| is_point(*slot, switch, point))
+    variables
+        .iter()
+        .position(|variable| is_point(variable.origin, switch, point))
 }
 
 /// The slots of the interlocking values of the switch at a place.
-fn outputs_at(slots: &[Option<Origin>], switch: usize) -> SwitchOutputs
-    ensures { result ≡ outputs_at slots.now switch }
+fn outputs_at(variables: &[Variable], switch: usize) -> SwitchOutputs
+    ensures { result ≡ outputs_at (origins_of variables.now) switch }
 {
     SwitchOutputs {
-        ena_opn: output_slot(slots, switch, SwitchPoint::EnableOpen),
-        ena_cls: output_slot(slots, switch, SwitchPoint::EnableClose),
+        ena_opn: output_slot(variables, switch, SwitchPoint::EnableOpen),
+        ena_cls: output_slot(variables, switch, SwitchPoint::EnableClose),
     }
 }
 
@@ -57,10 +60,10 @@ pub fn bind_switches(
     alloc: Global,
     switches: Vec<Switch>,
     rows: &[SwitchRows],
-    slots: &[Option<Origin>],
+    variables: &[Variable],
 ) -> Result<Vec<BoundSwitch>, AllocError>
     requires { length rows.now ≡ length switches.items }
-    ensures { IfOk result (λ bound. bound.items ≡ bound_from slots.now 0 switches.items rows.now) }
+    ensures { IfOk result (λ bound. bound.items ≡ bound_from (origins_of variables.now) 0 switches.items rows.now) }
 {
     let mut bound = Vec::new(alloc);
     for switch in switches {
@@ -68,26 +71,43 @@ pub fn bind_switches(
         bound.push(BoundSwitch {
             switch,
             rows: rows[k],
-            outputs: outputs_at(slots, k),
+            outputs: outputs_at(variables, k),
         })?;
     }
     Ok(bound)
 }
 
-/// A checked program on the points of a bay, and the values that its slots begin with. It takes no memory.
-pub fn bind_program(typed: Typed) -> (BoundProgram, Values)
-    ensures { IsProgram (typed_view typed) result.0 result.1 }
+/// The values that variables begin with.
+fn initial_values(alloc: Global, variables: &[Variable]) -> Result<Values, AllocError>
+    ensures { IfOk result (λ values. values ≡ map (λ v. v.initial) variables.now) }
+{
+    let mut values = Vec::new(alloc);
+    for variable in variables {
+        values.push(variable.initial)?;
+    }
+    Ok(Values::new(values))
+}
+
+/// A checked program on the points of a bay. It takes no memory.
+fn bound_program(typed: Typed) -> BoundProgram
+    ensures variables { result.variables ≡ (typed_view typed).variables }
+    ensures items { items_named (names_of result.variables) result.instructions ≡ (typed_view typed).items }
 {
     let Typed {
-        names,
-        origins,
-        initial,
+        variables,
         instructions,
     } = typed;
-    let program = BoundProgram {
-        names: Listing::new(names),
-        slots: Listing::new(origins),
+    BoundProgram {
+        variables: Listing::new(variables),
         instructions: Listing::new(instructions),
-    };
-    (program, Values::new(initial))
+    }
+}
+
+/// A checked program on the points of a bay, and the values that its slots begin with.
+pub fn bind_program(alloc: Global, typed: Typed) -> Result<(BoundProgram, Values), AllocError>
+    ensures { IfOk result (λ bound. IsProgram (typed_view typed) bound.0 bound.1) }
+{
+    let program = bound_program(typed);
+    let values = initial_values(alloc, program.variables.as_slice())?;
+    Ok((program, values))
 }

@@ -31,7 +31,7 @@ fn state_of(alloc: Global, bay: Bay, typed: Typed) -> Result<DeviceState, AllocE
     ensures { IfOk result (λ state. state_view state ≡ initial_device bay (typed_view typed)) }
 {
     let nodes = all_nodes(alloc, &bay)?;
-    let (program, values) = bind_program(typed);
+    let (program, values) = bind_program(alloc, typed)?;
     let Bay {
         domain,
         vendor,
@@ -48,7 +48,7 @@ fn state_of(alloc: Global, bay: Bay, typed: Typed) -> Result<DeviceState, AllocE
         alloc,
         switches.into_vec(),
         rows.as_slice(),
-        program.slots.as_slice(),
+        program.variables.as_slice(),
     )?;
     Ok(DeviceState {
         domain,

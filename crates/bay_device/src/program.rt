@@ -2,13 +2,11 @@
 ghost use Rattle.std.specs.Prelude.{◌≡◌, ℕ, List, length, All, Some, None, option_map};
 ghost use Rattle.il_text.specs.Meaning.{truth, applied, acted, mean};
 ghost use Rattle.bay_device.specs.Slots.{source_value, variables_of};
-ghost use Rattle.il_check.specs.Slots.{AreApart, IsSourceWithin, IsWithin, action_named, items_named};
+ghost use Rattle.il_check.specs.Slots.{AreApart, IsSourceWithin, IsWithin, action_named, items_named, names_of};
 
 use crate::values::Values;
 use bay_base::listing::Listing;
-use bay_base::text::Text;
-use bay_config::bay::Origin;
-use il_check::typed::{Source, TypedInstruction};
+use il_check::typed::{Source, TypedInstruction, Variable};
 use il_text::program::Operator;
 
 /// The slots of a switch's interlocking values, where the program names them.
@@ -23,14 +21,11 @@ pub struct SwitchOutputs {
 /// A checked program, whose instructions name its slots alone.
 #[derive(Drop)]
 pub struct BoundProgram {
-    /// The name of each slot, in upper case.
-    pub names: Listing<Text>,
-    /// What each slot stands for in the bay; None for a variable of the program.
-    pub slots: Listing<Option<Origin>>,
+    /// The variable of each slot.
+    pub variables: Listing<Variable>,
     pub instructions: Listing<TypedInstruction>,
-    ghost apart: { AreApart names },
-    ghost sized: { length names ≡ length slots },
-    ghost within: { All (IsWithin (length slots)) instructions },
+    ghost apart: { AreApart (names_of variables) },
+    ghost within: { All (IsWithin (length variables)) instructions },
 }
 
 /// The value of a source.

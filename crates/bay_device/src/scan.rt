@@ -7,7 +7,7 @@ ghost use Rattle.bay_tree.specs.Rows.{leaf_of};
 ghost use Rattle.bay_device.specs.Device.{input_of, with_enabled, with_output};
 ghost use Rattle.bay_device.specs.Layout.{layout_of, name_in, status_in, switch_in, AreStatusRows, AreSwitchRows, AreKinded};
 ghost use Rattle.bay_device.specs.Scans.{slot_input, inputs_put, outputs_put};
-ghost use Rattle.bay_device.specs.Slots.{slot_value, variables_of};
+ghost use Rattle.bay_device.specs.Slots.{slot_value, origins_of, variables_of};
 
 use crate::program::{BoundProgram, run_instructions};
 use crate::rows::{StatusRows, SwitchRows, is_position, is_quality, is_truth, put_status};
@@ -16,6 +16,7 @@ use crate::values::Values;
 use bay_config::bay::{Origin, SwitchPoint};
 use bay_tree::leaf::{Dbpos, Leaf, Quality};
 use bay_tree::tree::Tree;
+use il_check::typed::Variable;
 
 /// Gives an interlocking value the value of its point.
 fn set_enabled(tree: &mut Tree, rows: StatusRows, value: bool, now: u64)
@@ -58,14 +59,14 @@ fn slot_input(tree: &Tree, switches: &[BoundSwitch], slot: Option<Origin>) -> Op
 }
 
 /// Gives the slots of read-only points the values of the contacts.
-fn read_inputs(tree: &Tree, switches: &[BoundSwitch], slots: &[Option<Origin>], values: &mut Values)
+fn read_inputs(tree: &Tree, switches: &[BoundSwitch], variables: &[Variable], values: &mut Values)
     requires kinds { AreKinded (layout_of tree.now) switches.now }
-    requires sized { length slots.now ≡ length values.old }
+    requires sized { length variables.now ≡ length values.old }
     ensures sized { length values.new ≡ length values.old }
-    ensures read { values.new ≡ inputs_put tree.now switches.now slots.now values.old }
+    ensures read { values.new ≡ inputs_put tree.now switches.now (origins_of variables.now) values.old }
 {
-    for i in 0..slots.len() {
-        match slot_input(tree, switches, slots[i]) {
+    for i in 0..variables.len() {
+        match slot_input(tree, switches, variables[i].origin) {
             Some(value) => values.set(i, value),
             None => {}
         }
@@ -80,15 +81,15 @@ pub fn run_on_inputs(
     values: &mut Values,
 )
     requires kinds { AreKinded (layout_of tree.now) switches.now }
-    requires sized { length program.now.slots ≡ length values.old }
+    requires sized { length program.now.variables ≡ length values.old }
     ensures sized { length values.new ≡ length values.old }
     // Whatever the slots are called, their values are then what the program means on what was read.
     ensures meant { (names : List (List ℕ)) → AreApart names → length names ≡ length values.old →
         variables_of names values.new
         ≡ (mean (items_named names program.now.instructions) None
-        (variables_of names (inputs_put tree.now switches.now program.now.slots values.old))).variables }
+        (variables_of names (inputs_put tree.now switches.now (origins_of program.now.variables) values.old))).variables }
 {
-    read_inputs(tree, switches, program.slots.as_slice(), values);
+    read_inputs(tree, switches, program.variables.as_slice(), values);
     run_instructions(program.instructions.as_slice(), values);
 }
 

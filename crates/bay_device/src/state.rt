@@ -1,6 +1,7 @@
 // The state of a device, which can take no memory.
 ghost use Rattle.std.specs.Prelude.{◌≡◌, length};
 ghost use Rattle.bay_device.specs.Layout.{layout_of, AreBound};
+ghost use Rattle.bay_device.specs.Slots.{origins_of};
 
 use crate::program::BoundProgram;
 use crate::switch::BoundSwitch;
@@ -32,6 +33,6 @@ pub struct DeviceState {
     pub last_scan: Option<u64>,
     /// Whether a value or a quality of a contact has changed since the last scan.
     pub is_stale: bool,
-    ghost bound: { AreBound (layout_of tree) program.slots switches },
-    ghost sized: { length values ≡ length program.slots },
+    ghost bound: { AreBound (layout_of tree) (origins_of program.variables) switches },
+    ghost sized: { length values ≡ length program.variables },
 }

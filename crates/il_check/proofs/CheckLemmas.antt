@@ -1,5 +1,5 @@
 -- Why what is found by places is what is found by names.
-use Rattle.std.proofs.Common.{◌≡◌, ℕ, ◌+◌, ◌<◌, ◌≤◌, zero, suc, Bool, true, false, not, ◌||◌, cond, is_some, is_none, List, [], ◌∷◌, ◌++◌, length, map, Option, Some, None, option_map, refl, ap, sym, ◌∙◌, arith, append_assoc, append-nil, slice_index_or, All, find}
+use Rattle.std.proofs.Common.{◌≡◌, ℕ, ◌+◌, ◌<◌, ◌≤◌, zero, suc, Bool, true, false, not, ◌||◌, cond, is_some, is_none, List, [], ◌∷◌, ◌++◌, length, map, Option, Some, None, option_map, refl, ap, sym, ◌∙◌, arith, append_assoc, append-nil, slice_index_or, slice_get, All, find}
 use Rattle.std.proofs.lemmas.Grind.{common_steps}
 use Rattle.std.proofs.lemmas.List.{length-map}
 use Rattle.std.proofs.lemmas.Slice.Eq.{bytes_eq-Decides}
@@ -12,11 +12,12 @@ use Rattle.bay_base.specs.Names.{upper, same_name}
 use Rattle.bay_base.proofs.NameLemmas.{upper-upper, same-upper}
 use Rattle.il_text.specs.Listing as listing
 use Rattle.il_text.specs.Listing.{Declared, constant, variable, Action, load, store, combine, Entry, action, block}
-use Rattle.il_check.specs.Places.{place_in, source_at, instruction_at, entry_at, may_not_write, action_faults_at, entry_faults_at, entries_faults_at}
+use Rattle.il_check.specs.Places.{place_in, source_at, instruction_at, entry_at, is_fixed, may_not_write, action_faults_at, entry_faults_at, entries_faults_at}
 use Rattle.il_check.specs.Slots.{name_at, AreApart, action_named, source_named, items_named, slots_of, slots_of_source, IsWithin}
-use Rattle.il_check.specs.WellTyped.{fault_if, is_declared, declaration_of, can_write, action_faults, entry_faults, entries_faults, declaration_faults, declarations_faults, plain_source, plain_action, plain_entry}
+use Rattle.il_check.specs.WellTyped.{fault_if, is_declared, declaration_of, can_write, variable_of, action_faults, entry_faults, entries_faults, declaration_faults, declarations_faults, plain_source, plain_action, plain_entry}
 use Rattle.il_check.specs.declared.fault.CheckFault.{CheckFault}
 use Rattle.il_check.specs.declared.fault.CheckFault.TheVariants.{UnknownName, UnsetResult, ReadOnly}
+use Rattle.il_check.specs.declared.typed.Variable.{Variable}
 use Rattle.il_check.specs.declared.typed.Source as typed
 use Rattle.il_check.specs.declared.typed.Source.TheVariants.{Literal, Slot}
 use Rattle.il_check.specs.declared.typed.TypedInstruction.{TypedInstruction}
@@ -29,48 +30,52 @@ at_end : {X : Type 0} (before : List X) (x : X) (after : List X) (d : X) → sli
 at_end [] x after d = refl
 at_end (b ∷ before) x after d = at_end before x after d
 
+at_place : (before : List Variable) (x : Variable) (after : List Variable) → slice_get (before ++ x ∷ after) (length before) ≡ Some x
+at_place [] x after = refl
+at_place (b ∷ before) x after = at_place before x after
+
 longer : {X : Type 0} (before : List X) (x : X) → length before + 1 ≡ length (before ++ x ∷ [])
 longer before x = grind (arith, common_steps)
 
 -- what may be written, by place and by name
-rights_cases : {X : Type 0} (can : Option X → Bool) (here : Bool) (before : List Bool) (x : X) (rest : List Bool) (later : Option ℕ) (found : Option X)
-    → may_not_write (before ++ can (Some x) ∷ rest) (option_map (λ i. Store i) later) ≡ not (can found)
-    → may_not_write (before ++ can (Some x) ∷ rest) (option_map (λ i. Store i) (cond here (Some (length before)) later)) ≡ not (can (cond here (Some x) found))
-rights_cases can true before x rest later found e = ap not (at_end before (can (Some x)) rest true)
-rights_cases can false before x rest later found e = e
+module _ {X : Type 0} (f : X → Variable) (can : Option X → Bool) (agrees : (x : X) → (f x).writable ≡ can (Some x)) where
+  rights_cases : (here : Bool) (before : List Variable) (x : X) (rest : List Variable) (later : Option ℕ) (found : Option X)
+      → may_not_write (before ++ f x ∷ rest) (option_map (λ i. Store i) later) ≡ not (can found)
+      → may_not_write (before ++ f x ∷ rest) (option_map (λ i. Store i) (cond here (Some (length before)) later)) ≡ not (can (cond here (Some x) found))
+  rights_cases true before x rest later found e = ap is_fixed (at_place before (f x) rest) ∙ ap not (agrees x)
+  rights_cases false before x rest later found e = e
 
-rights_from : {X : Type 0} (can : Option X → Bool) (test : X → Bool) (before : List Bool) (xs : List X) → can None ≡ true
-    → may_not_write (before ++ map (λ x. can (Some x)) xs) (option_map (λ i. Store i) (position_from test (length before) xs)) ≡ not (can (find test xs))
-rights_from can test before [] free = ap not (sym free)
-rights_from {X} can test before (x ∷ xs) free =
-    let w : Bool = can (Some x) in
-    let rest : List Bool = map (λ (y : X). can (Some y)) xs in
-    let later : Option ℕ = position_from test (length before + 1) xs in
-    let e : may_not_write (before ++ w ∷ rest) (option_map (λ i. Store i) later) ≡ not (can (find test xs)) =
-    ap (λ (ws : List Bool). may_not_write ws (option_map (λ i. Store i) later)) (sym (append_assoc before (w ∷ []) rest))
-    ∙ ap (λ n. may_not_write ((before ++ w ∷ []) ++ rest) (option_map (λ i. Store i) (position_from test n xs))) (longer before w)
-    ∙ rights_from can test (before ++ w ∷ []) xs free in
-    rights_cases can (test x) before x rest later (find test xs) e
+  rights_from : (test : X → Bool) (before : List Variable) (xs : List X) → can None ≡ true
+      → may_not_write (before ++ map f xs) (option_map (λ i. Store i) (position_from test (length before) xs)) ≡ not (can (find test xs))
+  rights_from test before [] free = ap not (sym free)
+  rights_from test before (x ∷ xs) free =
+      let rest : List Variable = map f xs in
+      let later : Option ℕ = position_from test (length before + 1) xs in
+      let e : may_not_write (before ++ f x ∷ rest) (option_map (λ i. Store i) later) ≡ not (can (find test xs)) =
+      ap (λ (ws : List Variable). may_not_write ws (option_map (λ i. Store i) later)) (sym (append_assoc before (f x ∷ []) rest))
+      ∙ ap (λ n. may_not_write ((before ++ f x ∷ []) ++ rest) (option_map (λ i. Store i) (position_from test n xs))) (longer before (f x))
+      ∙ rights_from test (before ++ f x ∷ []) xs free in
+      rights_cases (test x) before x rest later (find test xs) e
 
--- the places of these declarations, and which of them may be written
-pub record Knows (of_bay : List Point) (declared : List Declared) (places : List ℕ → Option ℕ) (writable : List Bool) : Type 0 where
+-- the places of these declarations, and their variables
+pub record Knows (of_bay : List Point) (declared : List Declared) (places : List ℕ → Option ℕ) (variables : List Variable) : Type 0 where
   pub placed : (name : List ℕ) → places name ≡ place_in declared name
-  pub rights : writable ≡ map (λ d. can_write of_bay (Some d)) declared
+  pub rights : variables ≡ map (variable_of of_bay) declared
 
-module _ (of_bay : List Point) (declared : List Declared) (places : List ℕ → Option ℕ) (writable : List Bool) (knows : Knows of_bay declared places writable) where
+module _ (of_bay : List Point) (declared : List Declared) (places : List ℕ → Option ℕ) (variables : List Variable) (knows : Knows of_bay declared places variables) where
   known : (name : List ℕ) → is_declared declared name ≡ is_some (places (upper name))
   known name = is_declared-place declared name ∙ ap is_some (sym (knows.placed (upper name)))
 
-  may_store : (name : List ℕ) → may_not_write writable (option_map (λ i. Store i) (places (upper name))) ≡ not (can_write of_bay (declaration_of declared name))
+  may_store : (name : List ℕ) → may_not_write variables (option_map (λ i. Store i) (places (upper name))) ≡ not (can_write of_bay (declaration_of declared name))
   unfolding same_name
   may_store name =
-      ap (λ (ws : List Bool). may_not_write ws (option_map (λ i. Store i) (places (upper name)))) knows.rights
-      ∙ ap (λ (o : Option ℕ). may_not_write (map (λ d. can_write of_bay (Some d)) declared) (option_map (λ i. Store i) o)) (knows.placed (upper name))
-      ∙ rights_from (can_write of_bay) (λ (d : Declared). bytes_eq (upper d.name) (upper name)) [] declared refl
+      ap (λ (ws : List Variable). may_not_write ws (option_map (λ i. Store i) (places (upper name)))) knows.rights
+      ∙ ap (λ (o : Option ℕ). may_not_write (map (variable_of of_bay) declared) (option_map (λ i. Store i) o)) (knows.placed (upper name))
+      ∙ rights_from (variable_of of_bay) (can_write of_bay) (λ d. refl) (λ (d : Declared). bytes_eq (upper d.name) (upper name)) [] declared refl
 
   load_cases : (line : ℕ) (negated : Bool) (is_known : Bool) (place : Option ℕ) → is_known ≡ is_some place
       → fault_if (is_none (option_map (λ s. Load negated s) (option_map (λ i. Slot i) place))) (UnknownName line)
-      ++ ([] ++ fault_if (may_not_write writable (option_map (λ s. Load negated s) (option_map (λ i. Slot i) place))) (ReadOnly line))
+      ++ ([] ++ fault_if (may_not_write variables (option_map (λ s. Load negated s) (option_map (λ i. Slot i) place))) (ReadOnly line))
       ≡ fault_if (not is_known) (UnknownName line)
   load_cases line negated true None e = absurd (cc)
   load_cases line negated false None e = refl
@@ -86,32 +91,32 @@ module _ (of_bay : List Point) (declared : List Declared) (places : List ℕ →
 
   combine_cases : (line : ℕ) (operator : Operator) (unset : List CheckFault) (is_known : Bool) (place : Option ℕ) → is_known ≡ is_some place
       → fault_if (is_none (option_map (λ s. Combine operator s) (option_map (λ i. Slot i) place))) (UnknownName line)
-      ++ (unset ++ fault_if (may_not_write writable (option_map (λ s. Combine operator s) (option_map (λ i. Slot i) place))) (ReadOnly line))
+      ++ (unset ++ fault_if (may_not_write variables (option_map (λ s. Combine operator s) (option_map (λ i. Slot i) place))) (ReadOnly line))
       ≡ fault_if (not is_known) (UnknownName line) ++ unset
   combine_cases line operator unset true None e = absurd (cc)
   combine_cases line operator unset false None e = ap (λ (fs : List CheckFault). UnknownName line ∷ fs) (append-nil unset)
   combine_cases line operator unset true (Some i) e = append-nil unset
   combine_cases line operator unset false (Some i) e = absurd (cc)
 
-  action_same : (is_set : Bool) (line : ℕ) (a : Action) → action_faults_at writable is_set line a (instruction_at places a) ≡ action_faults of_bay declared is_set line a
+  action_same : (is_set : Bool) (line : ℕ) (a : Action) → action_faults_at variables is_set line a (instruction_at places a) ≡ action_faults of_bay declared is_set line a
   action_same is_set line (load negated (constant b)) = refl
   action_same is_set line (load negated (variable name)) = load_cases line negated (is_declared declared name) (places (upper name)) (known name)
   action_same is_set line (store name) =
-      ap (λ (fs : List CheckFault). fs ++ (fault_if (not is_set) (UnsetResult line) ++ fault_if (may_not_write writable (option_map (λ i. Store i) (places (upper name)))) (ReadOnly line)))
+      ap (λ (fs : List CheckFault). fs ++ (fault_if (not is_set) (UnsetResult line) ++ fault_if (may_not_write variables (option_map (λ i. Store i) (places (upper name)))) (ReadOnly line)))
       (store_cases line (is_declared declared name) (places (upper name)) (known name))
       ∙ ap (λ b. fault_if (not (is_declared declared name)) (UnknownName line) ++ (fault_if (not is_set) (UnsetResult line) ++ fault_if b (ReadOnly line))) (may_store name)
   action_same is_set line (combine operator (constant b)) = append-nil (fault_if (not is_set) (UnsetResult line))
   action_same is_set line (combine operator (variable name)) = combine_cases line operator (fault_if (not is_set) (UnsetResult line)) (is_declared declared name) (places (upper name)) (known name)
 
-  entry_same : (is_set : Bool) (e : Entry) → entry_faults_at writable is_set e (entry_at places e) ≡ entry_faults of_bay declared is_set e
+  entry_same : (is_set : Bool) (e : Entry) → entry_faults_at variables is_set e (entry_at places e) ≡ entry_faults of_bay declared is_set e
   entry_same is_set (action line a) = action_same is_set line a
   entry_same is_set (block line operator items end) = refl
 
   -- the faults by places are those by names
-  pub entries_same : (is_set : Bool) (es : List Entry) → entries_faults_at places writable is_set es ≡ entries_faults of_bay declared is_set es
+  pub entries_same : (is_set : Bool) (es : List Entry) → entries_faults_at places variables is_set es ≡ entries_faults of_bay declared is_set es
   entries_same is_set [] = refl
   entries_same is_set (e ∷ es) =
-      ap (λ (fs : List CheckFault). fs ++ entries_faults_at places writable true es) (entry_same is_set e)
+      ap (λ (fs : List CheckFault). fs ++ entries_faults_at places variables true es) (entry_same is_set e)
       ∙ ap (λ (fs : List CheckFault). entry_faults of_bay declared is_set e ++ fs) (entries_same true es)
 
 -- each place is one of these names
@@ -227,21 +232,21 @@ module _ (names : List (List ℕ)) (places : List ℕ → Option ℕ) (leads_to 
   all_within [] = λ k d within. absurd (omega arith)
   all_within (e ∷ es) = all_cons_option (IsWithin (length names)) (entry_at places e) (filter_map (entry_at places) es) (entry_within e) (all_within es)
 
-  has_instruction : (writable : List Bool) (is_set : Bool) (e : Entry) (o : Option TypedInstruction) → entry_faults_at writable is_set e o ≡ [] → (t : TypedInstruction) × (o ≡ Some t)
-  has_instruction writable is_set (action line a) None none = absurd (cc)
-  has_instruction writable is_set (action line a) (Some t) none = (t, refl)
-  has_instruction writable is_set (block line operator items end) o none = absurd (cc)
+  has_instruction : (variables : List Variable) (is_set : Bool) (e : Entry) (o : Option TypedInstruction) → entry_faults_at variables is_set e o ≡ [] → (t : TypedInstruction) × (o ≡ Some t)
+  has_instruction variables is_set (action line a) None none = absurd (cc)
+  has_instruction variables is_set (action line a) (Some t) none = (t, refl)
+  has_instruction variables is_set (block line operator items end) o none = absurd (cc)
 
   -- without a fault, the instructions are the items
-  pub all_named : (writable : List Bool) (is_set : Bool) (es : List Entry) → entries_faults_at places writable is_set es ≡ [] → items_named names (filter_map (entry_at places) es) ≡ map plain_entry es
-  all_named writable is_set [] none = refl
-  all_named writable is_set (e ∷ es) none =
-      let split = append-none (entry_faults_at writable is_set e (entry_at places e)) (entries_faults_at places writable true es) none in
-      let found = has_instruction writable is_set e (entry_at places e) split.0 in
+  pub all_named : (variables : List Variable) (is_set : Bool) (es : List Entry) → entries_faults_at places variables is_set es ≡ [] → items_named names (filter_map (entry_at places) es) ≡ map plain_entry es
+  all_named variables is_set [] none = refl
+  all_named variables is_set (e ∷ es) none =
+      let split = append-none (entry_faults_at variables is_set e (entry_at places e)) (entries_faults_at places variables true es) none in
+      let found = has_instruction variables is_set e (entry_at places e) split.0 in
       let rest : List TypedInstruction = filter_map (entry_at places) es in
       ap (λ (o : Option TypedInstruction). items_named names (cons_option o rest)) found.1
       ∙ ap (λ (x : Entry). x ∷ items_named names rest) (entry_named e found.0 found.1)
-      ∙ ap (λ (xs : List Entry). plain_entry e ∷ xs) (all_named writable true es split.1)
+      ∙ ap (λ (xs : List Entry). plain_entry e ∷ xs) (all_named variables true es split.1)
 
 declared_right : (declared : List Declared) (name : List ℕ) → is_declared declared (upper name) ≡ is_declared declared name
 unfolding same_name

@@ -1,10 +1,10 @@
 -- What a program is checked to be.
-use Rattle.std.proofs.Common.{◌≡◌, ℕ, Bool, false, List, [], length, map, vec_len, All, Option, None, Some, Ok, Err, ap, sym, ◌∙◌, subst}
+use Rattle.std.proofs.Common.{◌≡◌, ℕ, false, List, [], ◌∷◌, length, map, vec_len, All, Option, None, Some, Ok, Err, refl, ap, sym, ◌∙◌, subst}
 use Rattle.std.specs.BTreeMap.{get_by_text}
 use Rattle.std.specs.List.{filter_map}
 use Rattle.std.proofs.lemmas.List.{length-map}
 use Rattle.bay_config.specs.declared.bay.Point.{Point}
-use Rattle.bay_config.specs.declared.bay.Origin.{Origin}
+use Rattle.il_check.specs.declared.typed.Variable.{Variable}
 use Rattle.bay_base.specs.Names.{upper}
 use Rattle.il_text.specs.Listing.{Declared, Entry, PlainProgram}
 use Rattle.il_text.specs.Views.{declared_of, entry_of, plain_program}
@@ -14,9 +14,9 @@ use Rattle.il_text.specs.declared.program.Program.{Program}
 use Rattle.bay_base.specs.Exact.{judged}
 use Rattle.il_check.specs.Noted.{noted}
 use Rattle.il_check.specs.Places.{entry_at, entries_faults_at}
-use Rattle.il_check.specs.Slots.{AreApart, IsWithin, items_named}
+use Rattle.il_check.specs.Slots.{AreApart, IsWithin, items_named, names_of}
 use Rattle.il_check.specs.Standing.{StandsFor}
-use Rattle.il_check.specs.WellTyped.{Checked, origin_of, initial_value, plain_entry, declarations_faults, entries_faults, faults_of, first_fault, checked_of, checked_program}
+use Rattle.il_check.specs.WellTyped.{Checked, variable_of, plain_entry, declarations_faults, entries_faults, faults_of, first_fault, checked_of, checked_program}
 use Rattle.il_check.specs.declared.declare.Declarations.{Declarations}
 use Rattle.il_check.specs.declared.resolve.Resolved.{Resolved}
 use Rattle.il_check.specs.declared.fault.CheckFault.{CheckFault}
@@ -26,19 +26,23 @@ use Rattle.il_check.proofs.CheckLemmas.{Knows, entries_same, Leads, leads, all_w
 abbrev pub places_of : Declarations → List ℕ → Option ℕ
 places_of d name = get_by_text d.places name
 
+names_declared : (of_bay : List Point) (declared : List Declared) → names_of (map (variable_of of_bay) declared) ≡ map (λ x. upper x.name) declared
+names_declared of_bay [] = refl
+names_declared of_bay (d ∷ ds) = ap (λ (ns : List (List ℕ)). upper d.name ∷ ns) (names_declared of_bay ds)
+
 -- what is known once all is read
 pub record IsRead (of_bay : List Point) (program : PlainProgram) (d : Declarations) (r : Resolved) : Type 0 where
   pub stands : StandsFor of_bay program.declarations d
   pub declared : d.found ≡ first_fault (declarations_faults of_bay [] program.declarations)
   pub instructions : r.instructions.items ≡ filter_map (entry_at (places_of d)) program.items
-  pub found : r.found ≡ noted d.found (entries_faults_at (places_of d) d.writable.items false program.items)
+  pub found : r.found ≡ noted d.found (entries_faults_at (places_of d) d.variables.items false program.items)
 
 module _ (of_bay : List Point) (program : PlainProgram) (d : Declarations) (r : Resolved) (read : IsRead of_bay program d r) where
-  knows : Knows of_bay program.declarations (places_of d) d.writable.items
-  knows = record { placed = read.stands.places; rights = read.stands.writable }
+  knows : Knows of_bay program.declarations (places_of d) d.variables.items
+  knows = record { placed = read.stands.places; rights = read.stands.variables }
 
-  same_faults : entries_faults_at (places_of d) d.writable.items false program.items ≡ entries_faults of_bay program.declarations false program.items
-  same_faults = entries_same of_bay program.declarations (places_of d) d.writable.items knows false program.items
+  same_faults : entries_faults_at (places_of d) d.variables.items false program.items ≡ entries_faults of_bay program.declarations false program.items
+  same_faults = entries_same of_bay program.declarations (places_of d) d.variables.items knows false program.items
 
   pub found-is : r.found ≡ first_fault (faults_of of_bay program)
   found-is =
@@ -51,59 +55,52 @@ module _ (of_bay : List Point) (program : PlainProgram) (d : Declarations) (r : 
   pub refused : (f : CheckFault) → r.found ≡ Some f → checked_of of_bay program ≡ Err f
   refused f is = ap (λ (o : Option CheckFault). judged o (checked_program of_bay program)) (sym found-is ∙ is)
 
-  leads_to : Leads d.names.items (places_of d)
-  leads_to = subst (λ (ns : List (List ℕ)). Leads ns (places_of d)) (sym read.stands.names) (leads program.declarations (places_of d) read.stands.places)
+  named_so : names_of d.variables.items ≡ map (λ x. upper x.name) program.declarations
+  named_so = ap names_of read.stands.variables ∙ names_declared of_bay program.declarations
 
-  pub within-all : All (IsWithin (vec_len d.names)) r.instructions.items
+  counted : length (names_of d.variables.items) ≡ vec_len d.variables
+  counted = length-map d.variables.items (λ (v : Variable). v.name) ∙ sym d.variables.ok.0
+
+  leads_to : Leads (names_of d.variables.items) (places_of d)
+  leads_to = subst (λ (ns : List (List ℕ)). Leads ns (places_of d)) (sym named_so) (leads program.declarations (places_of d) read.stands.places)
+
+  pub within-all : All (IsWithin (vec_len d.variables)) r.instructions.items
   within-all =
-      let them : All (IsWithin (length d.names.items)) r.instructions.items =
-      subst (λ xs. All (IsWithin (length d.names.items)) xs) (sym read.instructions) (all_within d.names.items (places_of d) leads_to program.items) in
-      subst (λ n. All (IsWithin n) r.instructions.items) (sym d.names.ok.0) them
-
-  pub pointed : vec_len d.origins ≡ vec_len d.names
-  pointed =
-      d.origins.ok.0 ∙ ap length read.stands.origins ∙ length-map program.declarations (origin_of of_bay)
-      ∙ sym (length-map program.declarations (λ (x : Declared). upper x.name)) ∙ sym (ap length read.stands.names) ∙ sym d.names.ok.0
-
-  pub begun : vec_len d.initial ≡ vec_len d.names
-  begun =
-      d.initial.ok.0 ∙ ap length read.stands.initial ∙ length-map program.declarations initial_value
-      ∙ sym (length-map program.declarations (λ (x : Declared). upper x.name)) ∙ sym (ap length read.stands.names) ∙ sym d.names.ok.0
+      let them : All (IsWithin (length (names_of d.variables.items))) r.instructions.items =
+      subst (λ xs. All (IsWithin (length (names_of d.variables.items))) xs) (sym read.instructions) (all_within (names_of d.variables.items) (places_of d) leads_to program.items) in
+      subst (λ n. All (IsWithin n) r.instructions.items) counted them
 
   no_faults : r.found ≡ None → faults_of of_bay program ≡ []
   no_faults none = first_fault-none (faults_of of_bay program) (sym found-is ∙ none)
 
-  pub apart-all : r.found ≡ None → AreApart d.names.items
+  pub apart-all : r.found ≡ None → AreApart (names_of d.variables.items)
   apart-all none =
-      subst (λ (ns : List (List ℕ)). AreApart ns) (sym read.stands.names)
+      subst (λ (ns : List (List ℕ)). AreApart ns) (sym named_so)
       (all_apart of_bay [] program.declarations (append-none (declarations_faults of_bay [] program.declarations) (entries_faults of_bay program.declarations false program.items) (no_faults none)).0)
 
-  named : r.found ≡ None → items_named d.names.items r.instructions.items ≡ map plain_entry program.items
+  named : r.found ≡ None → items_named (names_of d.variables.items) r.instructions.items ≡ map plain_entry program.items
   named none =
-      ap (items_named d.names.items) read.instructions
-      ∙ all_named d.names.items (places_of d) leads_to d.writable.items false program.items
+      ap (items_named (names_of d.variables.items)) read.instructions
+      ∙ all_named (names_of d.variables.items) (places_of d) leads_to d.variables.items false program.items
       (same_faults ∙ (append-none (declarations_faults of_bay [] program.declarations) (entries_faults of_bay program.declarations false program.items) (no_faults none)).1)
 
   -- without a fault, the answer is the program on slots
-  pub passed : r.found ≡ None
-      → checked_of of_bay program ≡ Ok (record { names = d.names.items; origins = d.origins.items; initial = d.initial.items; items = items_named d.names.items r.instructions.items })
+  pub passed : r.found ≡ None → checked_of of_bay program ≡ Ok (record { variables = d.variables.items; items = items_named (names_of d.variables.items) r.instructions.items })
   passed none =
-      let with_names : List (List ℕ) → Checked = λ ns. record { names = ns; origins = map (origin_of of_bay) program.declarations; initial = map initial_value program.declarations; items = map plain_entry program.items } in
-      let with_points : List (Option Origin) → Checked = λ ps. record { names = d.names.items; origins = ps; initial = map initial_value program.declarations; items = map plain_entry program.items } in
-      let with_initial : List Bool → Checked = λ bs. record { names = d.names.items; origins = d.origins.items; initial = bs; items = map plain_entry program.items } in
-      let with_items : List Entry → Checked = λ es. record { names = d.names.items; origins = d.origins.items; initial = d.initial.items; items = es } in
+      let with_variables : List Variable → Checked = λ vs. record { variables = vs; items = map plain_entry program.items } in
+      let with_items : List Entry → Checked = λ es. record { variables = d.variables.items; items = es } in
       ap (λ (o : Option CheckFault). judged o (checked_program of_bay program)) (sym found-is ∙ none)
-      ∙ ap Ok (ap with_names (sym read.stands.names) ∙ ap with_points (sym read.stands.origins) ∙ ap with_initial (sym read.stands.initial) ∙ ap with_items (sym (named none)))
+      ∙ ap Ok (ap with_variables (sym read.stands.variables) ∙ ap with_items (sym (named none)))
 
 pub is_read : (of_bay : List Point) (p : Program) (declarations : List Declaration) (items : List Item) (d : Declarations) (r : Resolved)
     → declarations ≡ p.declarations.items → items ≡ p.items.items
     → StandsFor of_bay (map declared_of declarations) d → d.found ≡ first_fault (declarations_faults of_bay [] (map declared_of declarations))
     → r.instructions.items ≡ filter_map (entry_at (places_of d)) (map entry_of items)
-    → r.found ≡ noted d.found (entries_faults_at (places_of d) d.writable.items false (map entry_of items))
+    → r.found ≡ noted d.found (entries_faults_at (places_of d) d.variables.items false (map entry_of items))
     → IsRead of_bay (plain_program p) d r
 is_read of_bay p declarations items d r same_declarations same_items stands declared instructions found = record {
   stands = subst (λ (ds : List Declaration). StandsFor of_bay (map declared_of ds) d) same_declarations stands;
   declared = subst (λ (ds : List Declaration). d.found ≡ first_fault (declarations_faults of_bay [] (map declared_of ds))) same_declarations declared;
   instructions = subst (λ (is : List Item). r.instructions.items ≡ filter_map (entry_at (places_of d)) (map entry_of is)) same_items instructions;
-  found = subst (λ (is : List Item). r.found ≡ noted d.found (entries_faults_at (places_of d) d.writable.items false (map entry_of is))) same_items found;
+  found = subst (λ (is : List Item). r.found ≡ noted d.found (entries_faults_at (places_of d) d.variables.items false (map entry_of is))) same_items found;
 }

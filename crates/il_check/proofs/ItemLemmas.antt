@@ -12,23 +12,24 @@ use Rattle.il_check.specs.Places.{entry_at, entry_faults_at, entries_faults_at}
 use Rattle.il_check.specs.declared.resolve.Resolved.{Resolved}
 use Rattle.il_check.specs.declared.fault.CheckFault.{CheckFault}
 use Rattle.il_check.specs.declared.typed.TypedInstruction.{TypedInstruction}
+use Rattle.il_check.specs.declared.typed.Variable.{Variable}
 use Rattle.il_check.proofs.NotedLemmas.{noted-append, noted-nil}
 
-module _ (places : List ℕ → Option ℕ) (writable : List Bool) (all : List Item) (begun : Option CheckFault) where
+module _ (places : List ℕ → Option ℕ) (variables : List Variable) (all : List Item) (begun : Option CheckFault) where
   -- what is known after so many items
   pub record Reached (i : ℕ) (is_set : Bool) (r : Resolved) : Type 0 where
     pub instructions : r.instructions.items ++ filter_map (entry_at places) (map entry_of (drop i all)) ≡ filter_map (entry_at places) (map entry_of all)
-    pub found : noted r.found (entries_faults_at places writable is_set (map entry_of (drop i all))) ≡ noted begun (entries_faults_at places writable false (map entry_of all))
+    pub found : noted r.found (entries_faults_at places variables is_set (map entry_of (drop i all))) ≡ noted begun (entries_faults_at places variables false (map entry_of all))
 
   -- what taking an item changes
   pub record Adds (is_set : Bool) (e : Entry) (old new : Resolved) : Type 0 where
     pub instructions : new.instructions.items ≡ old.instructions.items ++ option_to_list (entry_at places e)
-    pub found : new.found ≡ noted old.found (entry_faults_at writable is_set e (entry_at places e))
+    pub found : new.found ≡ noted old.found (entry_faults_at variables is_set e (entry_at places e))
 
   pub reached-none : (r : Resolved) → r.instructions.items ≡ [] → r.found ≡ begun → Reached 0 false r
   reached-none r nothing same = record {
     instructions = ap (λ (xs : List TypedInstruction). xs ++ filter_map (entry_at places) (map entry_of all)) nothing;
-    found = ap (λ (o : Option CheckFault). noted o (entries_faults_at places writable false (map entry_of all))) same;
+    found = ap (λ (o : Option CheckFault). noted o (entries_faults_at places variables false (map entry_of all))) same;
   }
 
   cons_after : (xs rest : List TypedInstruction) (o : Option TypedInstruction) → (xs ++ option_to_list o) ++ rest ≡ xs ++ cons_option o rest
@@ -49,9 +50,9 @@ module _ (places : List ℕ → Option ℕ) (writable : List Bool) (all : List I
             ∙ ap (λ (es : List Entry). old.instructions.items ++ filter_map (entry_at places) es) (sym left)
             ∙ known.instructions;
         found =
-            ap (λ (o : Option CheckFault). noted o (entries_faults_at places writable true after)) added.found
-            ∙ sym (noted-append old.found (entry_faults_at writable is_set (entry_of x) (entry_at places (entry_of x))) (entries_faults_at places writable true after))
-            ∙ ap (λ (es : List Entry). noted old.found (entries_faults_at places writable is_set es)) (sym left)
+            ap (λ (o : Option CheckFault). noted o (entries_faults_at places variables true after)) added.found
+            ∙ sym (noted-append old.found (entry_faults_at variables is_set (entry_of x) (entry_at places (entry_of x))) (entries_faults_at places variables true after))
+            ∙ ap (λ (es : List Entry). noted old.found (entries_faults_at places variables is_set es)) (sym left)
             ∙ known.found;
       }
 
@@ -64,8 +65,8 @@ module _ (places : List ℕ → Option ℕ) (writable : List Bool) (all : List I
       ∙ ap (λ (xs : List Item). r.instructions.items ++ filter_map (entry_at places) (map entry_of xs)) (sym (nothing_left i within))
       ∙ known.instructions
 
-  pub reached-found : (i : ℕ) (is_set : Bool) (r : Resolved) → length all ≤ i → Reached i is_set r → r.found ≡ noted begun (entries_faults_at places writable false (map entry_of all))
+  pub reached-found : (i : ℕ) (is_set : Bool) (r : Resolved) → length all ≤ i → Reached i is_set r → r.found ≡ noted begun (entries_faults_at places variables false (map entry_of all))
   reached-found i is_set r within known =
       sym (noted-nil r.found)
-      ∙ ap (λ (xs : List Item). noted r.found (entries_faults_at places writable is_set (map entry_of xs))) (sym (nothing_left i within))
+      ∙ ap (λ (xs : List Item). noted r.found (entries_faults_at places variables is_set (map entry_of xs))) (sym (nothing_left i within))
       ∙ known.found

@@ -14,7 +14,7 @@ use Rattle.il_text.specs.declared.program.Declaration.{Declaration}
 use Rattle.il_check.specs.Noted.{noted, declaration_faults_at}
 use Rattle.il_check.specs.Places.{place_in, with_place}
 use Rattle.il_check.specs.Standing.{StandsFor}
-use Rattle.il_check.specs.WellTyped.{origin_of, initial_value, can_write, is_declared, declaration_faults, declarations_faults, first_fault}
+use Rattle.il_check.specs.WellTyped.{variable_of, is_declared, declaration_faults, declarations_faults, first_fault}
 use Rattle.il_check.specs.declared.declare.Declarations.{Declarations}
 use Rattle.il_check.specs.declared.fault.CheckFault.{CheckFault}
 use Rattle.il_check.proofs.NotedLemmas.{noted-append, noted-nil}
@@ -22,45 +22,39 @@ use Rattle.il_check.proofs.PlaceLemmas.{place_in-more, is_declared-place}
 
 -- what taking a declaration changes
 pub record Takes (of_bay : List Point) (x : Declared) (old new : Declarations) : Type 0 where
-  pub names : new.names.items ≡ old.names.items ++ upper x.name ∷ []
-  pub origins : new.origins.items ≡ old.origins.items ++ origin_of of_bay x ∷ []
-  pub initial : new.initial.items ≡ old.initial.items ++ initial_value x ∷ []
-  pub writable : new.writable.items ≡ old.writable.items ++ can_write of_bay (Some x) ∷ []
-  pub places : (other : List ℕ) → get_by_text new.places other ≡ with_place (λ q. get_by_text old.places q) (upper x.name) (vec_len old.names) other
-  pub found : new.found ≡ noted old.found (declaration_faults_at of_bay (is_some (get_by_text old.places (upper x.name))) (vec_len old.names) x)
+  pub variables : new.variables.items ≡ old.variables.items ++ variable_of of_bay x ∷ []
+  pub places : (other : List ℕ) → get_by_text new.places other ≡ with_place (λ q. get_by_text old.places q) (upper x.name) (vec_len old.variables) other
+  pub found : new.found ≡ noted old.found (declaration_faults_at of_bay (is_some (get_by_text old.places (upper x.name))) (vec_len old.variables) x)
 
 one_more : {X Y : Type 0} (f : X → Y) (before : List X) (x : X) (old new : List Y) → old ≡ map f before → new ≡ old ++ f x ∷ [] → new ≡ map f (before ++ x ∷ [])
 one_more f before x old new was e = e ∙ ap (λ ys. ys ++ f x ∷ []) was ∙ sym (map-append f before (x ∷ []))
 
-count_of : (of_bay : List Point) (before : List Declared) (d : Declarations) → StandsFor of_bay before d → length d.names.items ≡ length before
-count_of of_bay before d known = ap length known.names ∙ length-map before (λ (x : Declared). upper x.name)
+count_of : (of_bay : List Point) (before : List Declared) (d : Declarations) → StandsFor of_bay before d → length d.variables.items ≡ length before
+count_of of_bay before d known = ap length known.variables ∙ length-map before (variable_of of_bay)
 
-pub stands-more : (of_bay : List Point) (before : List Declared) (x : Declared) (old new : Declarations) → vec_len old.names ≡ length old.names.items
+pub stands-more : (of_bay : List Point) (before : List Declared) (x : Declared) (old new : Declarations) → vec_len old.variables ≡ length old.variables.items
     → StandsFor of_bay before old → Takes of_bay x old new → StandsFor of_bay (before ++ x ∷ []) new
 stands-more of_bay before x old new sized known taken = record {
-  names = one_more (λ (y : Declared). upper y.name) before x _ _ known.names taken.names;
-  origins = one_more (origin_of of_bay) before x _ _ known.origins taken.origins;
-  initial = one_more initial_value before x _ _ known.initial taken.initial;
-  writable = one_more (λ (y : Declared). can_write of_bay (Some y)) before x _ _ known.writable taken.writable;
+  variables = one_more (variable_of of_bay) before x _ _ known.variables taken.variables;
   places = λ name.
-      let counted : vec_len old.names ≡ length before = sized ∙ count_of of_bay before old known in
+      let counted : vec_len old.variables ≡ length before = sized ∙ count_of of_bay before old known in
       taken.places name
-      ∙ ap (λ (o : Option ℕ). cond (bytes_eq (upper x.name) name && is_none o) (Some (vec_len old.names)) (get_by_text old.places name)) (known.places (upper x.name))
-      ∙ ap (λ (o : Option ℕ). cond (bytes_eq (upper x.name) name && is_none (place_in before (upper x.name))) (Some (vec_len old.names)) o) (known.places name)
+      ∙ ap (λ (o : Option ℕ). cond (bytes_eq (upper x.name) name && is_none o) (Some (vec_len old.variables)) (get_by_text old.places name)) (known.places (upper x.name))
+      ∙ ap (λ (o : Option ℕ). cond (bytes_eq (upper x.name) name && is_none (place_in before (upper x.name))) (Some (vec_len old.variables)) o) (known.places name)
       ∙ ap (λ n. with_place (place_in before) (upper x.name) n name) counted
       ∙ place_in-more before x name;
 }
 
 -- the faults so far and those to come are all that there are
-pub found-more : (of_bay : List Point) (before after : List Declared) (x : Declared) (old new : Declarations) (all : Option CheckFault) → vec_len old.names ≡ length old.names.items
+pub found-more : (of_bay : List Point) (before after : List Declared) (x : Declared) (old new : Declarations) (all : Option CheckFault) → vec_len old.variables ≡ length old.variables.items
     → StandsFor of_bay before old → Takes of_bay x old new → noted old.found (declarations_faults of_bay before (x ∷ after)) ≡ all
     → noted new.found (declarations_faults of_bay (before ++ x ∷ []) after) ≡ all
 found-more of_bay before after x old new all sized known taken total =
-    let counted : vec_len old.names ≡ length before = sized ∙ count_of of_bay before old known in
+    let counted : vec_len old.variables ≡ length before = sized ∙ count_of of_bay before old known in
     let is_known : is_some (get_by_text old.places (upper x.name)) ≡ is_declared before x.name = ap is_some (known.places (upper x.name)) ∙ sym (is_declared-place before x.name) in
     let here : new.found ≡ noted old.found (declaration_faults of_bay before x) =
     taken.found
-    ∙ ap (λ b. noted old.found (declaration_faults_at of_bay b (vec_len old.names) x)) is_known
+    ∙ ap (λ b. noted old.found (declaration_faults_at of_bay b (vec_len old.variables) x)) is_known
     ∙ ap (λ n. noted old.found (declaration_faults_at of_bay (is_declared before x.name) n x)) counted in
     ap (λ o. noted o (declarations_faults of_bay (before ++ x ∷ []) after)) here
     ∙ sym (noted-append old.found (declaration_faults of_bay before x) (declarations_faults of_bay (before ++ x ∷ []) after))
@@ -77,7 +71,7 @@ pub record SoFar (of_bay : List Point) (all : List Declaration) (i : ℕ) (d : D
   pub stands : StandsFor of_bay (map declared_of (take i all)) d
   pub found : noted d.found (declarations_faults of_bay (map declared_of (take i all)) (map declared_of (drop i all))) ≡ first_fault (declarations_faults of_bay [] (map declared_of all))
 
-pub so_far-more : (of_bay : List Point) (all : List Declaration) (i : ℕ) (other : Declaration) (old new : Declarations) → vec_len old.names ≡ length old.names.items
+pub so_far-more : (of_bay : List Point) (all : List Declaration) (i : ℕ) (other : Declaration) (old new : Declarations) → vec_len old.variables ≡ length old.variables.items
     → i < length all → SoFar of_bay all i old → Takes of_bay (declared_of (get_or all i other)) old new → SoFar of_bay all (i + 1) new
 so_far-more of_bay all i other old new sized within so_far taken =
     let x : Declaration = get_or all i other in

@@ -1,11 +1,12 @@
 -- The places of declared names, and what instructions are by them.
-use Rattle.std.specs.Prelude.{ℕ, Bool, true, false, not, ◌&&◌, is_none, List, [], ◌∷◌, ◌++◌, Option, None, Some, option_map, slice_index_or, if◌then◌else◌}
+use Rattle.std.specs.Prelude.{ℕ, Bool, true, false, not, ◌&&◌, is_none, List, [], ◌∷◌, ◌++◌, Option, None, Some, option_map, slice_get, if◌then◌else◌}
 use Rattle.std.specs.List.{position_from}
 use Rattle.std.specs.Str.{bytes_eq}
 use Rattle.bay_base.specs.Names.{upper}
 use Rattle.il_text.specs.Listing.{Declared, Action, load, store, combine, Entry, action, block}
 use Rattle.il_text.specs.Listing as listing
 use Rattle.il_check.specs.WellTyped.{fault_if}
+use Rattle.il_check.specs.declared.typed.Variable.{Variable}
 use Rattle.il_check.specs.declared.typed.Source.{Source}
 use Rattle.il_check.specs.declared.typed.Source.TheVariants.{Literal, Slot}
 use Rattle.il_check.specs.declared.typed.TypedInstruction.{TypedInstruction}
@@ -40,28 +41,33 @@ needs_result (load negated source) = false
 needs_result (store name) = true
 needs_result (combine operator source) = true
 
--- an instruction stores into a place that may only be read
-abbrev pub writes_read_only : List Bool → TypedInstruction → Bool
-writes_read_only writable (Load negated source) = false
-writes_read_only writable (Store place) = not (slice_index_or writable place true)
-writes_read_only writable (Combine operator source) = false
+-- a variable, if there is one, may only be read
+abbrev pub is_fixed : Option Variable → Bool
+is_fixed None = false
+is_fixed (Some v) = not v.writable
 
-abbrev pub may_not_write : List Bool → Option TypedInstruction → Bool
-may_not_write writable None = false
-may_not_write writable (Some t) = writes_read_only writable t
+-- an instruction stores into a variable that may only be read
+abbrev pub writes_fixed : List Variable → TypedInstruction → Bool
+writes_fixed variables (Load negated source) = false
+writes_fixed variables (Store place) = is_fixed (slice_get variables place)
+writes_fixed variables (Combine operator source) = false
+
+abbrev pub may_not_write : List Variable → Option TypedInstruction → Bool
+may_not_write variables None = false
+may_not_write variables (Some t) = writes_fixed variables t
 
 -- the faults of an instruction, by what it is on places
-abbrev pub action_faults_at : List Bool → Bool → ℕ → Action → Option TypedInstruction → List CheckFault
-action_faults_at writable is_set line a typed =
+abbrev pub action_faults_at : List Variable → Bool → ℕ → Action → Option TypedInstruction → List CheckFault
+action_faults_at variables is_set line a typed =
     fault_if (is_none typed) (UnknownName line)
     ++ (fault_if (needs_result a && not is_set) (UnsetResult line)
-    ++ fault_if (may_not_write writable typed) (ReadOnly line))
+    ++ fault_if (may_not_write variables typed) (ReadOnly line))
 
-abbrev pub entry_faults_at : List Bool → Bool → Entry → Option TypedInstruction → List CheckFault
-entry_faults_at writable is_set (action line a) typed = action_faults_at writable is_set line a typed
-entry_faults_at writable is_set (block line operator items end) typed = fault_if true (OutsideSubset line)
+abbrev pub entry_faults_at : List Variable → Bool → Entry → Option TypedInstruction → List CheckFault
+entry_faults_at variables is_set (action line a) typed = action_faults_at variables is_set line a typed
+entry_faults_at variables is_set (block line operator items end) typed = fault_if true (OutsideSubset line)
 
-abbrev pub entries_faults_at : (List ℕ → Option ℕ) → List Bool → Bool → List Entry → List CheckFault
-entries_faults_at places writable is_set [] = []
-entries_faults_at places writable is_set (e ∷ es) =
-    entry_faults_at writable is_set e (entry_at places e) ++ entries_faults_at places writable true es
+abbrev pub entries_faults_at : (List ℕ → Option ℕ) → List Variable → Bool → List Entry → List CheckFault
+entries_faults_at places variables is_set [] = []
+entries_faults_at places variables is_set (e ∷ es) =
+    entry_faults_at variables is_set e (entry_at places e) ++ entries_faults_at places variables true es

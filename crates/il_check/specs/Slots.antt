@@ -2,10 +2,15 @@
 use Rattle.std.specs.Prelude.{◌≡◌, ℕ, ◌+◌, ◌<◌, ◌≤◌, false, List, [], length, map, slice_index_or}
 use Rattle.bay_base.specs.Names.{same_name}
 use Rattle.il_text.specs.Listing as listing
+use Rattle.il_check.specs.declared.typed.Variable.{Variable}
 use Rattle.il_check.specs.declared.typed.Source.{Source}
 use Rattle.il_check.specs.declared.typed.Source.TheVariants.{Literal, Slot}
 use Rattle.il_check.specs.declared.typed.TypedInstruction.{TypedInstruction}
 use Rattle.il_check.specs.declared.typed.TypedInstruction.TheVariants.{Load, Store, Combine}
+
+-- the names of variables
+abbrev pub names_of : List Variable → List (List ℕ)
+names_of variables = map (λ v. v.name) variables
 
 -- the name of a slot
 abbrev pub name_at : List (List ℕ) → ℕ → List ℕ

@@ -12,6 +12,7 @@ use Rattle.il_text.specs.declared.program.Scope.TheVariants.{Local, External}
 use Rattle.bay_base.specs.Names.{upper, same_name}
 use Rattle.il_text.specs.Listing.{Source, constant, variable, Action, load, store, combine, Entry, action, block, Declared, PlainProgram}
 use Rattle.il_check.specs.Code.{code_of, line_of}
+use Rattle.il_check.specs.declared.typed.Variable.{Variable}
 use Rattle.bay_base.specs.Exact.{judged}
 use Rattle.il_check.specs.declared.fault.CheckFault.{CheckFault}
 use Rattle.il_check.specs.declared.fault.CheckFault.TheVariants.{OutsideSubset, UnknownName, DuplicateName, TypeMismatch, UnsetResult, ReadOnly, TooMany}
@@ -106,11 +107,9 @@ abbrev pub first_fault : List CheckFault → Option CheckFault
 first_fault [] = None
 first_fault (f ∷ fs) = Some (best_of f fs)
 
--- a program without a fault, slot by slot and item by item
+-- a program without a fault: its variables, and its items
 pub record Checked : Type 0 where
-  pub names : List (List ℕ)
-  pub origins : List (Option Origin)
-  pub initial : List Bool
+  pub variables : List Variable
   pub items : List Entry
 
 -- what a declaration stands for: an external the point of its name
@@ -120,6 +119,10 @@ origin_of points d = if is_external d.scope then option_map (λ p. p.origin) (po
 -- the value that a variable begins with
 abbrev pub initial_value : Declared → Bool
 initial_value d = if is_external d.scope then false else unwrap_or d.initial false
+
+-- the variable of a declaration
+abbrev pub variable_of : List Point → Declared → Variable
+variable_of points d = record { name = upper d.name; origin = origin_of points d; initial = initial_value d; writable = can_write points (Some d) }
 
 -- names in upper case, and no lines
 abbrev pub plain_source : Source → Source
@@ -137,9 +140,7 @@ plain_entry (block line operator items end) = block 0 operator items 0
 
 abbrev pub checked_program : List Point → PlainProgram → Checked
 checked_program points program = record {
-  names = map (λ d. upper d.name) program.declarations;
-  origins = map (origin_of points) program.declarations;
-  initial = map initial_value program.declarations;
+  variables = map (variable_of points) program.declarations;
   items = map plain_entry program.items;
 }
 

@@ -31,18 +31,11 @@ pub fn check(alloc: Global, program: &Program<'_>, points: &[Point]) -> Result<T
         instructions,
         found,
     } = resolved;
-    let Declarations {
-        names,
-        origins,
-        initial,
-        ..
-    } = declared;
+    let Declarations { variables, .. } = declared;
     match found {
         Some(fault) => Err(fault),
         None => Ok(Typed {
-            names,
-            origins,
-            initial,
+            variables,
             instructions,
         }),
     }

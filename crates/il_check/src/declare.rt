@@ -10,6 +10,7 @@ ghost use Rattle.il_check.specs.WellTyped as spec;
 
 use crate::fault::CheckFault;
 use crate::note::note_if;
+use crate::typed::Variable;
 use bay_base::names::same_name;
 use bay_base::text::Text;
 use bay_base::types::ElementaryType;
@@ -21,16 +22,12 @@ use std::collections::BTreeMap;
 /// The most names that a program may declare.
 const MAX_NAMES: usize = 512;
 
-/// What is declared: for each declaration its name in upper case, what it stands for, the value that it begins
-/// with and whether it may be written; the place of each name's first declaration; and the fault that is
-/// answered, if there is one.
+/// What is declared: the variable of each declaration, the place of each name's first declaration, and the
+/// fault that is answered, if there is one.
 #[derive(Drop)]
 pub(crate) struct Declarations {
     pub(crate) places: BTreeMap<String, usize>,
-    pub(crate) names: Vec<Text>,
-    pub(crate) origins: Vec<Option<Origin>>,
-    pub(crate) initial: Vec<bool>,
-    pub(crate) writable: Vec<bool>,
+    pub(crate) variables: Vec<Variable>,
     pub(crate) found: Option<CheckFault>,
 }
 
@@ -118,6 +115,24 @@ fn can_write(points: &[Point], declaration: &Declaration<'_>) -> bool
     !(is_external(declaration.scope) && is_read)
 }
 
+/// The variable of a declaration, whose name in upper case is given.
+fn variable_of(
+    alloc: Global,
+    points: &[Point],
+    declaration: &Declaration<'_>,
+    name: &str,
+) -> Result<Variable, AllocError>
+    requires { name.now ≡ names.upper declaration.now.name.now }
+    ensures { IfOk result (λ variable. variable ≡ spec.variable_of points.now (declared_of declaration.now)) }
+{
+    Ok(Variable {
+        name: Text::from_str(alloc, name)?,
+        origin: origin_of(points, declaration),
+        initial: initial_value(declaration),
+        writable: can_write(points, declaration),
+    })
+}
+
 /// The fault that is answered after a declaration behind `count` others.
 #[tactic(auto, using(crate::proofs::NotedLemmas::note_rules))]
 fn declaration_fault(
@@ -171,10 +186,7 @@ impl Declarations {
     {
         Declarations {
             places: BTreeMap::new(alloc),
-            names: Vec::new(alloc),
-            origins: Vec::new(alloc),
-            initial: Vec::new(alloc),
-            writable: Vec::new(alloc),
+            variables: Vec::new(alloc),
             found: None,
         }
     }
@@ -186,25 +198,19 @@ impl Declarations {
         points: &[Point],
         declaration: &Declaration<'_>,
     ) -> Result<(), AllocError>
-        ensures names { OnOk result (self.new.names.items ≡ self.old.names.items ++ names.upper declaration.now.name.now ∷ []) }
-        ensures origins { OnOk result (self.new.origins.items ≡ self.old.origins.items ++ spec.origin_of points.now (declared_of declaration.now) ∷ []) }
-        ensures initial { OnOk result (self.new.initial.items ≡ self.old.initial.items ++ spec.initial_value (declared_of declaration.now) ∷ []) }
-        ensures writable { OnOk result (self.new.writable.items ≡ self.old.writable.items ++ spec.can_write points.now (Some (declared_of declaration.now)) ∷ []) }
+        ensures variables { OnOk result (self.new.variables.items ≡ self.old.variables.items ++ spec.variable_of points.now (declared_of declaration.now) ∷ []) }
         ensures places { OnOk result ((other : List ℕ) → places_of self.new other
-            ≡ with_place (places_of self.old) (names.upper declaration.now.name.now) (vec_len self.old.names) other) }
+            ≡ with_place (places_of self.old) (names.upper declaration.now.name.now) (vec_len self.old.variables) other) }
         ensures found { OnOk result (self.new.found
             ≡ noted self.old.found (declaration_faults_at points.now
-            (is_some (places_of self.old (names.upper declaration.now.name.now))) (vec_len self.old.names) (declared_of declaration.now))) }
+            (is_some (places_of self.old (names.upper declaration.now.name.now))) (vec_len self.old.variables) (declared_of declaration.now))) }
     {
         let name = upper_case(alloc, declaration.name)?;
-        let copy = Text::from_str(alloc, name.as_str())?;
-        let place = self.names.len();
+        let variable = variable_of(alloc, points, declaration, name.as_str())?;
+        let place = self.variables.len();
         let is_known = add_place(&mut self.places, name, place)?;
         self.found = declaration_fault(self.found, points, is_known, place, declaration);
-        self.names.push(copy)?;
-        self.origins.push(origin_of(points, declaration))?;
-        self.initial.push(initial_value(declaration))?;
-        self.writable.push(can_write(points, declaration))?;
+        self.variables.push(variable)?;
         Ok(())
     }
 }

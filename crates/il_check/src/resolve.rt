@@ -10,7 +10,7 @@ ghost use Rattle.il_check.specs.Places as spec;
 use crate::declare::{Declarations, upper_case};
 use crate::fault::CheckFault;
 use crate::note::note_if;
-use crate::typed::{Source, TypedInstruction};
+use crate::typed::{Source, TypedInstruction, Variable};
 use il_text::program::{Instruction, Item, Operand};
 use std::alloc::{AllocError, Global};
 
@@ -31,13 +31,13 @@ fn needs_result(instruction: Instruction<'_>) -> bool
     }
 }
 
-/// Whether an instruction stores into a place that may only be read.
-fn may_not_write(writable: &[bool], typed: Option<TypedInstruction>) -> bool
-    ensures { result ≡ spec.may_not_write writable.now typed }
+/// Whether an instruction stores into a variable that may only be read.
+fn may_not_write(variables: &[Variable], typed: Option<TypedInstruction>) -> bool
+    ensures { result ≡ spec.may_not_write variables.now typed }
 {
     match typed {
-        Some(TypedInstruction::Store { slot }) => match writable.get(slot) {
-            Some(is_writable) => !*is_writable,
+        Some(TypedInstruction::Store { slot }) => match variables.get(slot) {
+            Some(variable) => !variable.writable,
             None => false,
         },
         Some(TypedInstruction::Load { .. } | TypedInstruction::Combine { .. }) | None => false,
@@ -48,16 +48,16 @@ fn may_not_write(writable: &[bool], typed: Option<TypedInstruction>) -> bool
 #[tactic(auto, using(crate::proofs::NotedLemmas::note_rules))]
 fn instruction_fault(
     found: Option<CheckFault>,
-    writable: &[bool],
+    variables: &[Variable],
     is_set: bool,
     line: usize,
     instruction: Instruction<'_>,
     typed: Option<TypedInstruction>,
 ) -> Option<CheckFault>
-    ensures { result ≡ noted found (spec.action_faults_at writable.now is_set line (action_of instruction.entry) typed) }
+    ensures { result ≡ noted found (spec.action_faults_at variables.now is_set line (action_of instruction.entry) typed) }
 {
     let is_unset = needs_result(instruction) && !is_set;
-    let is_read_only = may_not_write(writable, typed);
+    let is_read_only = may_not_write(variables, typed);
     let found = note_if(found, typed.is_none(), CheckFault::UnknownName { line });
     let found = note_if(found, is_unset, CheckFault::UnsetResult { line });
     note_if(found, is_read_only, CheckFault::ReadOnly { line })
@@ -67,16 +67,16 @@ fn instruction_fault(
 #[tactic(auto, using(crate::proofs::EntryLemmas::entry_rules))]
 fn item_fault(
     found: Option<CheckFault>,
-    writable: &[bool],
+    variables: &[Variable],
     is_set: bool,
     item: &Item<'_>,
     typed: Option<TypedInstruction>,
 ) -> Option<CheckFault>
-    ensures { result ≡ noted found (spec.entry_faults_at writable.now is_set (entry_of item.now) typed) }
+    ensures { result ≡ noted found (spec.entry_faults_at variables.now is_set (entry_of item.now) typed) }
 {
     match item {
         Item::Instruction { line, instruction } => {
-            instruction_fault(found, writable, is_set, *line, *instruction, typed)
+            instruction_fault(found, variables, is_set, *line, *instruction, typed)
         }
         Item::Block { line, .. } => note_if(found, true, CheckFault::OutsideSubset { line: *line }),
     }
@@ -150,13 +150,13 @@ impl Resolved {
         ensures instructions { OnOk result (self.new.instructions.items
             ≡ self.old.instructions.items ++ option_to_list (spec.entry_at (places_of declared.now) (entry_of item.now))) }
         ensures found { OnOk result (self.new.found
-            ≡ noted self.old.found (spec.entry_faults_at declared.now.writable.items is_set (entry_of item.now)
+            ≡ noted self.old.found (spec.entry_faults_at declared.now.variables.items is_set (entry_of item.now)
             (spec.entry_at (places_of declared.now) (entry_of item.now)))) }
     {
         let typed = declared.item(alloc, item)?;
         self.found = item_fault(
             self.found,
-            declared.writable.as_slice(),
+            declared.variables.as_slice(),
             is_set,
             item,
             typed,
@@ -176,7 +176,7 @@ pub(crate) fn resolve_all(
 ) -> Result<Resolved, AllocError>
     ensures instructions { IfOk result (λ r. r.instructions.items ≡ filter_map (spec.entry_at (places_of declared.now)) (map entry_of items.now)) }
     ensures found { IfOk result (λ r. r.found
-        ≡ noted declared.now.found (spec.entries_faults_at (places_of declared.now) declared.now.writable.items false (map entry_of items.now))) }
+        ≡ noted declared.now.found (spec.entries_faults_at (places_of declared.now) declared.now.variables.items false (map entry_of items.now))) }
 {
     let mut resolved = Resolved {
         instructions: Vec::new(alloc),

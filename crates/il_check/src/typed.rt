@@ -1,6 +1,6 @@
 // A checked program: each name is resolved to a slot.
-ghost use Rattle.std.specs.Prelude.{◌≡◌, vec_len, All};
-ghost use Rattle.il_check.specs.Slots.{AreApart, IsWithin};
+ghost use Rattle.std.specs.Prelude.{vec_len, All};
+ghost use Rattle.il_check.specs.Slots.{AreApart, IsWithin, names_of};
 
 use bay_base::text::Text;
 use bay_config::bay::Origin;
@@ -24,19 +24,25 @@ pub enum TypedInstruction {
     Combine { operator: Operator, source: Source },
 }
 
-/// A checked program. Its slots are its declared names, in their order, and its instructions name no
-/// other slot.
+/// A variable of a program (IEC 61131-3:2003, 2.4.3), which has a slot.
+#[derive(Debug, Drop)]
+pub struct Variable {
+    /// Its name, in upper case.
+    pub name: Text,
+    /// What it stands for, if it is external.
+    pub origin: Option<Origin>,
+    /// The value that it begins with; FALSE where it is external.
+    pub initial: bool,
+    /// Whether the program may write it.
+    pub writable: bool,
+}
+
+/// A checked program. Its slots are its variables, in the order of their declarations, and its instructions
+/// name no other slot.
 #[derive(Debug, Drop)]
 pub struct Typed {
-    /// The name of each slot, in upper case.
-    pub names: Vec<Text>,
-    /// What a slot stands for, if it is external.
-    pub origins: Vec<Option<Origin>>,
-    /// The value that each slot begins with; FALSE where the slot is a point's.
-    pub initial: Vec<bool>,
+    pub variables: Vec<Variable>,
     pub instructions: Vec<TypedInstruction>,
-    ghost apart: { AreApart names.items },
-    ghost pointed: { vec_len origins ≡ vec_len names },
-    ghost begun: { vec_len initial ≡ vec_len names },
-    ghost within: { All (IsWithin (vec_len names)) instructions.items },
+    ghost apart: { AreApart (names_of variables.items) },
+    ghost within: { All (IsWithin (vec_len variables)) instructions.items },
 }

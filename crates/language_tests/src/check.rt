@@ -153,15 +153,23 @@ fn slots(rt: HostRuntime) -> Result<(), Fail> {
     let points = points(rt.alloc())?;
     let program = read_program(rt.alloc(), PROGRAM)?;
     let typed = check(rt.alloc(), &program, points.as_slice())?;
-    assert_eq!(rt; typed.names.len(), 3);
-    assert_eq!(rt; typed.names[0].as_str(), "QA1_ENA_OPN");
-    assert_eq!(rt; typed.names[1].as_str(), "X");
     let enable = Origin::Switch {
         switch: 0,
         point: SwitchPoint::EnableOpen,
     };
-    assert!(rt; typed.origins.as_slice() == [Some(enable), None, None].as_slice());
-    assert!(rt; typed.initial.as_slice() == [false, true, false].as_slice());
+    assert_eq!(rt; typed.variables.len(), 3);
+    for (variable, (name, origin, initial)) in typed.variables.iter().zip(
+        [
+            ("QA1_ENA_OPN", Some(enable), false),
+            ("X", None, true),
+            ("Y", None, false),
+        ]
+        .iter(),
+    ) {
+        assert_eq!(rt; variable.name.as_str(), *name);
+        assert!(rt; variable.origin == *origin && variable.initial == *initial);
+        assert!(rt; variable.writable, "{name}");
+    }
     let expected = [
         TypedInstruction::Load {
             negated: true,

@@ -3,6 +3,7 @@ use Rattle.il_check.specs.TypedView.{typed_view}
 use Rattle.bay_device.specs.Bound.{bound_from}
 use Rattle.bay_device.specs.Layout.{Layout, layout_of, switches_of}
 use Rattle.bay_device.specs.Nodes.{AreAllRows}
+use Rattle.bay_device.specs.Slots.{origins_of}
 use Rattle.bay_device.proofs.LoadLemmas.{are-bound, bound-switches, loaded-view}
 use Rattle.bay_device.proofs.NodeLemmas.{has-switches}
 use Rattle.bay_device.proofs.load.state_of.Goals as goal
@@ -14,7 +15,7 @@ all_switch_rows-requires c =
 pub invariant_of-result : goal.invariant_of-result
 invariant_of-result c =
     let bay = c.args.bay in
-    let slots = c.bind_program-program.result.0.slots in
+    let slots = origins_of c.in_ok-program.program.variables in
     let layout : Layout = layout_of c.in_ok-tree.tree in
     let nodes = c.in_ok-nodes.nodes.items in
     let rows = c.in_ok-rows.rows.items in
@@ -23,15 +24,15 @@ invariant_of-result c =
     let made : c.new.result ≡ bound_from slots 0 bay.switches rows = c.new.ensures ∙ rw (c.as_slice-2.ensures.value, c.as_slice-3.ensures, c.into_vec-2.ensures) at c.in_ok-switches.ensures in
     record {
       bound = rw made (are-bound bay nodes layout slots rows c.in_ok-nodes.ensures.named placed c.in_ok-nodes.ensures.sized same);
-      sized = c.bind_program-program.ensures.sized;
+      sized = c.in_ok-program.ensures.sized;
     }
 
 pub returns : goal.returns
 returns c =
     let bay = c.args.bay in
-    let slots = c.bind_program-program.result.0.slots in
+    let slots = origins_of c.in_ok-program.program.variables in
     let rows = c.in_ok-rows.rows.items in
     let same : length rows ≡ length c.in_ok-nodes.nodes.items = c.in_ok-rows.ensures.sized ∙ ap length c.as_slice.ensures.value in
     let made : c.new.result ≡ bound_from slots 0 bay.switches rows = c.new.ensures ∙ rw (c.as_slice-2.ensures.value, c.as_slice-3.ensures, c.into_vec-2.ensures) at c.in_ok-switches.ensures in
     let switches : switches_of c.new.result ≡ bay.switches = ap switches_of made ∙ bound-switches slots 0 bay.switches rows (sym c.in_ok-nodes.ensures.sized ∙ sym same) in
-    loaded-view bay (typed_view c.args.typed) c.bind_program-program.result.0 c.bind_program-program.result.1 c.in_ok-tree.tree (switches_of c.new.result) c.bind_program-program.ensures (c.in_ok-tree.ensures ∙ c.into_vec.ensures) switches
+    loaded-view bay (typed_view c.args.typed) c.in_ok-program.program c.in_ok-program.values c.in_ok-tree.tree (switches_of c.new.result) c.in_ok-program.ensures (c.in_ok-tree.ensures ∙ c.into_vec.ensures) switches

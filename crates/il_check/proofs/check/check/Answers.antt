@@ -1,6 +1,6 @@
 use Rattle.std.proofs.Common.{inr}
 use Rattle.il_text.specs.Views.{plain_program}
-use Rattle.il_check.proofs.CheckedLemmas.{IsRead, is_read, refused, within-all, pointed, begun, apart-all, passed}
+use Rattle.il_check.proofs.CheckedLemmas.{IsRead, is_read, refused, within-all, apart-all, passed}
 use Rattle.il_check.proofs.check.check.Goals as goal
 
 pub returns-in-Some : goal.returns-in-Some
@@ -17,8 +17,6 @@ invariant_of-result c =
     c.in_ok-declared.ensures.stands c.in_ok-declared.ensures.found c.in_ok-resolved.ensures.instructions c.in_ok-resolved.ensures.found in
     record {
       apart = apart-all c.args.points.now (plain_program c.args.program.now) c.in_ok-declared.declared c.in_ok-resolved.resolved read c.in-None.is;
-      pointed = pointed c.args.points.now (plain_program c.args.program.now) c.in_ok-declared.declared c.in_ok-resolved.resolved read;
-      begun = begun c.args.points.now (plain_program c.args.program.now) c.in_ok-declared.declared c.in_ok-resolved.resolved read;
       within = within-all c.args.points.now (plain_program c.args.program.now) c.in_ok-declared.declared c.in_ok-resolved.resolved read;
     }
 

@@ -13,12 +13,9 @@ pub loop-declaration-preserved : goal.loop-declaration-preserved
 loop-declaration-preserved c =
     let at : Declaration = record { line = 0; scope = Local; name = record { ref_ptr = (0, 0); now = [] }; kind = elementary.Bool; initial = None } in
     so_far-more c.args.points.now c.args.declarations.now c.loop-declaration.declaration-index at c.loop-declaration.declared c.declare.new.self
-    c.loop-declaration.declared.names.ok.0 (omega arith) c.loop-declaration.invariant
+    c.loop-declaration.declared.variables.ok.0 (omega arith) c.loop-declaration.invariant
     (record {
-      names = c.in_ok-declare.ensures.names;
-      origins = c.in_ok-declare.ensures.origins;
-      initial = c.in_ok-declare.ensures.initial;
-      writable = c.in_ok-declare.ensures.writable;
+      variables = c.in_ok-declare.ensures.variables;
       places = c.in_ok-declare.ensures.places;
       found = c.in_ok-declare.ensures.found;
     })

@@ -1,16 +1,17 @@
 use Rattle.bay_device.specs.Layout.{layout_of}
+use Rattle.bay_device.specs.Slots.{origins_of}
 use Rattle.bay_device.proofs.ScanLemmas.{kinded, scan-done}
 use Rattle.bay_device.proofs.state.DeviceState.scan.Goals as goal
 
 pub run_on_inputs-requires-clause-kinds : goal.run_on_inputs-requires-clause-kinds
 run_on_inputs-requires-clause-kinds c =
     let d = c.args.self.now in
-    rw c.as_slice.ensures (kinded (layout_of d.tree) d.program.slots d.switches d.bound)
+    rw c.as_slice.ensures (kinded (layout_of d.tree) (origins_of d.program.variables) d.switches d.bound)
 
 pub write_outputs-requires : goal.write_outputs-requires
 write_outputs-requires c =
     let d = c.args.self.now in
-    rw c.as_slice-2.ensures (kinded (layout_of d.tree) d.program.slots d.switches d.bound)
+    rw c.as_slice-2.ensures (kinded (layout_of d.tree) (origins_of d.program.variables) d.switches d.bound)
 
 pub invariant_of-self : goal.invariant_of-self
 invariant_of-self c = record {

@@ -2,10 +2,10 @@ use Rattle.std.proofs.Common.{◌∙◌}
 use Rattle.bay_config.specs.declared.bay.Switch.{Switch}
 use Rattle.bay_base.specs.Names.{same_name}
 use Rattle.bay_device.specs.declared.switch.BoundSwitch.{BoundSwitch}
-use Rattle.bay_device.proofs.ListLemmas.{position-map}
+use Rattle.bay_device.proofs.ListLemmas.{position_mapped}
 use Rattle.bay_device.proofs.state.DeviceState.switch.Goals as goal
 
 pub returns : goal.returns
 returns c =
     let place = rw c.as_slice.ensures at c.place_of.ensures in
-    place ∙ position-map (λ (b : BoundSwitch). b.switch) (λ (s : Switch). same_name s.id c.args.id.now) c.args.self.now.switches
+    place ∙ position_mapped (λ (b : BoundSwitch). b.switch) (λ (s : Switch). same_name s.id c.args.id.now) c.args.self.now.switches
