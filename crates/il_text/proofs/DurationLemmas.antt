@@ -1,12 +1,12 @@
 -- Parts of a duration, with totals past every bound counted as one.
-use Rattle.std.proofs.Common.{◌≡◌, ℕ, ◌+◌, ◌*◌, ◌^◌, ◌<◌, ◌≤◌, ◌&&◌, ◌==◌, Bool, true, false, cond, List, Option, Some, None, option_and_then, length, take, drop, min, refl, sym, ap, subst, ◌∙◌, arith, ⊎_elim, lit<}
+use Rattle.std.proofs.Common.{◌≡◌, ℕ, ◌+◌, ◌-◌, ◌*◌, ◌^◌, ◌<◌, ◌≤◌, ◌&&◌, ◌==◌, Bool, true, cond, List, Option, Some, None, option_and_then, length, take, drop, min, refl, sym, ap, subst, ◌∙◌, arith, ⊎_elim, leb, false, Ok, Err}
 use Rattle.std.proofs.lemmas.Bool.{cases_lt}
 use Rattle.std.proofs.Math.Nat.{mul-le-mul_left, mul-le-mul_right}
 use Rattle.bay_base.specs.Names.{same_name}
-use Rattle.il_text.specs.Literals.{Duration, number_len, unit_len, number_of_part, part, total_of, judged_span}
+use Rattle.il_text.specs.Literals.{Duration, number_len, unit_len, number_of_part, part, total_of, time_literal}
 use Rattle.il_text.specs.Runs.{capped}
-use Rattle.il_text.specs.Durations.{capped_one, capped_duration}
-use Rattle.il_text.proofs.LiteralLemmas.{leb_capped}
+use Rattle.il_text.specs.Durations.{capped_one, capped_duration, capped_time}
+use Rattle.std.proofs.lemmas.Bool.Decides.{nat_tests}
 
 cap_large : (t m : ℕ) → 2 ^ 32 ≤ m → min (t + m) (2 ^ 32) ≡ 2 ^ 32
 cap_large t m h = omega arith
@@ -52,7 +52,7 @@ capped_none : (o : Option ℕ) → capped o ≡ None → o ≡ None
 capped_none None e = refl
 capped_none (Some n) e = cc
 
-capped_some : (o : Option ℕ) (v : ℕ) → capped o ≡ Some v → (n : ℕ) × (o ≡ Some n) × (min n (2 ^ 32) ≡ v)
+capped_some : (o : Option ℕ) (v : ℕ) → capped o ≡ Some v → (n : ℕ) × (o ≡ Some n) × (min n (2 ^ 64 - 1) ≡ v)
 capped_some None v e = cc
 capped_some (Some n) v e = (n, refl, cc)
 
@@ -74,7 +74,7 @@ part_bad (Some d) s u f e h n =
 abbrev after_part : ℕ → ℕ → Duration → Duration
 after_part f v s = record { rest = drop (unit_len s.rest) (drop (number_len s.rest) s.rest); total = min (min s.total (2 ^ 32) + min v (2 ^ 32) * f) (2 ^ 32); begun = true }
 
-more_total : (t n v f : ℕ) → 0 < f → min n (2 ^ 32) ≡ v → min (t + n * f) (2 ^ 32) ≡ min (min (min t (2 ^ 32)) (2 ^ 32) + min v (2 ^ 32) * f) (2 ^ 32)
+more_total : (t n v f : ℕ) → 0 < f → min n (2 ^ 64 - 1) ≡ v → min (t + n * f) (2 ^ 32) ≡ min (min (min t (2 ^ 32)) (2 ^ 32) + min v (2 ^ 32) * f) (2 ^ 32)
 more_total t n v f p e =
     let a : min (min t (2 ^ 32)) (2 ^ 32) ≡ min t (2 ^ 32) = omega arith in
     let b : min v (2 ^ 32) ≡ min n (2 ^ 32) = omega arith in
@@ -102,18 +102,24 @@ part_more (Some d) s u f v p e h n =
 
 pub ruleset part_rules = (part_none, part_other, part_bad, part_more)
 
-map_cond : (b : Bool) (t : ℕ) → capped (cond b (Some t) None) ≡ cond b (Some (min t (2 ^ 32))) None
+map_cond : (b : Bool) (t : ℕ) → capped_time (cond b (Some t) None) ≡ cond b (Some (min t (2 ^ 32))) None
 map_cond true t = refl
 map_cond false t = refl
 
-total_here : (d : Duration) → capped (total_of d) ≡ cond ((capped_one d).begun && length (capped_one d).rest == 0) (Some (capped_one d).total) None
+total_here : (d : Duration) → capped_time (total_of d) ≡ cond ((capped_one d).begun && length (capped_one d).rest == 0) (Some (capped_one d).total) None
 unfolding total_of
 total_here d = map_cond (d.begun && length d.rest == 0) d.total
 
-pub total_from : (o : Option Duration) (s : Duration) → capped_duration o ≡ Some s → capped (option_and_then total_of o) ≡ cond (s.begun && length s.rest == 0) (Some s.total) None
+pub total_from : (o : Option Duration) (s : Duration) → capped_duration o ≡ Some s → capped_time (option_and_then total_of o) ≡ cond (s.begun && length s.rest == 0) (Some s.total) None
 total_from None s e = cc
 total_from (Some d) s e = total_here d ∙ ap (λ (x : Duration). cond (x.begun && length x.rest == 0) (Some x.total) None) (some_same (capped_one d) s e)
 
-pub span_capped : (o : Option ℕ) → judged_span (capped o) ≡ judged_span o
-span_capped None = refl
-span_capped (Some n) = rw (leb_capped n 2147483647 (lit< tt)) refl
+pub time_capped : (o : Option ℕ) → time_literal (capped_time o) ≡ time_literal o
+time_capped None = refl
+time_capped (Some n) = ⊎_elim
+    (λ (k : 2 ^ 32 < n).
+    let e : min n (2 ^ 32) ≡ 2 ^ 32 = omega arith in
+    let f : leb n 2147483647 ≡ false = grind (arith, nat_tests) in
+    rw (e, f) refl)
+    (λ (k : n ≤ 2 ^ 32). let e : min n (2 ^ 32) ≡ n = omega arith in rw e refl)
+    (cases_lt (2 ^ 32) n)

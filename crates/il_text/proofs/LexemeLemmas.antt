@@ -3,10 +3,10 @@ use Rattle.std.proofs.Common.{◌≡◌, ℕ, ◌<◌, ◌≤◌, true, false, L
 use Rattle.std.proofs.lemmas.Grind.{common_steps}
 use Rattle.il_text.specs.Characters.{is_blank, begins_word, begins_name}
 use Rattle.il_text.specs.Literals.{halves, prefixed, decimal, untyped}
-use Rattle.il_text.specs.Symbols.{blank, line_end, token, bad_token, mark_symbol, word, plain_word, judged_piece, is_line_end, mark_of, piece}
-use Rattle.il_text.specs.declared.token.Mark.{Mark}
+use Rattle.il_text.specs.Symbols.{word, plain_word, literal_piece, is_line_end, mark_of, piece}
+use Rattle.il_text.specs.Tokens.{Symbol, blank, line_end, token, bad_token}
 
-pub word_some : (w : List ℕ) (h : List ℕ × List ℕ) → Some h ≡ halves w → word w ≡ judged_piece (prefixed h.0 h.1)
+pub word_some : (w : List ℕ) (h : List ℕ × List ℕ) → Some h ≡ halves w → word w ≡ literal_piece (prefixed h.0 h.1)
 unfolding word
 word_some w h e = rw (sym e) refl
 
@@ -14,7 +14,7 @@ pub word_name : (w : List ℕ) → halves w ≡ None → begins_name (slice_inde
 unfolding word
 word_name w e b = rw (e, b) refl
 
-pub word_number : (w : List ℕ) → halves w ≡ None → begins_name (slice_index w 0) ≡ false → word w ≡ judged_piece (untyped (decimal w))
+pub word_number : (w : List ℕ) → halves w ≡ None → begins_name (slice_index w 0) ≡ false → word w ≡ literal_piece (untyped (decimal w))
 unfolding word
 word_number w e b = rw (e, b) refl
 
@@ -35,8 +35,8 @@ pub piece_word : (p : List ℕ) → is_blank (slice_index p 0) ≡ false → is_
 unfolding piece
 piece_word p a b d = rw (a, b, d) refl
 
-pub piece_mark : (p : List ℕ) (m : Mark) → is_blank (slice_index p 0) ≡ false → is_line_end p ≡ false → begins_word (slice_index p 0) ≡ false
-    → Some m ≡ mark_of p → piece p ≡ token (mark_symbol m)
+pub piece_mark : (p : List ℕ) (m : Symbol) → is_blank (slice_index p 0) ≡ false → is_line_end p ≡ false → begins_word (slice_index p 0) ≡ false
+    → Some m ≡ mark_of p → piece p ≡ token m
 unfolding piece
 piece_mark p m a b d e = rw (a, b, d, sym e) refl
 

@@ -1,8 +1,6 @@
-pub mod CaseCutting
-pub mod CaseLemmas
-pub mod CaseReading
 pub mod CutLemmas
 pub mod DurationLemmas
+pub mod FormLemmas
 pub mod LexemeLemmas
 pub mod ListingLemmas
 pub mod LiteralLemmas

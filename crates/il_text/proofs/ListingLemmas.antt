@@ -1,25 +1,28 @@
--- One line, and one token of a declaration.
-use Rattle.std.proofs.Common.{◌≡◌, ℕ, ◌+◌, ◌-◌, ◌<◌, ◌≤◌, true, false, List, [], ◌∷◌, ◌++◌, Option, Some, None, Ok, Err, option_map, map, length, drop, get_or, rules, refl, ap, sym, ◌∙◌, arith, append_assoc, append-nil, drop-cons, add-one, suc, take}
+-- What a line does to the draft.
+use Rattle.std.proofs.Common.{◌≡◌, ℕ, ◌+◌, ◌<◌, ◌≤◌, suc, Bool, true, false, cond, Ok, Err, List, [], ◌∷◌, ◌++◌, Option, Some, None, option_map, option_and_then, map, reverse, length, get_or, take, drop, refl, sym, ap, ◌∙◌, rules, arith, add-one, drop-cons, append-nil, append_assoc, Vec, Global, Bor}
 use Rattle.std.proofs.lemmas.Grind.{common_steps}
-use Rattle.std.proofs.lemmas.List.{drop-map, take-map}
-use Rattle.il_text.specs.Listing.{Declared, action}
-use Rattle.il_text.specs.Symbols.{Symbol}
-use Rattle.std.specs.List.{position_or_len, before_first}
-use Rattle.std.specs.Option.{ok_or}
-use Rattle.il_text.specs.Forms.{names_from, name_of, is_mark, is_colon, is_alone, tail, declaration}
-use Rattle.il_text.specs.declared.fault.TextFault.TheVariants.{BadLine}
-use Rattle.il_text.specs.declared.form.Stage.TheVariants as place
-use Rattle.il_text.specs.declared.reserved.Reserved.TheVariants as word
-use Rattle.il_text.specs.Reading.{Reached, declared_in, at_place, with_declarations, block_line}
+use Rattle.std.proofs.lemmas.List.{length-map, length-reverse, map-append, reverse-append}
+use Rattle.il_text.specs.FormViews.{opened_parts, statement_parts}
+use Rattle.il_text.specs.Forms.{name_of, is_comma, names_from, declared_names, parts_of}
+use Rattle.il_text.specs.Listing.{Action, Entry, label, action, block, entries_of, Declared}
+use Rattle.il_text.specs.ListingViews.{opened_of, reached_of}
+use Rattle.il_text.specs.Parts.{Part, declaring}
+use Rattle.il_text.specs.Steps.{Opened, Reached, block_scope, declared_in, is_outside, is_some, may_begin_with, step, steps}
 use Rattle.il_text.specs.Declaring.{declared_from}
+use Rattle.il_text.specs.Reading.{Read, has_instruction, bounded, after_parts, after_line}
+use Rattle.il_text.specs.declared.fault.TextFault.TheVariants.{BadLine}
+use Rattle.il_text.specs.Tokens.{Symbol}
 use Rattle.il_text.specs.TokenViews.{symbol_of, symbols_of}
 use Rattle.il_text.specs.Views.{action_of, entry_of}
 use Rattle.il_text.specs.declared.form.Tail.{Tail}
-use Rattle.il_text.specs.declared.token.Token.{Token}
-use Rattle.il_text.specs.declared.token.Mark.TheVariants as mark
-use Rattle.il_text.specs.declared.program.Scope.{Scope}
-use Rattle.il_text.specs.declared.program.Item.{Instruction, the_lemmas}
+use Rattle.il_text.specs.declared.listing.Open.{Open}
+use Rattle.il_text.specs.declared.program.DeclaredType.{DeclaredType}
 use Rattle.il_text.specs.declared.program.Instruction as ins
+use Rattle.il_text.specs.declared.program.Literal.{Literal}
+use Rattle.il_text.specs.declared.program.Item.{Item, Label, Instruction, Block, the_lemmas}
+use Rattle.il_text.specs.declared.program.Operator.{Operator}
+use Rattle.il_text.specs.declared.program.Scope.{Scope}
+use Rattle.il_text.specs.declared.token.Token.{Token}
 
 pub front_item : {X : Type 0} → (xs : List X) (i : ℕ) (x : X) → i < length xs → x ≡ get_or xs i x → drop i xs ≡ x ∷ drop (i + 1) xs
 front_item {X} xs i x h e = rw (add-one, drop-cons xs i x) (ap (λ (y : X). y ∷ drop (suc i) xs) (sym e))
@@ -27,7 +30,37 @@ front_item {X} xs i x h e = rw (add-one, drop-cons xs i x) (ap (λ (y : X). y �
 pub view_instruction : (line : ℕ) (i : ins.Instruction) → entry_of (Instruction line i) ≡ action line (action_of i)
 view_instruction line i = search (rules, the_lemmas)
 
-pub ruleset body_rules = (view_instruction)
+pub view_label : (line : ℕ) (name : Bor (List ℕ)) → entry_of (Label line name) ≡ label line name.now
+view_label line name = search (rules, the_lemmas)
+
+pub view_block : (line : ℕ) (operator : Operator) (negated : Bool) (items : Vec Item Global) (end : ℕ)
+    → entry_of (Block line operator negated items end) ≡ block line operator negated (entries_of (map entry_of items.items)) end
+view_block line operator negated items end = search (rules, the_lemmas)
+
+-- the open parentheses with one more
+pub opened_more : (os : List Open) (o : Open) → reverse (map opened_of (os ++ o ∷ [])) ≡ opened_of o ∷ reverse (map opened_of os)
+opened_more os o = simp (map-append, reverse-append) refl
+
+outside_len : (fs : List Opened) → 0 < length fs → is_outside fs ≡ false
+outside_len [] h = absurd (omega (arith, h))
+outside_len (f ∷ fs) h = refl
+
+pub outside_none : (os : List Open) → length os ≡ 0 → is_outside (reverse (map opened_of os)) ≡ true
+outside_none [] h = refl
+outside_none (o ∷ os) h = absurd (omega (arith, h))
+
+pub outside_some : (os : List Open) → 0 < length os → is_outside (reverse (map opened_of os)) ≡ false
+outside_some os h = outside_len _ (simp (length-reverse, length-map) h)
+
+pub ruleset outside_rules = (outside_none, outside_some)
+
+pub some_none : (is : List Item) → length is ≡ 0 → is_some (map entry_of is) ≡ false
+some_none [] h = refl
+some_none (i ∷ is) h = absurd (omega (arith, h))
+
+pub some_some : (is : List Item) → 0 < length is → is_some (map entry_of is) ≡ true
+some_some [] h = absurd (omega (arith, h))
+some_some (i ∷ is) h = refl
 
 name_before : (f : List ℕ → Declared) (before : List Declared) (n : List ℕ) (o : Option (List (List ℕ)))
     → option_map (λ ns. before ++ map f ns) (option_map (λ ns. n ∷ ns) o) ≡ option_map (λ ns. (before ++ f n ∷ []) ++ map f ns) o
@@ -35,21 +68,21 @@ name_before f before n None = refl
 name_before f before n (Some ns) = ap Some (sym (append_assoc before (f n ∷ []) (map f ns)))
 
 pub at_name : (line : ℕ) (scope : Scope) (tail : Tail) (before : List Declared) (s : Symbol) (n : List ℕ) → name_of s ≡ Some n → (ss : List Symbol)
-    → declared_from line scope tail before false (s ∷ ss) ≡ declared_from line scope tail (before ++ declared_in line scope tail n ∷ []) true ss
+    → declared_from line scope tail before false (s ∷ ss) ≡ declared_from line scope tail (before ++ declared_in line scope tail.kind tail.initial n ∷ []) true ss
 unfolding declared_from names_from
-at_name line scope tail before s n e ss = rw e (name_before (declared_in line scope tail) before n (names_from true ss))
+at_name line scope tail before s n e ss = rw e (name_before (declared_in line scope tail.kind tail.initial) before n (names_from true ss))
 
 pub at_no_name : (line : ℕ) (scope : Scope) (tail : Tail) (before : List Declared) (s : Symbol) (ss : List Symbol) → name_of s ≡ None
     → declared_from line scope tail before false (s ∷ ss) ≡ None
 unfolding declared_from names_from
 at_no_name line scope tail before s ss e = rw e refl
 
-pub at_comma : (line : ℕ) (scope : Scope) (tail : Tail) (before : List Declared) (s : Symbol) (ss : List Symbol) → is_mark mark.Comma s ≡ true
+pub at_comma : (line : ℕ) (scope : Scope) (tail : Tail) (before : List Declared) (s : Symbol) (ss : List Symbol) → is_comma s ≡ true
     → declared_from line scope tail before true (s ∷ ss) ≡ declared_from line scope tail before false ss
 unfolding declared_from names_from
 at_comma line scope tail before s ss e = rw e refl
 
-pub at_no_comma : (line : ℕ) (scope : Scope) (tail : Tail) (before : List Declared) (s : Symbol) (ss : List Symbol) → is_mark mark.Comma s ≡ false
+pub at_no_comma : (line : ℕ) (scope : Scope) (tail : Tail) (before : List Declared) (s : Symbol) (ss : List Symbol) → is_comma s ≡ false
     → declared_from line scope tail before true (s ∷ ss) ≡ None
 unfolding declared_from names_from
 at_no_comma line scope tail before s ss e = rw e refl
@@ -67,80 +100,116 @@ pub declare_no_end : (line : ℕ) (scope : Scope) (tail : Tail) (before : List D
 unfolding declared_from names_from
 declare_no_end line scope tail before ts i h = rw (none_after ts i h) refl
 
+pub ruleset some_rules = (some_none, some_some)
+
+pub ruleset item_rules = (view_label, view_instruction, map-append)
+
+pub ruleset leaving_rules = (opened_more, view_block, map-append)
+
 pub ruleset declare_rules = (at_no_name, at_comma, at_no_comma)
 
 pub ruleset end_rules = (declare_end, declare_no_end)
 
-symbols_take : (ts : List Token) (c : ℕ) → symbols_of (take c ts) ≡ take c (symbols_of ts)
-symbols_take ts c = sym (take-map symbol_of c ts)
+and_some : (o : Option Reached) → option_and_then (λ s. Some s) o ≡ o
+and_some None = refl
+and_some (Some s) = refl
 
-symbols_drop : (ts : List Token) (c : ℕ) → symbols_of (drop c ts) ≡ drop c (symbols_of ts)
-symbols_drop ts c = sym (drop-map symbol_of c ts)
+-- one part alone
+pub steps_one : (n : ℕ) (r : Reached) (p : Part) → steps n r (p ∷ []) ≡ step n r p
+unfolding steps
+steps_one n r p = and_some (step n r p)
 
-colon_of : (ts : List Token) → position_or_len is_colon (symbols_of ts) ≡ position_or_len (λ t. is_colon (symbol_of t)) ts
-colon_of [] = refl
-colon_of (t ∷ ts) = rw (colon_of ts) refl
+pub steps_more : (n : ℕ) (r s : Reached) (p : Part) (ps : List Part) → step n r p ≡ Some s → steps n r (p ∷ ps) ≡ steps n s ps
+unfolding steps
+steps_more n r s p ps e = rw e refl
 
-pub block_end : (line : ℕ) (scope : Scope) (r : Reached) (ss : List Symbol) → is_alone word.EndVar ss ≡ true
-    → block_line line scope r ss ≡ Ok (at_place place.Declarations r)
-unfolding block_line
-block_end line scope r ss e = rw e refl
+pub steps_none : (n : ℕ) (r : Reached) (p : Part) (ps : List Part) → step n r p ≡ None → steps n r (p ∷ ps) ≡ None
+unfolding steps
+steps_none n r p ps e = rw e refl
 
--- the declarations that a line adds
+pub ruleset steps_rules = (steps_one, steps_more, steps_none)
+
+same_listed : (a b : List Declared) → Some a ≡ Some b → a ≡ b
+same_listed a b e = cc
+
+-- what is reached with these declarations in the place of the others
 abbrev pub with_listed : Reached → List Declared → Reached
-with_listed r ds = record { place = r.place; instructions = r.instructions; listing = record { name = r.listing.name; declarations = ds; items = r.listing.items } }
+with_listed r ds = record { place = r.place; name = r.name; declarations = ds; items = r.items; parentheses = r.parentheses }
 
-pub block_bad : (line : ℕ) (scope : Scope) (r : Reached) (ts : List Token) (c : ℕ) → is_alone word.EndVar (symbols_of ts) ≡ false
-    → c ≡ position_or_len (λ t. is_colon (symbol_of t)) ts → tail scope (symbols_of (drop (c + 1) ts)) ≡ None
-    → block_line line scope r (symbols_of ts) ≡ Err (BadLine line)
-unfolding block_line declaration
-block_bad line scope r ts c a e f =
-    let t : tail scope (drop (position_or_len is_colon (symbols_of ts) + 1) (symbols_of ts)) ≡ None = rw (colon_of ts, ← e, ← symbols_drop ts (c + 1)) f in
-    rw (a, t) refl
+declared_with : (line : ℕ) (r : Reached) (scope : Scope) (t : Tail) (o : Option (List (List ℕ))) (ds : List Declared) → block_scope r.place ≡ Some scope → may_begin_with scope t.initial ≡ true
+    → option_map (λ ns. r.declarations ++ map (declared_in line scope t.kind t.initial) ns) o ≡ Some ds
+    → option_and_then (steps line r) (option_map (λ ns. declaring ns t.kind t.initial ∷ []) o) ≡ Some (with_listed r ds)
+unfolding step
+declared_with line r scope t None ds p b e = cc
+declared_with line r scope t (Some ns) ds p b e =
+    let d : r.declarations ++ map (declared_in line scope t.kind t.initial) ns ≡ ds = same_listed _ _ e in
+    let one : step line r (declaring ns t.kind t.initial) ≡ Some (with_listed r (r.declarations ++ map (declared_in line scope t.kind t.initial) ns)) = rw (p, b) refl in
+    steps_one line r (declaring ns t.kind t.initial) ∙ one ∙ ap (λ (x : List Declared). Some (with_listed r x)) d
 
-pub block_no_colon : (line : ℕ) (scope : Scope) (r : Reached) (ts : List Token) (c : ℕ) → is_alone word.EndVar (symbols_of ts) ≡ false
-    → c ≡ position_or_len (λ t. is_colon (symbol_of t)) ts → length ts ≤ c
-    → block_line line scope r (symbols_of ts) ≡ Err (BadLine line)
-unfolding tail
-block_no_colon line scope r ts c a e h =
-    let n : drop (c + 1) ts ≡ [] = none_after ts (c + 1) (omega arith) in
-    block_bad line scope r ts c a e (rw n refl)
+pub declared_ok : (line : ℕ) (r : Reached) (scope : Scope) (t : Tail) (ss : List Symbol) (ds : List Declared) → block_scope r.place ≡ Some scope → may_begin_with scope t.initial ≡ true
+    → declared_from line scope t r.declarations false ss ≡ Some ds
+    → option_and_then (steps line r) (declared_names t ss) ≡ Some (with_listed r ds)
+unfolding declared_from
+declared_ok line r scope t ss ds p b e = declared_with line r scope t (names_from false ss) ds p b e
 
-listed : (line : ℕ) (scope : Scope) (r : Reached) (t : Tail) (o : Option (List (List ℕ)))
-    → ok_or (option_map (with_declarations line scope r) (option_map (λ ns. (ns, t)) o)) (BadLine line)
-    ≡ ok_or (option_map (with_listed r) (option_map (λ ns. r.listing.declarations ++ map (declared_in line scope t) ns) o)) (BadLine line)
-listed line scope r t None = refl
-listed line scope r t (Some ns) = refl
+none_with : (line : ℕ) (r : Reached) (scope : Scope) (t : Tail) (o : Option (List (List ℕ)))
+    → option_map (λ ns. r.declarations ++ map (declared_in line scope t.kind t.initial) ns) o ≡ None
+    → option_and_then (steps line r) (option_map (λ ns. declaring ns t.kind t.initial ∷ []) o) ≡ None
+none_with line r scope t None e = refl
+none_with line r scope t (Some ns) e = cc
 
-pub block_declared : (line : ℕ) (scope : Scope) (r : Reached) (ts : List Token) (c : ℕ) (t : Tail) → is_alone word.EndVar (symbols_of ts) ≡ false
-    → c ≡ position_or_len (λ t. is_colon (symbol_of t)) ts → tail scope (symbols_of (drop (c + 1) ts)) ≡ Some t
-    → block_line line scope r (symbols_of ts) ≡ ok_or (option_map (with_listed r) (declared_from line scope t r.listing.declarations false (symbols_of (take c ts)))) (BadLine line)
-unfolding block_line declaration declared_from
-block_declared line scope r ts c t a e f =
-    let k : tail scope (drop (position_or_len is_colon (symbols_of ts) + 1) (symbols_of ts)) ≡ Some t = rw (colon_of ts, ← e, ← symbols_drop ts (c + 1)) f in
-    let b : before_first is_colon (symbols_of ts) ≡ symbols_of (take c ts) = rw (colon_of ts, ← e) (take-map symbol_of c ts) in
-    rw (a, k, b) (listed line scope r t (names_from false (symbols_of (take c ts))))
+pub declared_bad : (line : ℕ) (r : Reached) (scope : Scope) (t : Tail) (ss : List Symbol) → declared_from line scope t r.declarations false ss ≡ None
+    → option_and_then (steps line r) (declared_names t ss) ≡ None
+unfolding declared_from
+declared_bad line r scope t ss e = none_with line r scope t (names_from false ss) e
 
-rest_of : (ts : List Token) (c : ℕ) → take (length ts - (c + 1)) (drop (c + 1) ts) ≡ drop (c + 1) ts
-rest_of ts c = grind (arith, common_steps)
+-- where no declaration may stand
+refused_with : (line : ℕ) (r : Reached) (t : Tail) (o : Option (List (List ℕ))) → ((ns : List (List ℕ)) → step line r (declaring ns t.kind t.initial) ≡ None)
+    → option_and_then (steps line r) (option_map (λ ns. declaring ns t.kind t.initial ∷ []) o) ≡ None
+refused_with line r t None f = refl
+refused_with line r t (Some ns) f = steps_none line r (declaring ns t.kind t.initial) [] (f ns)
 
-pub block_tail : (line : ℕ) (scope : Scope) (r : Reached) (ts : List Token) (c : ℕ) → is_alone word.EndVar (symbols_of ts) ≡ false
-    → c ≡ position_or_len (λ t. is_colon (symbol_of t)) ts → None ≡ tail scope (symbols_of (take (length ts - (c + 1)) (drop (c + 1) ts)))
-    → block_line line scope r (symbols_of ts) ≡ Err (BadLine line)
-block_tail line scope r ts c a e f = block_bad line scope r ts c a e (sym (rw (rest_of ts c) at f))
+pub declared_refused : (line : ℕ) (r : Reached) (t : Tail) (ss : List Symbol) → ((ns : List (List ℕ)) → step line r (declaring ns t.kind t.initial) ≡ None)
+    → option_and_then (steps line r) (declared_names t ss) ≡ None
+declared_refused line r t ss f = refused_with line r t (names_from false ss) f
 
-pub block_ok : (line : ℕ) (scope : Scope) (r : Reached) (ts : List Token) (c : ℕ) (t : Tail) (ds : List Declared) → is_alone word.EndVar (symbols_of ts) ≡ false
-    → c ≡ position_or_len (λ t. is_colon (symbol_of t)) ts → Some t ≡ tail scope (symbols_of (take (length ts - (c + 1)) (drop (c + 1) ts)))
-    → declared_from line scope t r.listing.declarations false (symbols_of (take c ts)) ≡ Some ds
-    → block_line line scope r (symbols_of ts) ≡ Ok (with_listed r ds)
-block_ok line scope r ts c t ds a e f d =
-    block_declared line scope r ts c t a e (sym (rw (rest_of ts c) at f)) ∙ ap (λ (o : Option (List Declared)). ok_or (option_map (with_listed r) o) (BadLine line)) d
+pub length_opened : (os : List Open) → length (reverse (map opened_of os)) ≡ length os
+length_opened os = simp (length-reverse, length-map) refl
 
-pub block_err : (line : ℕ) (scope : Scope) (r : Reached) (ts : List Token) (c : ℕ) (t : Tail) → is_alone word.EndVar (symbols_of ts) ≡ false
-    → c ≡ position_or_len (λ t. is_colon (symbol_of t)) ts → Some t ≡ tail scope (symbols_of (take (length ts - (c + 1)) (drop (c + 1) ts)))
-    → declared_from line scope t r.listing.declarations false (symbols_of (take c ts)) ≡ None
-    → block_line line scope r (symbols_of ts) ≡ Err (BadLine line)
-block_err line scope r ts c t a e f d =
-    block_declared line scope r ts c t a e (sym (rw (rest_of ts c) at f)) ∙ ap (λ (o : Option (List Declared)). ok_or (option_map (with_listed r) o) (BadLine line)) d
+pub blank_line : (line last : ℕ) (r : Read) (ts : List Token) → length ts ≡ 0 → after_line line last r (symbols_of ts) ≡ Ok r
+unfolding after_line parts_of steps
+blank_line line last r [] h = refl
+blank_line line last r (t ∷ ts) h = absurd (omega (arith, h))
 
-pub ruleset block_rules = (block_end, block_no_colon)
+-- a line whose parts are taken
+taken_parts : (line last : ℕ) (r : Read) (o : Option (List Part)) (s : Reached) (b : Bool) → ((ps : List Part) → o ≡ Some ps → b ≡ has_instruction ps)
+    → option_and_then (steps line r.reached) o ≡ Some s
+    → after_parts line last r o ≡ cond b (bounded line last r.instructions s) (Ok (record { reached = s; instructions = r.instructions }))
+taken_parts line last r None s b h e = cc
+taken_parts line last r (Some ps) s b h e = rw (e, sym (h ps refl)) refl
+
+pub line_taken : (line last : ℕ) (r : Read) (ts : List Symbol) (o : Option (List Part)) (s : Reached) (b : Bool) → o ≡ parts_of ts → ((ps : List Part) → o ≡ Some ps → b ≡ has_instruction ps)
+    → option_and_then (steps line r.reached) o ≡ Some s
+    → after_line line last r ts ≡ cond b (bounded line last r.instructions s) (Ok (record { reached = s; instructions = r.instructions }))
+unfolding after_line
+line_taken line last r ts o s b q h e = ap (after_parts line last r) (sym q) ∙ taken_parts line last r o s b h e
+
+refused_parts : (line last : ℕ) (r : Read) (o : Option (List Part)) → option_and_then (steps line r.reached) o ≡ None → after_parts line last r o ≡ Err (BadLine line)
+refused_parts line last r None e = refl
+refused_parts line last r (Some ps) e = rw e refl
+
+pub line_refused : (line last : ℕ) (r : Read) (ts : List Symbol) (o : Option (List Part)) → o ≡ parts_of ts → option_and_then (steps line r.reached) o ≡ None
+    → after_line line last r ts ≡ Err (BadLine line)
+unfolding after_line
+line_refused line last r ts o q e = ap (after_parts line last r) (sym q) ∙ refused_parts line last r o e
+
+-- where no declaration may stand, and where it may have no initial value
+pub step_outside : (line : ℕ) (r : Reached) (ns : List (List ℕ)) (kind : DeclaredType) (initial : Option Literal) → block_scope r.place ≡ None
+    → step line r (declaring ns kind initial) ≡ None
+unfolding step
+step_outside line r ns kind initial e = rw e refl
+
+pub step_initial : (line : ℕ) (r : Reached) (ns : List (List ℕ)) (kind : DeclaredType) (initial : Option Literal) (scope : Scope) → block_scope r.place ≡ Some scope
+    → may_begin_with scope initial ≡ false → step line r (declaring ns kind initial) ≡ None
+unfolding step
+step_initial line r ns kind initial scope e b = rw (e, b) refl

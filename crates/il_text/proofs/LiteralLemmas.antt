@@ -1,5 +1,5 @@
 -- Numbers, digit by digit.
-use Rattle.std.proofs.Common.{◌≡◌, ◌≢◌, ℕ, ◌+◌, ◌*◌, ◌^◌, ◌<◌, ◌≤◌, not, Bool, true, false, cond, List, [], ◌∷◌, Option, Some, None, length, drop, slice_index, filter, min, eqb, ltb, leb, MatchOption, option_map, Bor, lit<, refl, sym, arith, ap, ◌∙◌, ⊎_elim}
+use Rattle.std.proofs.Common.{◌≡◌, ◌≢◌, ℕ, ◌+◌, ◌-◌, ◌*◌, ◌^◌, ◌<◌, ◌≤◌, not, Bool, true, false, cond, List, [], ◌∷◌, Option, Some, None, length, drop, slice_index, filter, min, eqb, ltb, leb, MatchOption, option_map, Bor, Result, Ok, Err, lit<, refl, sym, arith, ap, ◌∙◌, ⊎_elim}
 use Rattle.std.specs.Char.{digit_value}
 use Rattle.std.specs.Str.Parse.{digits_value, digits_value_after}
 use Rattle.std.proofs.lemmas.Bool.{lt-ltb, le-ltb, ne_eqb, cases_lt}
@@ -7,7 +7,7 @@ use Rattle.std.proofs.lemmas.Bool.Decides.{nat_tests}
 use Rattle.std.specs.List.{position_or_len, before_first, after_first}
 use Rattle.std.proofs.Math.Bool.{and-false}
 use Rattle.std.proofs.Math.Nat.{mul-le-mul_left, mul-le-mul_right}
-use Rattle.il_text.specs.Literals.{is_underscore, is_hash, is_integer, number, halves, decimal, based, integer, within_range, untyped, Signed}
+use Rattle.il_text.specs.Literals.{is_underscore, is_hash, is_integer, number, halves, decimal, based, integer, read_on, signed, untyped, Signed}
 use Rattle.il_text.specs.Runs.{capped, capped_signed}
 use Rattle.bay_base.proofs.ListLemmas.{front_of, none_left}
 
@@ -15,7 +15,7 @@ abbrev pub kept : List ℕ → List ℕ
 kept = filter (λ x. not (is_underscore x))
 
 abbrev pub value_if : Bool → ℕ → Option ℕ
-value_if b n = cond b (Some (min n (2 ^ 32))) None
+value_if b n = cond b (Some (min n (2 ^ 64 - 1))) None
 
 -- the number of what is left, where `value` was written before it
 unfoldable pub number_from : ℕ → Bool → ℕ → List ℕ → Option ℕ
@@ -32,45 +32,46 @@ at_underscore radix value x xs e = rw e refl
 pub from_underscore : (radix value : ℕ) (ds : List ℕ) (i : ℕ) → i < length ds → slice_index ds i ≡ 95 → number_from radix false value (drop i ds) ≡ number_from radix true value (drop (i + 1) ds)
 from_underscore radix value ds i h e = rw (front_of ds i h) (at_underscore radix value _ _ e)
 
-pub from_end : (radix value : ℕ) (ds : List ℕ) (i : ℕ) → length ds ≤ i → value ≤ 2 ^ 32 → number_from radix false value (drop i ds) ≡ Some value
+pub from_end : (radix value : ℕ) (ds : List ℕ) (i : ℕ) → length ds ≤ i → value ≤ 2 ^ 64 - 1 → number_from radix false value (drop i ds) ≡ Some value
 unfolding number_from is_integer
-from_end radix value ds i h v = let m : min value (2 ^ 32) ≡ value = omega arith in rw (none_left ds i h) (ap Some m)
+from_end radix value ds i h v = let m : min value (2 ^ 64 - 1) ≡ value = omega arith in rw (none_left ds i h) (ap Some m)
 
 pub from_end_wanted : (radix value : ℕ) (ds : List ℕ) (i : ℕ) → length ds ≤ i → number_from radix true value (drop i ds) ≡ None
 unfolding number_from is_integer
 from_end_wanted radix value ds i h = rw (none_left ds i h) refl
 
 -- a cap at one digit leaves the capped number as it is
-min_step : (radix a d : ℕ) → 0 < radix → min (a * radix + d) (2 ^ 32) ≡ min ((min a (2 ^ 32)) * radix + d) (2 ^ 32)
+min_step : (radix a d : ℕ) → 0 < radix → min (a * radix + d) (2 ^ 64 - 1) ≡ min ((min a (2 ^ 64 - 1)) * radix + d) (2 ^ 64 - 1)
 min_step radix a d h = ⊎_elim
-    (λ (k : 2 ^ 32 < a).
-    let e : min a (2 ^ 32) ≡ 2 ^ 32 = omega arith in
+    (λ (k : 2 ^ 64 - 1 < a).
+    let e : min a (2 ^ 64 - 1) ≡ 2 ^ 64 - 1 = omega arith in
     let some : 1 ≤ radix = omega arith in
-    let past : 2 ^ 32 ≤ a = omega arith in
-    let p : (2 ^ 32) * 1 ≤ (2 ^ 32) * radix = mul-le-mul_left (2 ^ 32) some in
-    let q : (2 ^ 32) * radix ≤ a * radix = mul-le-mul_right radix past in
+    let past : 2 ^ 64 - 1 ≤ a = omega arith in
+    let p : (2 ^ 64 - 1) * 1 ≤ (2 ^ 64 - 1) * radix = mul-le-mul_left (2 ^ 64 - 1) some in
+    let q : (2 ^ 64 - 1) * radix ≤ a * radix = mul-le-mul_right radix past in
     rw e (omega arith))
-    (λ (k : a ≤ 2 ^ 32). let e : min a (2 ^ 32) ≡ a = omega arith in rw e refl)
-    (cases_lt (2 ^ 32) a)
+    (λ (k : a ≤ 2 ^ 64 - 1). let e : min a (2 ^ 64 - 1) ≡ a = omega arith in rw e refl)
+    (cases_lt (2 ^ 64 - 1) a)
 
-capped_after : (radix a : ℕ) (ds : List ℕ) → 0 < radix → min (digits_value_after radix a ds) (2 ^ 32) ≡ min (digits_value_after radix (min a (2 ^ 32)) ds) (2 ^ 32)
+capped_after : (radix a : ℕ) (ds : List ℕ) → 0 < radix → min (digits_value_after radix a ds) (2 ^ 64 - 1) ≡ min (digits_value_after radix (min a (2 ^ 64 - 1)) ds) (2 ^ 64 - 1)
 capped_after radix a [] h = omega arith
 capped_after radix a (x ∷ xs) h =
     capped_after radix (a * radix + digit_value x) xs h
-    ∙ ap (λ n. min (digits_value_after radix n xs) (2 ^ 32)) (min_step radix a (digit_value x) h)
-    ∙ sym (capped_after radix ((min a (2 ^ 32)) * radix + digit_value x) xs h)
+    ∙ ap (λ n. min (digits_value_after radix n xs) (2 ^ 64 - 1)) (min_step radix a (digit_value x) h)
+    ∙ sym (capped_after radix ((min a (2 ^ 64 - 1)) * radix + digit_value x) xs h)
 
 at_digit : (radix value x : ℕ) (wanted : Bool) (xs : List ℕ) → 2 ≤ radix → radix ≤ 16 → digit_value x < radix
-    → number_from radix wanted value (x ∷ xs) ≡ number_from radix false (min (value * radix + digit_value x) (2 ^ 32)) xs
+    → number_from radix wanted value (x ∷ xs) ≡ number_from radix false (min (min (value * radix) (2 ^ 64 - 1) + digit_value x) (2 ^ 64 - 1)) xs
 unfolding number_from is_integer
 at_digit radix value x wanted xs low high d =
     let plain : x ≢ 95 = λ e. absurd (let z : digit_value 95 < radix = rw e at d in omega (arith, z)) in
     let u : eqb x 95 ≡ false = ne_eqb x 95 plain in
     let t : ltb (digit_value x) radix ≡ true = lt-ltb _ _ d in
-    rw (u, and-false (not wanted), t) (ap (λ (n : ℕ). cond (is_integer radix false xs) (Some n) None) (capped_after radix (value * radix + digit_value x) (kept xs) (omega arith)))
+    let inner : min (min (value * radix) (2 ^ 64 - 1) + digit_value x) (2 ^ 64 - 1) ≡ min (value * radix + digit_value x) (2 ^ 64 - 1) = omega arith in
+    rw (inner, u, and-false (not wanted), t) (ap (λ (n : ℕ). cond (is_integer radix false xs) (Some n) None) (capped_after radix (value * radix + digit_value x) (kept xs) (omega arith)))
 
 pub from_digit : (radix value : ℕ) (wanted : Bool) (ds : List ℕ) (i : ℕ) → 2 ≤ radix → radix ≤ 16 → i < length ds → digit_value (slice_index ds i) < radix
-    → number_from radix wanted value (drop i ds) ≡ number_from radix false (min (value * radix + digit_value (slice_index ds i)) (2 ^ 32)) (drop (i + 1) ds)
+    → number_from radix wanted value (drop i ds) ≡ number_from radix false (min (min (value * radix) (2 ^ 64 - 1) + digit_value (slice_index ds i)) (2 ^ 64 - 1)) (drop (i + 1) ds)
 from_digit radix value wanted ds i low high h d = rw (front_of ds i h) (at_digit radix value _ wanted _ low high d)
 
 at_other : (radix value x : ℕ) (wanted : Bool) (xs : List ℕ) → (digit_value x < radix → ⊥) → (wanted ≡ false → x ≢ 95)
@@ -89,17 +90,36 @@ from_other radix value wanted ds i h d u = rw (front_of ds i h) (at_other radix 
 pub ruleset number_rules = (from_start, from_underscore, from_end, from_end_wanted, from_digit, from_other)
 
 -- the cap is past every bound
-pub leb_capped : (m b : ℕ) → b < 2 ^ 32 → leb (min m (2 ^ 32)) b ≡ leb m b
-leb_capped m b h = grind (arith, nat_tests)
+pub leb_capped : (c m b : ℕ) → b < c → leb (min m c) b ≡ leb m b
+leb_capped c m b h = grind (arith, nat_tests)
 
-pub judged_capped : (below above : ℕ) (z : Option Signed) → below < 2 ^ 32 → above < 2 ^ 32 → within_range below above (capped_signed z) ≡ within_range below above z
-judged_capped below above None h k = refl
-judged_capped below above (Some (true, m)) h k = rw (leb_capped m below h) refl
-judged_capped below above (Some (false, m)) h k = rw (leb_capped m above k) refl
+signed_plus : (m : ℕ) → signed (Some (false, min m (2 ^ 64 - 1))) ≡ signed (Some (false, m))
+signed_plus m = ⊎_elim
+    (λ (k : 2 ^ 64 - 1 < m).
+    let e : min m (2 ^ 64 - 1) ≡ 2 ^ 64 - 1 = omega arith in
+    let f : leb m 9223372036854775807 ≡ false = grind (arith, nat_tests) in
+    rw (e, f) refl)
+    (λ (k : m ≤ 2 ^ 64 - 1). let e : min m (2 ^ 64 - 1) ≡ m = omega arith in rw e refl)
+    (cases_lt (2 ^ 64 - 1) m)
+
+signed_minus : (m : ℕ) → signed (Some (true, min m (2 ^ 64 - 1))) ≡ signed (Some (true, m))
+signed_minus m = ⊎_elim
+    (λ (k : 2 ^ 64 - 1 < m).
+    let e : min m (2 ^ 64 - 1) ≡ 2 ^ 64 - 1 = omega arith in
+    let f : leb m 9223372036854775808 ≡ false = grind (arith, nat_tests) in
+    let g : eqb m 0 ≡ false = ne_eqb m 0 (λ z. absurd (omega (arith, z))) in
+    rw (e, f, g) refl)
+    (λ (k : m ≤ 2 ^ 64 - 1). let e : min m (2 ^ 64 - 1) ≡ m = omega arith in rw e refl)
+    (cases_lt (2 ^ 64 - 1) m)
+
+pub signed_capped : (z : Option Signed) → signed (capped_signed z) ≡ signed z
+signed_capped None = refl
+signed_capped (Some (false, m)) = signed_plus m
+signed_capped (Some (true, m)) = signed_minus m
 
 pub untyped_capped : (z : Option Signed) → untyped (capped_signed z) ≡ untyped z
 unfolding untyped
-untyped_capped z = judged_capped 2147483648 2147483647 z (lit< tt) (lit< tt)
+untyped_capped z = rw (signed_capped z) refl
 
 -- `split_once` at `#`
 pub halves_of : (bs : List ℕ) (r : Option (Bor (List ℕ) × Bor (List ℕ)))

@@ -5,11 +5,12 @@ use Rattle.std.proofs.lemmas.List.{map-append}
 use Rattle.std.proofs.Math.Bool.{and-false}
 use Rattle.il_text.specs.Characters.{linked}
 use Rattle.il_text.specs.Pieces.{opens, ends, closes, blanked, pieces}
-use Rattle.il_text.specs.Reading.{Reached, reading, lines, onto, tokens_of, then_on, after_line, whole, nothing_read, program_of}
+use Rattle.il_text.specs.Reading.{Read, reading, lines, onto, tokens_of, then_on, after_line, whole, none_yet, program_of}
 use Rattle.il_text.specs.Places.{last_line}
 use Rattle.il_text.specs.ReaderViews.{read_on}
 use Rattle.il_text.specs.Runs.{IsPiece}
-use Rattle.il_text.specs.Symbols.{Symbol, Piece, blank, line_end, token, bad_token, bad_literal, piece, cut, mark_of}
+use Rattle.il_text.specs.Symbols.{piece, cut, mark_of}
+use Rattle.il_text.specs.Tokens.{Symbol, Piece, blank, line_end, token, bad_token, bad_literal}
 use Rattle.il_text.specs.declared.fault.TextFault.{TextFault}
 use Rattle.il_text.specs.declared.fault.TextFault.TheVariants.{BadToken, BadLiteral}
 use Rattle.bay_base.proofs.ListLemmas.{front_of, none_left}
@@ -49,50 +50,50 @@ unfolding tokens_of
 tokens_bad_literal line [] l = refl
 tokens_bad_literal line (s ∷ ss) l = ap (λ (r : Result (List Symbol) TextFault). then_on r (λ xs. Ok (s ∷ xs))) (unfold tokens_of in tokens_bad_literal line ss l)
 
-read_blank : (last : ℕ) (r : Reached) (n : ℕ) (ss : List Symbol) (ps : List Piece) → read_on last r n ss (blank ∷ ps) ≡ read_on last r n ss ps
+read_blank : (last : ℕ) (r : Read) (n : ℕ) (ss : List Symbol) (ps : List Piece) → read_on last r n ss (blank ∷ ps) ≡ read_on last r n ss ps
 unfolding read_on lines
 read_blank last r n ss ps = ap (reading last r n) (lines_onto ss (blank ∷ ps) ∙ sym (lines_onto ss ps))
 
-read_token : (last : ℕ) (r : Reached) (n : ℕ) (ss : List Symbol) (s : Symbol) (ps : List Piece) → read_on last r n ss (token s ∷ ps) ≡ read_on last r n (ss ++ s ∷ []) ps
+read_token : (last : ℕ) (r : Read) (n : ℕ) (ss : List Symbol) (s : Symbol) (ps : List Piece) → read_on last r n ss (token s ∷ ps) ≡ read_on last r n (ss ++ s ∷ []) ps
 unfolding read_on lines
 read_token last r n ss s ps = ap (reading last r n) (lines_onto ss (token s ∷ ps) ∙ onto_more ss s (lines ps) ∙ sym (lines_onto (ss ++ s ∷ []) ps))
 
 -- a line of good tokens, and the lines after it
-reading_line : (last : ℕ) (r : Reached) (n : ℕ) (ss : List Symbol) (ls : List (List Piece))
+reading_line : (last : ℕ) (r : Read) (n : ℕ) (ss : List Symbol) (ls : List (List Piece))
     → reading last r n (map token ss ∷ ls) ≡ then_on (after_line n last r ss) (λ s. reading last s (n + 1) ls)
 unfolding reading
 reading_line last r n ss ls =
     ap (λ (t : Result (List Symbol) TextFault). then_on t (λ ts. then_on (after_line n last r ts) (λ s. reading last s (n + 1) ls))) (tokens_good n ss)
 
-read_line_end : (last : ℕ) (r : Reached) (n : ℕ) (ss : List Symbol) (ps : List Piece)
+read_line_end : (last : ℕ) (r : Read) (n : ℕ) (ss : List Symbol) (ps : List Piece)
     → read_on last r n ss (line_end ∷ ps) ≡ then_on (after_line n last r ss) (λ s. read_on last s (n + 1) [] ps)
 unfolding read_on lines
 read_line_end last r n ss ps =
     ap (reading last r n) (lines_onto ss (line_end ∷ ps) ∙ onto_line ss [] (lines ps) ∙ ap (λ (l : List Piece). l ∷ lines ps) (append-nil (map token ss)))
     ∙ reading_line last r n ss (lines ps)
 
-pub read_end : (last : ℕ) (r : Reached) (n : ℕ) (ss : List Symbol)
-    → read_on last r n ss [] ≡ then_on (after_line n last r ss) (λ s. whole last s.listing s.place)
+pub read_end : (last : ℕ) (r : Read) (n : ℕ) (ss : List Symbol)
+    → read_on last r n ss [] ≡ then_on (after_line n last r ss) (λ s. whole last s.reached)
 unfolding read_on lines reading
 read_end last r n ss =
     ap (reading last r n) (lines_onto ss [] ∙ onto_line ss [] [] ∙ ap (λ (l : List Piece). l ∷ []) (append-nil (map token ss)))
     ∙ reading_line last r n ss []
 
-bad_lines : (last : ℕ) (r : Reached) (n : ℕ) (ss : List Symbol) (ls : List (List Piece)) → reading last r n (onto_all ss (onto bad_token ls)) ≡ Err (BadToken n)
+bad_lines : (last : ℕ) (r : Read) (n : ℕ) (ss : List Symbol) (ls : List (List Piece)) → reading last r n (onto_all ss (onto bad_token ls)) ≡ Err (BadToken n)
 unfolding reading
 bad_lines last r n ss [] = rw (onto_line ss (bad_token ∷ []) [], tokens_bad n ss []) refl
 bad_lines last r n ss (l ∷ ls) = rw (onto_line ss (bad_token ∷ l) ls, tokens_bad n ss l) refl
 
-bad_literal_lines : (last : ℕ) (r : Reached) (n : ℕ) (ss : List Symbol) (ls : List (List Piece)) → reading last r n (onto_all ss (onto bad_literal ls)) ≡ Err (BadLiteral n)
+bad_literal_lines : (last : ℕ) (r : Read) (n : ℕ) (ss : List Symbol) (ls : List (List Piece)) → reading last r n (onto_all ss (onto bad_literal ls)) ≡ Err (BadLiteral n)
 unfolding reading
 bad_literal_lines last r n ss [] = rw (onto_line ss (bad_literal ∷ []) [], tokens_bad_literal n ss []) refl
 bad_literal_lines last r n ss (l ∷ ls) = rw (onto_line ss (bad_literal ∷ l) ls, tokens_bad_literal n ss l) refl
 
-read_bad : (last : ℕ) (r : Reached) (n : ℕ) (ss : List Symbol) (ps : List Piece) → read_on last r n ss (bad_token ∷ ps) ≡ Err (BadToken n)
+read_bad : (last : ℕ) (r : Read) (n : ℕ) (ss : List Symbol) (ps : List Piece) → read_on last r n ss (bad_token ∷ ps) ≡ Err (BadToken n)
 unfolding read_on lines
 read_bad last r n ss ps = ap (reading last r n) (lines_onto ss (bad_token ∷ ps)) ∙ bad_lines last r n ss (lines ps)
 
-read_bad_literal : (last : ℕ) (r : Reached) (n : ℕ) (ss : List Symbol) (ps : List Piece) → read_on last r n ss (bad_literal ∷ ps) ≡ Err (BadLiteral n)
+read_bad_literal : (last : ℕ) (r : Read) (n : ℕ) (ss : List Symbol) (ps : List Piece) → read_on last r n ss (bad_literal ∷ ps) ≡ Err (BadLiteral n)
 unfolding read_on lines
 read_bad_literal last r n ss ps = ap (reading last r n) (lines_onto ss (bad_literal ∷ ps)) ∙ bad_literal_lines last r n ss (lines ps)
 
@@ -214,43 +215,43 @@ cut_inside_other bs s w h e =
 
 -- what the code's steps keep, in the words of the reader
 
-pub step_blank : (last : ℕ) (r : Reached) (n : ℕ) (ss : List Symbol) (bs : List ℕ) (s e : ℕ) → IsPiece bs s e → piece (slice_range bs s e) ≡ blank
+pub step_blank : (last : ℕ) (r : Read) (n : ℕ) (ss : List Symbol) (bs : List ℕ) (s e : ℕ) → IsPiece bs s e → piece (slice_range bs s e) ≡ blank
     → read_on last r n ss (cut false (drop s bs)) ≡ read_on last r n ss (cut false (drop e bs))
 step_blank last r n ss bs s e h k = rw (cut_piece bs s e h, k) (read_blank last r n ss _)
 
-pub step_token : (last : ℕ) (r : Reached) (n : ℕ) (ss : List Symbol) (bs : List ℕ) (s e : ℕ) (t : Symbol) → IsPiece bs s e → piece (slice_range bs s e) ≡ token t
+pub step_token : (last : ℕ) (r : Read) (n : ℕ) (ss : List Symbol) (bs : List ℕ) (s e : ℕ) (t : Symbol) → IsPiece bs s e → piece (slice_range bs s e) ≡ token t
     → read_on last r n ss (cut false (drop s bs)) ≡ read_on last r n (ss ++ t ∷ []) (cut false (drop e bs))
 step_token last r n ss bs s e t h k = rw (cut_piece bs s e h, k) (read_token last r n ss t _)
 
-pub step_bad : (last : ℕ) (r : Reached) (n : ℕ) (ss : List Symbol) (bs : List ℕ) (s e : ℕ) → IsPiece bs s e → piece (slice_range bs s e) ≡ bad_token
+pub step_bad : (last : ℕ) (r : Read) (n : ℕ) (ss : List Symbol) (bs : List ℕ) (s e : ℕ) → IsPiece bs s e → piece (slice_range bs s e) ≡ bad_token
     → read_on last r n ss (cut false (drop s bs)) ≡ Err (BadToken n)
 step_bad last r n ss bs s e h k = rw (cut_piece bs s e h, k) (read_bad last r n ss _)
 
-pub step_bad_literal : (last : ℕ) (r : Reached) (n : ℕ) (ss : List Symbol) (bs : List ℕ) (s e : ℕ) → IsPiece bs s e → piece (slice_range bs s e) ≡ bad_literal
+pub step_bad_literal : (last : ℕ) (r : Read) (n : ℕ) (ss : List Symbol) (bs : List ℕ) (s e : ℕ) → IsPiece bs s e → piece (slice_range bs s e) ≡ bad_literal
     → read_on last r n ss (cut false (drop s bs)) ≡ Err (BadLiteral n)
 step_bad_literal last r n ss bs s e h k = rw (cut_piece bs s e h, k) (read_bad_literal last r n ss _)
 
-pub step_line_end : (last : ℕ) (r : Reached) (n : ℕ) (ss : List Symbol) (bs : List ℕ) (s e : ℕ) → IsPiece bs s e → piece (slice_range bs s e) ≡ line_end
+pub step_line_end : (last : ℕ) (r : Read) (n : ℕ) (ss : List Symbol) (bs : List ℕ) (s e : ℕ) → IsPiece bs s e → piece (slice_range bs s e) ≡ line_end
     → read_on last r n ss (cut false (drop s bs)) ≡ then_on (after_line n last r ss) (λ q. read_on last q (n + 1) [] (cut false (drop e bs)))
 step_line_end last r n ss bs s e h k = rw (cut_piece bs s e h, k) (read_line_end last r n ss _)
 
-pub step_opening : (last : ℕ) (r : Reached) (n : ℕ) (ss : List Symbol) (bs : List ℕ) (s : ℕ) → opens (drop s bs) ≡ true → closes (drop (s + 2) bs) ≡ true
+pub step_opening : (last : ℕ) (r : Read) (n : ℕ) (ss : List Symbol) (bs : List ℕ) (s : ℕ) → opens (drop s bs) ≡ true → closes (drop (s + 2) bs) ≡ true
     → read_on last r n ss (cut false (drop s bs)) ≡ read_on last r n ss (cut true (drop (s + 2) bs))
 step_opening last r n ss bs s h k = rw (cut_opening bs s h k) (read_blank last r n ss _ ∙ read_blank last r n ss _)
 
-pub step_unclosed : (last : ℕ) (r : Reached) (n : ℕ) (ss : List Symbol) (bs : List ℕ) (s : ℕ) → opens (drop s bs) ≡ true → closes (drop (s + 2) bs) ≡ false
+pub step_unclosed : (last : ℕ) (r : Read) (n : ℕ) (ss : List Symbol) (bs : List ℕ) (s : ℕ) → opens (drop s bs) ≡ true → closes (drop (s + 2) bs) ≡ false
     → read_on last r n ss (cut false (drop s bs)) ≡ Err (BadToken n)
 step_unclosed last r n ss bs s h k = rw (cut_unclosed bs s h k) (read_bad last r n ss _)
 
-pub step_closing : (last : ℕ) (r : Reached) (n : ℕ) (ss : List Symbol) (bs : List ℕ) (s : ℕ) → ends (drop s bs) ≡ true
+pub step_closing : (last : ℕ) (r : Read) (n : ℕ) (ss : List Symbol) (bs : List ℕ) (s : ℕ) → ends (drop s bs) ≡ true
     → read_on last r n ss (cut true (drop s bs)) ≡ read_on last r n ss (cut false (drop (s + 2) bs))
 step_closing last r n ss bs s h = rw (cut_closing bs s h) (read_blank last r n ss _ ∙ read_blank last r n ss _)
 
-pub step_inside : (last : ℕ) (r : Reached) (n : ℕ) (ss : List Symbol) (bs : List ℕ) (s : ℕ) → s < length bs → ends (drop s bs) ≡ false → slice_index bs s ≢ 10
+pub step_inside : (last : ℕ) (r : Read) (n : ℕ) (ss : List Symbol) (bs : List ℕ) (s : ℕ) → s < length bs → ends (drop s bs) ≡ false → slice_index bs s ≢ 10
     → read_on last r n ss (cut true (drop s bs)) ≡ read_on last r n ss (cut true (drop (s + 1) bs))
 step_inside last r n ss bs s w h e = rw (cut_inside_other bs s w h e) (read_blank last r n ss _)
 
-pub step_inside_end : (last : ℕ) (r : Reached) (n : ℕ) (ss : List Symbol) (bs : List ℕ) (s : ℕ) → s < length bs → ends (drop s bs) ≡ false → slice_index bs s ≡ 10
+pub step_inside_end : (last : ℕ) (r : Read) (n : ℕ) (ss : List Symbol) (bs : List ℕ) (s : ℕ) → s < length bs → ends (drop s bs) ≡ false → slice_index bs s ≡ 10
     → read_on last r n ss (cut true (drop s bs)) ≡ then_on (after_line n last r ss) (λ q. read_on last q (n + 1) [] (cut true (drop (s + 1) bs)))
 step_inside_end last r n ss bs s w h e = rw (cut_inside_end bs s w h e) (read_line_end last r n ss _)
 
@@ -262,12 +263,12 @@ pub ruleset opening_rules = (step_opening, step_unclosed, opens_within)
 
 pub ruleset comment_rules = (step_closing, step_inside, step_inside_end, ends_within)
 
-pub step_ended : (last : ℕ) (r : Reached) (n : ℕ) (ss : List Symbol) (bs : List ℕ) (b : Bool) (s e : ℕ) → b ≡ false → IsPiece bs s e → line_end ≡ piece (slice_range bs s e)
+pub step_ended : (last : ℕ) (r : Read) (n : ℕ) (ss : List Symbol) (bs : List ℕ) (b : Bool) (s e : ℕ) → b ≡ false → IsPiece bs s e → line_end ≡ piece (slice_range bs s e)
     → read_on last r n ss (cut b (drop s bs)) ≡ then_on (after_line n last r ss) (λ q. read_on last q (n + 1) [] (cut b (drop e bs)))
 step_ended last r n ss bs b s e f h k =
     rw f (step_line_end last r n ss bs s e h (sym k))
 
-pub program_start : (text : List ℕ) (last : ℕ) (r : Reached) → last ≡ last_line text → r ≡ nothing_read → read_on last r 1 [] (cut false (drop 0 text)) ≡ program_of text
+pub program_start : (text : List ℕ) (last : ℕ) (r : Read) → last ≡ last_line text → r ≡ none_yet → read_on last r 1 [] (cut false (drop 0 text)) ≡ program_of text
 unfolding read_on program_of
 program_start text last r e f = rw (e, f) refl
 
@@ -275,6 +276,6 @@ pub cut_none : (b : Bool) (bs : List ℕ) (i : ℕ) → length bs ≤ i → cut 
 unfolding cut blanked pieces
 cut_none b bs i h = rw (none_left bs i h) refl
 
-pub text_end : (last : ℕ) (r : Reached) (n : ℕ) (ss : List Symbol) (bs : List ℕ) (b : Bool) (i : ℕ) → length bs ≤ i
-    → read_on last r n ss (cut b (drop i bs)) ≡ then_on (after_line n last r ss) (λ s. whole last s.listing s.place)
+pub text_end : (last : ℕ) (r : Read) (n : ℕ) (ss : List Symbol) (bs : List ℕ) (b : Bool) (i : ℕ) → length bs ≤ i
+    → read_on last r n ss (cut b (drop i bs)) ≡ then_on (after_line n last r ss) (λ s. whole last s.reached)
 text_end last r n ss bs b i h = rw (cut_none b bs i h) (read_end last r n ss)

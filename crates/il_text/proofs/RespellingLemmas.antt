@@ -8,9 +8,10 @@ use Rattle.il_text.specs.Characters.{is_blank, linked}
 use Rattle.bay_base.specs.Names.{same_name}
 use Rattle.il_text.specs.Pieces.{opens, ends, closes, blanked, blank_of, joins, join, pieces}
 use Rattle.il_text.specs.Places.{last_line}
-use Rattle.il_text.specs.Reading.{lines, onto, reading, nothing_read, program_of}
+use Rattle.il_text.specs.Reading.{lines, onto, reading, none_yet, program_of}
 use Rattle.il_text.specs.Respelling.{ends_inside, AreBlanks, BlanksMayBeRespelled}
-use Rattle.il_text.specs.Symbols.{Piece, blank, line_end, token, bad_token, bad_literal, piece, cut}
+use Rattle.il_text.specs.Symbols.{piece, cut}
+use Rattle.il_text.specs.Tokens.{Piece, blank, line_end, token, bad_token, bad_literal}
 use Rattle.il_text.proofs.CutLemmas.{and_left, and_right, Stands, blanked_first, blanked_plain}
 use Rattle.il_text.proofs.ReadLemmas.{Alone, alone-space, pieces_alone, space_piece}
 
@@ -279,5 +280,5 @@ last_line_of u w s v a b =
 pub respelled : BlanksMayBeRespelled
 unfolding program_of
 respelled u w s v h a b =
-    ap (λ (n : ℕ). reading n nothing_read 1 (lines (cut false (u ++ (w ++ v))))) (last_line_of u w s v a b)
-    ∙ ap (reading (last_line (u ++ (s ++ v))) nothing_read 1) (lines_of u w v h a ∙ sym (lines_of u s v h b))
+    ap (λ (n : ℕ). reading n none_yet 1 (lines (cut false (u ++ (w ++ v))))) (last_line_of u w s v a b)
+    ∙ ap (reading (last_line (u ++ (s ++ v))) none_yet 1) (lines_of u w v h a ∙ sym (lines_of u s v h b))

@@ -1,11 +1,12 @@
 -- The numbers and lines of the faults.
 use Rattle.std.specs.Prelude.{ℕ, Option, Some, None}
 use Rattle.il_text.specs.declared.fault.TextFault.{TextFault}
-use Rattle.il_text.specs.declared.fault.TextFault.TheVariants.{BadToken, BadLine, BadLiteral, TooLong, OutOfMemory}
+use Rattle.il_text.specs.declared.fault.TextFault.TheVariants.{BadToken, BadLine, TooDeep, BadLiteral, TooLong, OutOfMemory}
 
 abbrev pub code_of : TextFault → Option ℕ
 code_of (BadToken line) = Some 60
 code_of (BadLine line) = Some 61
+code_of (TooDeep line) = Some 62
 code_of (BadLiteral line) = Some 63
 code_of (TooLong line) = Some 64
 code_of OutOfMemory = None
@@ -13,6 +14,7 @@ code_of OutOfMemory = None
 abbrev pub line_of : TextFault → ℕ
 line_of (BadToken line) = line
 line_of (BadLine line) = line
+line_of (TooDeep line) = line
 line_of (BadLiteral line) = line
 line_of (TooLong line) = line
 line_of OutOfMemory = 0

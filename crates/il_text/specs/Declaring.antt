@@ -1,12 +1,12 @@
 -- The declarations that a list of names makes after others.
 use Rattle.std.specs.Prelude.{ℕ, Bool, List, ◌++◌, map, Option, option_map}
-use Rattle.il_text.specs.Listing.{Declared}
 use Rattle.il_text.specs.Forms.{names_from}
-use Rattle.il_text.specs.Symbols.{Symbol}
-use Rattle.il_text.specs.Reading.{declared_in}
+use Rattle.il_text.specs.Listing.{Declared}
+use Rattle.il_text.specs.Steps.{declared_in}
+use Rattle.il_text.specs.Tokens.{Symbol}
 use Rattle.il_text.specs.declared.form.Tail.{Tail}
 use Rattle.il_text.specs.declared.program.Scope.{Scope}
 
 unfoldable pub declared_from : ℕ → Scope → Tail → List Declared → Bool → List Symbol → Option (List Declared)
 declared_from line scope tail before after_name ss =
-    option_map (λ ns. before ++ map (declared_in line scope tail) ns) (names_from after_name ss)
+    option_map (λ ns. before ++ map (declared_in line scope tail.kind tail.initial) ns) (names_from after_name ss)

@@ -1,5 +1,5 @@
 -- What the durations of the code stand for.
-use Rattle.std.specs.Prelude.{◌^◌, Option, option_map, min}
+use Rattle.std.specs.Prelude.{ℕ, ◌^◌, Option, option_map, min}
 use Rattle.il_text.specs.Literals.{Duration}
 use Rattle.il_text.specs.declared.literal.Duration as code
 
@@ -12,3 +12,6 @@ capped_one d = record { rest = d.rest; total = min d.total (2 ^ 32); begun = d.b
 
 abbrev pub capped_duration : Option Duration → Option Duration
 capped_duration = option_map capped_one
+
+abbrev pub capped_time : Option ℕ → Option ℕ
+capped_time = option_map (λ n. min n (2 ^ 32))

@@ -1,144 +1,283 @@
 -- The forms of lines, over the tokens of a line (IEC 61131-3:2003, annexes B.1.4.3, B.1.5.3 and B.2).
-use Rattle.std.specs.Prelude.{ℕ, Bool, true, false, ◌&&◌, ◌==◌, if◌then◌else◌, List, [], ◌∷◌, Option, Some, None, option_map, option_and_then}
-use Rattle.std.specs.List.{before_first, after_first}
-use Rattle.il_text.specs.Listing.{Source, constant, variable, Action, load, store, combine}
-use Rattle.il_text.specs.Symbols.{Symbol, name, reserved_word, truth, other_literal, mark_symbol}
+use Rattle.std.specs.Prelude.{ℕ, Bool, true, false, ◌&&◌, if◌then◌else◌, List, [], ◌∷◌, take, drop, codes, Option, Some, None, option_map, option_and_then}
+use Rattle.std.specs.List.{position_or_len}
+use Rattle.bay_base.specs.Names.{same_name}
+use Rattle.il_text.specs.Listing.{Place, named, output, Source, constant, variable, Action, load, store, combine, invert, convert, jump, leave, call}
+use Rattle.il_text.specs.Parts.{Part, heading, opening, declaring, closing, labelling, acting, entering, leaving, ending}
+use Rattle.il_text.specs.Tokens.{Symbol, name, frame_word, type_word, literal, mnemonic_word, mark_symbol}
 use Rattle.il_text.specs.declared.form.Tail.{Tail}
-use Rattle.il_text.specs.declared.program.Scope.{Scope}
+use Rattle.il_text.specs.declared.program.DeclaredType.{DeclaredType}
+use Rattle.il_text.specs.declared.program.DeclaredType.TheVariants.{Elementary, Timer}
+use Rattle.il_text.specs.declared.program.Input.{Input}
+use Rattle.il_text.specs.declared.program.Input.TheVariants as input
+use Rattle.il_text.specs.declared.program.Literal.{Literal}
+use Rattle.il_text.specs.declared.program.Operator.{Operator}
+use Rattle.il_text.specs.declared.program.Output.{Output}
+use Rattle.il_text.specs.declared.program.Output.TheVariants as gives
 use Rattle.il_text.specs.declared.program.Scope.TheVariants.{Local, External}
-use Rattle.bay_base.specs.declared.types.ElementaryType.TheVariants as kind
-use Rattle.il_text.specs.declared.program.Operator.TheVariants as operator
-use Rattle.il_text.specs.declared.reserved.Reserved.{Reserved}
-use Rattle.il_text.specs.declared.reserved.Reserved.TheVariants as word
+use Rattle.il_text.specs.declared.token.Frame.{Frame}
+use Rattle.il_text.specs.declared.token.Frame.TheVariants as frame
 use Rattle.il_text.specs.declared.token.Mark.{Mark}
 use Rattle.il_text.specs.declared.token.Mark.TheVariants as mark
-use Rattle.il_text.specs.Words.{same_word}
-
-abbrev pub mark_number : Mark → ℕ
-mark_number mark.Colon = 0
-mark_number mark.Assign = 1
-mark_number mark.Comma = 2
-mark_number mark.Semicolon = 3
-mark_number mark.Dot = 4
-mark_number mark.Open = 5
-mark_number mark.Close = 6
-mark_number mark.Ampersand = 7
-
-abbrev pub is_reserved : Reserved → Symbol → Bool
-is_reserved w (name n) = false
-is_reserved w (reserved_word r) = same_word r w
-is_reserved w (truth b) = false
-is_reserved w other_literal = false
-is_reserved w (mark_symbol m) = false
-
-abbrev pub is_mark : Mark → Symbol → Bool
-is_mark k (name n) = false
-is_mark k (reserved_word r) = false
-is_mark k (truth b) = false
-is_mark k other_literal = false
-is_mark k (mark_symbol m) = mark_number m == mark_number k
+use Rattle.il_text.specs.declared.token.Mnemonic.{Mnemonic}
+use Rattle.il_text.specs.declared.token.Mnemonic.TheVariants as mnemonic
 
 abbrev pub name_of : Symbol → Option (List ℕ)
 name_of (name n) = Some n
-name_of (reserved_word r) = None
-name_of (truth b) = None
-name_of other_literal = None
-name_of (mark_symbol m) = None
+name_of other = None
 
-abbrev pub truth_of : Symbol → Option Bool
-truth_of (name n) = None
-truth_of (reserved_word r) = None
-truth_of (truth b) = Some b
-truth_of other_literal = None
-truth_of (mark_symbol m) = None
+abbrev pub literal_of : Symbol → Option Literal
+literal_of (literal value) = Some value
+literal_of other = None
 
--- `PROGRAM name`
-unfoldable pub header : List Symbol → Option (List ℕ)
-header [] = None
-header (a ∷ []) = None
-header (a ∷ b ∷ []) = if is_reserved word.Program a then name_of b else None
-header (a ∷ b ∷ c ∷ ts) = None
+abbrev pub type_of : Symbol → Option DeclaredType
+type_of (type_word kind) = Some kind
+type_of other = None
 
--- one reserved word
-unfoldable pub is_alone : Reserved → List Symbol → Bool
-is_alone w [] = false
-is_alone w (a ∷ []) = is_reserved w a
-is_alone w (a ∷ b ∷ ts) = false
+-- a type whose variables may have an initial value: any but a timer
+abbrev pub elementary_of : Symbol → Option DeclaredType
+elementary_of (type_word (Elementary kind)) = Some (Elementary kind)
+elementary_of other = None
 
--- `VAR` or `VAR_EXTERNAL`
-unfoldable pub opened : List Symbol → Option Scope
-opened ts =
-    if is_alone word.Var ts then Some Local
-    else if is_alone word.VarExternal ts then Some External
-    else None
+abbrev pub is_mnemonic : Symbol → Bool
+is_mnemonic (mnemonic_word m) = true
+is_mnemonic other = false
 
--- a name, TRUE or FALSE
-abbrev pub operand : Symbol → Option Source
-operand (name n) = Some (variable n)
-operand (reserved_word r) = None
-operand (truth b) = Some (constant b)
-operand other_literal = None
-operand (mark_symbol m) = None
+abbrev pub is_colon : Symbol → Bool
+is_colon (mark_symbol mark.Colon) = true
+is_colon other = false
 
--- an operator, by its word
-abbrev pub operation : Reserved → Symbol → Option Action
-operation word.Program s = None
-operation word.EndProgram s = None
-operation word.Var s = None
-operation word.VarExternal s = None
-operation word.EndVar s = None
-operation word.Bool s = None
-operation word.Load s = option_map (load false) (operand s)
-operation word.LoadNot s = option_map (load true) (operand s)
-operation word.Store s = option_map store (name_of s)
-operation word.And s = option_map (combine operator.And) (operand s)
-operation word.Or s = option_map (combine operator.Or) (operand s)
-operation word.Other s = None
+abbrev pub is_assign : Symbol → Bool
+is_assign (mark_symbol mark.Assign) = true
+is_assign other = false
 
-abbrev operation_of : Symbol → Symbol → Option Action
-operation_of (name n) s = None
-operation_of (reserved_word r) s = operation r s
-operation_of (truth b) s = None
-operation_of other_literal s = None
-operation_of (mark_symbol m) s = None
+abbrev pub is_comma : Symbol → Bool
+is_comma (mark_symbol mark.Comma) = true
+is_comma other = false
 
--- an operator and its operand
-unfoldable pub instruction : List Symbol → Option Action
-instruction [] = None
-instruction (a ∷ []) = None
-instruction (a ∷ b ∷ []) = operation_of a b
-instruction (a ∷ b ∷ c ∷ ts) = None
+abbrev pub is_semicolon : Symbol → Bool
+is_semicolon (mark_symbol mark.Semicolon) = true
+is_semicolon other = false
 
-abbrev pub is_local : Scope → Bool
-is_local Local = true
-is_local External = false
+abbrev pub is_dot : Symbol → Bool
+is_dot (mark_symbol mark.Dot) = true
+is_dot other = false
 
-abbrev with_initial : Option Bool → Option Tail
-with_initial = option_map (λ b. record { kind = kind.Bool; initial = Some b })
+abbrev pub is_open : Symbol → Bool
+is_open (mark_symbol mark.Open) = true
+is_open other = false
 
--- `BOOL ;`, or `BOOL := literal ;` of a variable that isn't external
-unfoldable pub tail : Scope → List Symbol → Option Tail
-tail scope [] = None
-tail scope (k ∷ []) = None
-tail scope (k ∷ e ∷ []) =
-    if is_reserved word.Bool k && is_mark mark.Semicolon e then Some (record { kind = kind.Bool; initial = None }) else None
-tail scope (k ∷ a ∷ v ∷ []) = None
-tail scope (k ∷ a ∷ v ∷ e ∷ []) =
-    if is_local scope && is_reserved word.Bool k && is_mark mark.Assign a && is_mark mark.Semicolon e
-    then with_initial (truth_of v) else None
-tail scope (k ∷ a ∷ v ∷ e ∷ f ∷ ts) = None
+abbrev pub is_close : Symbol → Bool
+is_close (mark_symbol mark.Close) = true
+is_close other = false
+
+-- one name and nothing else
+unfoldable pub only_name : List Symbol → Option (List ℕ)
+only_name [] = None
+only_name (s ∷ []) = name_of s
+only_name (s ∷ t ∷ ss) = None
+
+-- `Q` and `ET`, in letters of either case
+unfoldable pub output_named : List ℕ → Option Output
+output_named w = if same_name w (codes "Q") then Some gives.Q else (if same_name w (codes "ET") then Some gives.Et else None)
+
+-- the output of a timer, by the tokens of both
+unfoldable pub output_by : Symbol → Symbol → Option Place
+output_by s o = option_and_then (λ t. option_map (output t) (option_and_then output_named (name_of o))) (name_of s)
+
+-- a name, or a name with `.Q` or `.ET`
+unfoldable pub place : List Symbol → Option Place
+place [] = None
+place (s ∷ []) = option_map named (name_of s)
+place (s ∷ d ∷ []) = None
+place (s ∷ d ∷ o ∷ []) = if is_dot d then output_by s o else None
+place (s ∷ d ∷ o ∷ t ∷ ss) = None
+
+-- one literal and nothing else
+unfoldable pub only_literal : List Symbol → Option Literal
+only_literal [] = None
+only_literal (s ∷ []) = literal_of s
+only_literal (s ∷ t ∷ ss) = None
+
+abbrev pub literal_or : Option Literal → Option Place → Option Source
+literal_or (Some value) p = Some (constant value)
+literal_or None p = option_map variable p
+
+-- operand ::= literal | name | name "." ("Q" | "ET")
+unfoldable pub operand : List Symbol → Option Source
+operand ss = literal_or (only_literal ss) (place ss)
+
+-- `IN` and `PT`, in letters of either case
+unfoldable pub input_named : List ℕ → Option Input
+input_named w = if same_name w (codes "IN") then Some input.In else (if same_name w (codes "PT") then Some input.Pt else None)
+
+-- arg ::= ("IN" | "PT") ":=" operand
+unfoldable pub argument : List Symbol → Option (Input × Source)
+argument [] = None
+argument (i ∷ []) = None
+argument (i ∷ a ∷ ss) =
+    if is_assign a then option_and_then (λ k. option_map (λ x. (k, x)) (operand ss)) (option_and_then input_named (name_of i)) else None
+
+abbrev pub same_input : Input → Input → Bool
+same_input input.In input.In = true
+same_input input.In input.Pt = false
+same_input input.Pt input.In = false
+same_input input.Pt input.Pt = true
+
+-- two arguments, which are not given to one input
+abbrev pub both : (Input × Source) → (Input × Source) → Option (List (Input × Source))
+both a b = if same_input a.0 b.0 then None else Some (a ∷ b ∷ [])
+
+abbrev pub after_front : List Symbol → List Symbol → Option (List Symbol × List Symbol)
+after_front front [] = None
+after_front front (s ∷ rest) = Some (front, rest)
+
+-- what stands before and after the token at this place
+unfoldable pub parts_at : ℕ → List Symbol → Option (List Symbol × List Symbol)
+parts_at n ss = after_front (take n ss) (drop n ss)
+
+-- what stands before and after the first such token
+abbrev pub parted : (Symbol → Bool) → List Symbol → Option (List Symbol × List Symbol)
+parted f ss = parts_at (position_or_len f ss) ss
+
+abbrev pub argument_list : List Symbol → Option (List Symbol × List Symbol) → Option (List (Input × Source))
+argument_list ss None = option_map (λ a. a ∷ []) (argument ss)
+argument_list ss (Some p) = option_and_then (λ a. option_and_then (both a) (argument p.1)) (argument p.0)
+
+-- [arg {"," arg}]: as there are two inputs, there are two arguments at most
+unfoldable pub arguments : List Symbol → Option (List (Input × Source))
+arguments [] = Some []
+arguments (s ∷ ss) = argument_list (s ∷ ss) (parted is_comma (s ∷ ss))
+
+abbrev pub ends_with : List Symbol → List Symbol → Option (List (Input × Source))
+ends_with front [] = arguments front
+ends_with front (s ∷ rest) = None
+
+abbrev pub closed_by : Option (List Symbol × List Symbol) → Option (List (Input × Source))
+closed_by None = None
+closed_by (Some p) = ends_with p.0 p.1
+
+-- the arguments, and the one `)` at the end
+unfoldable pub closed_arguments : List Symbol → Option (List (Input × Source))
+closed_arguments ss = closed_by (parted is_close ss)
+
+-- name "(" [arg {"," arg}] ")"
+unfoldable pub called : List Symbol → Option Action
+called [] = None
+called (t ∷ []) = None
+called (t ∷ o ∷ ss) = if is_open o then option_and_then (λ n. option_map (call n) (closed_arguments ss)) (name_of t) else None
+
+abbrev pub one_part : Option Action → Option (List Part)
+one_part = option_map (λ a. acting a ∷ [])
+
+-- an operator without an operand
+abbrev pub alone : Action → List Symbol → Option (List Part)
+alone a [] = Some (acting a ∷ [])
+alone a (s ∷ ss) = None
+
+-- "(" [operand]: the operand is loaded as the first of the parenthesis
+abbrev pub entered : Operator → Bool → List Symbol → Option (List Part)
+entered o n [] = Some (entering o n ∷ [])
+entered o n (s ∷ ss) = option_map (λ x. entering o n ∷ acting (load false x) ∷ []) (operand (s ∷ ss))
+
+abbrev pub combined : Operator → Bool → List Symbol → Option (List Part)
+combined o n [] = None
+combined o n (s ∷ ss) = if is_open s then entered o n ss else one_part (option_map (combine o n) (operand (s ∷ ss)))
+
+-- an operator, and what belongs to it
+unfoldable pub statement : Mnemonic → List Symbol → Option (List Part)
+statement (mnemonic.Load n) ss = one_part (option_map (load n) (operand ss))
+statement (mnemonic.Store k) ss = one_part (option_map (store k) (place ss))
+statement (mnemonic.Combine o n) ss = combined o n ss
+statement mnemonic.Not ss = alone invert ss
+statement (mnemonic.Convert c) ss = alone (convert c) ss
+statement (mnemonic.Return c) ss = alone (leave c) ss
+statement (mnemonic.Jump c) ss = one_part (option_map (jump c) (only_name ss))
+statement mnemonic.Call ss = one_part (called ss)
+
+-- type [":=" literal] ";"
+unfoldable pub tail : List Symbol → Option Tail
+tail [] = None
+tail (k ∷ []) = None
+tail (k ∷ e ∷ []) = if is_semicolon e then option_map (λ t. record { kind = t; initial = None }) (type_of k) else None
+tail (k ∷ a ∷ v ∷ []) = None
+tail (k ∷ a ∷ v ∷ e ∷ []) =
+    if is_assign a && is_semicolon e
+    then option_and_then (λ t. option_map (λ x. record { kind = t; initial = Some x }) (literal_of v)) (elementary_of k) else None
+tail (k ∷ a ∷ v ∷ e ∷ f ∷ ts) = None
 
 -- name {"," name}, from a name on, or after one
 unfoldable pub names_from : Bool → List Symbol → Option (List (List ℕ))
 names_from false [] = None
 names_from true [] = Some []
 names_from false (s ∷ ss) = option_and_then (λ n. option_map (λ ns. n ∷ ns) (names_from true ss)) (name_of s)
-names_from true (s ∷ ss) = if is_mark mark.Comma s then names_from false ss else None
+names_from true (s ∷ ss) = if is_comma s then names_from false ss else None
 
-abbrev pub is_colon : Symbol → Bool
-is_colon = is_mark mark.Colon
+-- the names of a declaration, and what follows them
+abbrev pub declared_names : Tail → List Symbol → Option (List Part)
+declared_names t ss = option_map (λ ns. declaring ns t.kind t.initial ∷ []) (names_from false ss)
+
+abbrev pub declared_by : Option (List Symbol × List Symbol) → Option (List Part)
+declared_by None = None
+declared_by (Some p) = option_and_then (λ t. declared_names t p.0) (tail p.1)
 
 -- name {"," name} ":" tail
-unfoldable pub declaration : Scope → List Symbol → Option (List (List ℕ) × Tail)
-declaration scope ts =
-    option_and_then (λ t. option_map (λ ns. (ns, t)) (names_from false (before_first is_colon ts))) (tail scope (after_first is_colon ts))
+unfoldable pub declaration : List Symbol → Option (List Part)
+declaration ss = declared_by (parted is_colon ss)
+
+-- what may stand behind a label: an operator, or nothing
+unfoldable pub may_follow_label : List Symbol → Bool
+may_follow_label [] = true
+may_follow_label (m ∷ ss) = is_mnemonic m
+
+-- what stands behind the colon of a label
+unfoldable pub label_rest : List Symbol → Option (List Symbol)
+label_rest [] = None
+label_rest (c ∷ ss) = if is_colon c && may_follow_label ss then Some ss else None
+
+abbrev pub statement_by : Symbol → List Symbol → Option (List Part)
+statement_by (mnemonic_word m) ss = statement m ss
+statement_by other ss = None
+
+-- a label, and the instruction that may stand behind it
+unfoldable pub labelled : List ℕ → List Symbol → Option (List Part)
+labelled n [] = Some (labelling n ∷ [])
+labelled n (m ∷ ss) = option_map (λ ps. labelling n ∷ ps) (statement_by m ss)
+
+abbrev pub label_or : List ℕ → List Symbol → Option (List Symbol) → Option (List Part)
+label_or n ss (Some rest) = labelled n rest
+label_or n ss None = declaration ss
+
+-- a line that begins with this name: a label, or a declaration
+unfoldable pub named_line : List ℕ → List Symbol → List Symbol → Option (List Part)
+named_line n rest ss = label_or n ss (label_rest rest)
+
+abbrev pub only : Part → List Symbol → Option (List Part)
+only p [] = Some (p ∷ [])
+only p (s ∷ ss) = None
+
+-- a word of the frame: PROGRAM has a name, the others stand alone
+unfoldable pub framed : Frame → List Symbol → Option (List Part)
+framed frame.Program ss = option_map (λ n. heading n ∷ []) (only_name ss)
+framed frame.EndProgram ss = only ending ss
+framed frame.Var ss = only (opening Local) ss
+framed frame.VarExternal ss = only (opening External) ss
+framed frame.EndVar ss = only closing ss
+
+-- a line that begins with this mark
+unfoldable pub marked : Mark → List Symbol → Option (List Part)
+marked mark.Close ss = only leaving ss
+marked other ss = None
+
+abbrev pub by_first : Symbol → List Symbol → List Symbol → Option (List Part)
+by_first (name n) rest ss = named_line n rest ss
+by_first (frame_word w) rest ss = framed w rest
+by_first (type_word k) rest ss = None
+by_first (literal v) rest ss = None
+by_first (mnemonic_word m) rest ss = statement m rest
+by_first (mark_symbol m) rest ss = marked m rest
+
+-- the parts of a line, where it has a form; a blank line has none
+unfoldable pub parts_of : List Symbol → Option (List Part)
+parts_of [] = Some []
+parts_of (s ∷ ss) = by_first s ss (s ∷ ss)

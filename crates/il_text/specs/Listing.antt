@@ -1,25 +1,44 @@
 -- A program as plain data (IEC 61131-3:2003, 2.5.3, 2.4.3 and 3.2): names are octets as spelled.
 use Rattle.std.specs.Prelude.{ℕ, Bool, List, [], ◌∷◌, Option}
 use Rattle.il_text.specs.declared.program.Scope.{Scope}
-use Rattle.bay_base.specs.declared.types.ElementaryType.{ElementaryType}
+use Rattle.il_text.specs.declared.program.DeclaredType.{DeclaredType}
+use Rattle.il_text.specs.declared.program.Literal.{Literal}
 use Rattle.il_text.specs.declared.program.Operator.{Operator}
+use Rattle.il_text.specs.declared.program.StoreKind.{StoreKind}
+use Rattle.il_text.specs.declared.program.Condition.{Condition}
+use Rattle.il_text.specs.declared.program.Conversion.{Conversion}
+use Rattle.il_text.specs.declared.program.Input.{Input}
+use Rattle.il_text.specs.declared.program.Output.{Output}
+
+-- a name, or an output of the timer of that name
+pub data Place : Type 0 where
+  named : List ℕ → Place
+  output : List ℕ → Output → Place
 
 -- what an instruction reads
 pub data Source : Type 0 where
-  constant : Bool → Source
-  variable : List ℕ → Source
+  constant : Literal → Source
+  variable : Place → Source
 
--- an instruction: LD and LDN, where the truth value says that it is LDN; ST; an operator with its operand
+-- An instruction: LD, or LDN where the truth value says so; a store of some kind; an operator with its operand, negated
+-- where the truth value says so; NOT; a conversion; a jump to a label; a return; a call of a timer with its arguments.
 pub data Action : Type 0 where
   load : Bool → Source → Action
-  store : List ℕ → Action
-  combine : Operator → Source → Action
+  store : StoreKind → Place → Action
+  combine : Operator → Bool → Source → Action
+  invert : Action
+  convert : Conversion → Action
+  jump : Condition → List ℕ → Action
+  leave : Condition → Action
+  call : List ℕ → List (Input × Source) → Action
 
 mutual
-  -- an instruction with its line; an operator with the entries in its parenthesis, and the lines of both ends
+  -- a label with its line; an instruction with its line; an operator, and whether it is negated, with the entries in its
+  -- parenthesis and the lines of both ends
   pub data Entry : Type 0 where
+    label : ℕ → List ℕ → Entry
     action : ℕ → Action → Entry
-    block : ℕ → Operator → Entries → ℕ → Entry
+    block : ℕ → Operator → Bool → Entries → ℕ → Entry
 
   pub data Entries : Type 0 where
     no_entries : Entries
@@ -33,8 +52,8 @@ pub record Declared : Type 0 where
   pub line : ℕ
   pub scope : Scope
   pub name : List ℕ
-  pub kind : ElementaryType
-  pub initial : Option Bool
+  pub kind : DeclaredType
+  pub initial : Option Literal
 
 pub record PlainProgram : Type 0 where
   pub name : List ℕ

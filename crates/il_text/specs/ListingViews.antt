@@ -1,13 +1,23 @@
 -- What the lines so far stand for in the code.
-use Rattle.std.specs.Prelude.{map}
-use Rattle.il_text.specs.Reading.{Reached}
+use Rattle.std.specs.Prelude.{List, map, reverse}
+use Rattle.il_text.specs.Reading.{Read}
+use Rattle.il_text.specs.Steps.{Opened, Reached}
 use Rattle.il_text.specs.Views.{declared_of, entry_of}
 use Rattle.il_text.specs.declared.listing.Draft as code
+use Rattle.il_text.specs.declared.listing.Open.{Open}
+
+abbrev pub opened_of : Open → Opened
+opened_of f = record { line = f.line; operator = f.operator; negated = f.negated; outer = map entry_of f.outer.items }
 
 abbrev pub reached_of : code.Draft → Reached
 reached_of l =
     record {
       place = l.place;
-      instructions = l.instructions;
-      listing = record { name = l.name.now; declarations = map declared_of l.declarations.items; items = map entry_of l.items.items };
+      name = l.name.now;
+      declarations = map declared_of l.declarations.items;
+      items = map entry_of l.items.items;
+      parentheses = reverse (map opened_of l.parentheses.items);
     }
+
+abbrev pub read_of : code.Draft → Read
+read_of l = record { reached = reached_of l; instructions = l.instructions }

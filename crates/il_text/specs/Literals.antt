@@ -1,12 +1,14 @@
 -- Numeric, truth and duration literals (IEC 61131-3:2003, 2.2.1, 2.2.3 and annex B.1.2).
-use Rattle.std.specs.Prelude.{ℕ, ◌+◌, ◌*◌, Bool, true, false, not, ◌&&◌, ◌||◌, ◌==◌, nat_le, nat_lt, if◌then◌else◌, List, [], ◌∷◌, length, drop, take, filter, slice_index, codes, Option, Some, None, option_map, option_and_then}
+use Rattle.std.specs.Prelude.{ℤ, pos, negsuc, int_le, ℕ, ◌+◌, ◌-◌, ◌*◌, Bool, true, false, not, ◌&&◌, ◌||◌, ◌==◌, nat_le, nat_lt, if◌then◌else◌, List, [], ◌∷◌, length, drop, take, filter, slice_index, codes, Option, Some, None, option_map, option_and_then, Result, Ok, Err}
 use Rattle.std.specs.Char.{is_digit, is_ascii_digit, is_ascii_alphabetic}
 use Rattle.std.specs.List.{position_or_len, before_first, after_first, prefix_len}
 use Rattle.std.specs.Str.{byte}
 use Rattle.std.specs.Str.Parse.{digits_value}
 use Rattle.bay_base.specs.Names.{same_name}
-use Rattle.il_text.specs.declared.literal.Judged.{Judged}
-use Rattle.il_text.specs.declared.literal.Judged.TheVariants.{Fine, Malformed, OutOfRange}
+use Rattle.il_text.specs.declared.literal.LiteralFault.{LiteralFault}
+use Rattle.il_text.specs.declared.literal.LiteralFault.TheVariants.{Malformed, OutOfRange}
+use Rattle.il_text.specs.declared.program.Literal.{Literal}
+use Rattle.il_text.specs.declared.program.Literal.TheVariants.{Truth, Number, Int, Dint, Lint, Time}
 
 abbrev pub is_underscore : ℕ → Bool
 is_underscore x = x == byte "_"
@@ -61,26 +63,63 @@ decimal_or_based w (Some h) = based h.0 h.1
 unfoldable pub integer : List ℕ → Option Signed
 integer w = decimal_or_based w (halves w)
 
--- a well-formed literal is within `below` on the negative side, and `above` on the other
-abbrev pub within_range : ℕ → ℕ → Option Signed → Judged
-within_range below above None = Malformed
-within_range below above (Some z) = if nat_le z.1 (if z.0 then below else above) then Fine else OutOfRange
+-- what comes of a value, or the fault in its place
+abbrev pub read_on : {A B : Type 0} → Result A LiteralFault → (A → Result B LiteralFault) → Result B LiteralFault
+read_on (Ok x) f = f x
+read_on (Err e) f = Err e
 
--- what a literal without a type may be: the largest range is that of DINT
-unfoldable pub untyped : Option Signed → Judged
-untyped z = within_range (2147483648) (2147483647) z
+-- the value of a number, which is of 64 bits at most
+abbrev pub signed : Option Signed → Result ℤ LiteralFault
+signed None = Err Malformed
+signed (Some (false, n)) = if nat_le n 9223372036854775807 then Ok (pos n) else Err OutOfRange
+signed (Some (true, n)) =
+    if n == 0 then Ok (pos 0) else if nat_le n 9223372036854775808 then Ok (negsuc (n - 1)) else Err OutOfRange
 
-abbrev pub is_truth : List ℕ → Bool
-is_truth w = same_name w (codes "TRUE") || same_name w (codes "FALSE")
+-- a number without a type
+unfoldable pub untyped : Option Signed → Result Literal LiteralFault
+untyped z = read_on (signed z) (λ value. Ok (Number value))
 
-unfoldable pub typed_bool : List ℕ → Judged
-typed_bool w = if is_truth w then Fine else within_range 0 1 (integer w)
+abbrev pub is_between : ℤ → ℤ → ℤ → Bool
+is_between low high z = int_le low z && int_le z high
 
-unfoldable pub typed_int : List ℕ → Judged
-typed_int w = if is_truth w then OutOfRange else within_range (32768) (32767) (integer w)
+-- the literals of BOOL, INT and DINT that have this value
+abbrev pub bool_literal : ℤ → Result Literal LiteralFault
+bool_literal (pos n) = if n == 0 then Ok (Truth false) else (if n == 1 then Ok (Truth true) else Err OutOfRange)
+bool_literal (negsuc n) = Err OutOfRange
 
-unfoldable pub typed_dint : List ℕ → Judged
-typed_dint w = if is_truth w then OutOfRange else within_range (2147483648) (2147483647) (integer w)
+abbrev pub int_literal : ℤ → Result Literal LiteralFault
+int_literal z = if is_between (negsuc 32767) (pos 32767) z then Ok (Int z) else Err OutOfRange
+
+abbrev pub dint_literal : ℤ → Result Literal LiteralFault
+dint_literal z = if is_between (negsuc 2147483647) (pos 2147483647) z then Ok (Dint z) else Err OutOfRange
+
+abbrev pub truth_of : List ℕ → Option Bool
+truth_of w = if same_name w (codes "TRUE") then Some true else (if same_name w (codes "FALSE") then Some false else None)
+
+-- TRUE and FALSE are literals that no type of numbers holds
+abbrev number_or_truth : List ℕ → Option Bool → Result ℤ LiteralFault
+number_or_truth w (Some b) = Err OutOfRange
+number_or_truth w None = signed (integer w)
+
+unfoldable pub typed_number : List ℕ → Result ℤ LiteralFault
+typed_number w = number_or_truth w (truth_of w)
+
+abbrev bool_or_truth : List ℕ → Option Bool → Result Literal LiteralFault
+bool_or_truth w (Some b) = Ok (Truth b)
+bool_or_truth w None = read_on (signed (integer w)) bool_literal
+
+-- `BOOL#`: TRUE, FALSE, or the numbers 0 and 1
+unfoldable pub typed_bool : List ℕ → Result Literal LiteralFault
+typed_bool w = bool_or_truth w (truth_of w)
+
+unfoldable pub typed_int : List ℕ → Result Literal LiteralFault
+typed_int w = read_on (typed_number w) int_literal
+
+unfoldable pub typed_dint : List ℕ → Result Literal LiteralFault
+typed_dint w = read_on (typed_number w) dint_literal
+
+unfoldable pub typed_lint : List ℕ → Result Literal LiteralFault
+typed_lint w = read_on (typed_number w) (λ value. Ok (Lint value))
 
 -- what is left of a duration, its milliseconds so far, and whether a part was there
 pub record Duration : Type 0 where
@@ -125,18 +164,20 @@ milliseconds w =
     (option_and_then (part (codes "h") 3600000)
     (part (codes "d") 86400000 (record { rest = w; total = 0; begun = false }))))))
 
-abbrev pub judged_span : Option ℕ → Judged
-judged_span None = Malformed
-judged_span (Some n) = if nat_le n 2147483647 then Fine else OutOfRange
+-- a TIME is of 2,147,483,647 milliseconds at most
+abbrev pub time_literal : Option ℕ → Result Literal LiteralFault
+time_literal None = Err Malformed
+time_literal (Some n) = if nat_le n 2147483647 then Ok (Time n) else Err OutOfRange
 
-unfoldable pub typed_time : List ℕ → Judged
-typed_time w = judged_span (milliseconds w)
+unfoldable pub typed_time : List ℕ → Result Literal LiteralFault
+typed_time w = time_literal (milliseconds w)
 
 -- a literal with something before its first `#`
-unfoldable pub prefixed : List ℕ → List ℕ → Judged
+unfoldable pub prefixed : List ℕ → List ℕ → Result Literal LiteralFault
 prefixed before w =
     if same_name before (codes "BOOL") then typed_bool w
     else if same_name before (codes "INT") then typed_int w
     else if same_name before (codes "DINT") then typed_dint w
+    else if same_name before (codes "LINT") then typed_lint w
     else if same_name before (codes "T") || same_name before (codes "TIME") then typed_time w
     else untyped (based before w)

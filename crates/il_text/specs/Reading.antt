@@ -1,17 +1,16 @@
--- The program of a text (IEC 61131-3:2003, 2.5.3 and annex B).
-use Rattle.std.specs.Prelude.{ℕ, ◌+◌, false, ◌==◌, nat_lt, if◌then◌else◌, List, [], ◌∷◌, ◌++◌, map, Option, Some, None, option_map, Result, Ok, Err}
-use Rattle.std.specs.Option.{ok_or}
-use Rattle.il_text.specs.Listing.{Action, action, Declared, PlainProgram}
-use Rattle.il_text.specs.Symbols.{Symbol, Piece, blank, line_end, token, bad_token, bad_literal, cut}
-use Rattle.il_text.specs.Forms.{header, is_alone, opened, instruction, declaration}
+-- The program of a text, line by line (IEC 61131-3:2003, 2.5.3 and annex B).
+use Rattle.std.specs.Prelude.{ℕ, ◌+◌, Bool, true, false, ◌||◌, ◌==◌, nat_lt, nat_le, if◌then◌else◌, List, [], ◌∷◌, length, Option, Some, None, Result, Ok, Err}
+use Rattle.il_text.specs.Listing.{PlainProgram}
+use Rattle.il_text.specs.Tokens.{Symbol, Piece, blank, line_end, token, bad_token, bad_literal}
+use Rattle.il_text.specs.Symbols.{cut}
+use Rattle.il_text.specs.Forms.{parts_of}
+use Rattle.il_text.specs.Parts.{Part, heading, opening, declaring, closing, labelling, acting, entering, leaving, ending}
 use Rattle.il_text.specs.Places.{last_line}
+use Rattle.il_text.specs.Steps.{Reached, nothing_read, steps}
 use Rattle.il_text.specs.declared.fault.TextFault.{TextFault}
-use Rattle.il_text.specs.declared.fault.TextFault.TheVariants.{BadToken, BadLine, BadLiteral, TooLong}
-use Rattle.il_text.specs.declared.form.Stage.{Stage}
-use Rattle.il_text.specs.declared.form.Stage.TheVariants as place
-use Rattle.il_text.specs.declared.form.Tail.{Tail}
-use Rattle.il_text.specs.declared.program.Scope.{Scope}
-use Rattle.il_text.specs.declared.reserved.Reserved.TheVariants as word
+use Rattle.il_text.specs.declared.fault.TextFault.TheVariants.{BadToken, BadLine, TooDeep, BadLiteral, TooLong}
+use Rattle.il_text.specs.declared.listing.Stage.{Stage}
+use Rattle.il_text.specs.declared.listing.Stage.TheVariants as place
 
 -- a piece in front of the first of the lines
 abbrev pub onto : Piece → List (List Piece) → List (List Piece)
@@ -40,96 +39,76 @@ tokens_of line (token s ∷ ps) = then_on (tokens_of line ps) (λ ss. Ok (s ∷ 
 tokens_of line (bad_token ∷ ps) = Err (BadToken line)
 tokens_of line (bad_literal ∷ ps) = Err (BadLiteral line)
 
--- what the lines of a text make of it so far: where the next line stands, how many lines held an
--- instruction, and the program
-pub record Reached : Type 0 where
-  pub place : Stage
+-- what the lines so far make, and how many of them held an instruction or `)`
+pub record Read : Type 0 where
+  pub reached : Reached
   pub instructions : ℕ
-  pub listing : PlainProgram
 
-abbrev pub with_name : Reached → List ℕ → Reached
-with_name r n =
-    record {
-      place = place.Declarations;
-      instructions = r.instructions;
-      listing = record { name = n; declarations = r.listing.declarations; items = r.listing.items };
-    }
+abbrev pub is_instruction : Part → Bool
+is_instruction (heading name) = false
+is_instruction (opening scope) = false
+is_instruction (declaring ns kind initial) = false
+is_instruction closing = false
+is_instruction (labelling name) = false
+is_instruction (acting a) = true
+is_instruction (entering operator negated) = true
+is_instruction leaving = true
+is_instruction ending = false
 
-abbrev pub at_place : Stage → Reached → Reached
-at_place p r = record { place = p; instructions = r.instructions; listing = r.listing }
+-- an instruction or `)` is among the parts
+abbrev pub has_instruction : List Part → Bool
+has_instruction [] = false
+has_instruction (p ∷ ps) = is_instruction p || has_instruction ps
 
-abbrev pub declared_in : ℕ → Scope → Tail → List ℕ → Declared
-declared_in line scope t n = record { line = line; scope = scope; name = n; kind = t.kind; initial = t.initial }
+-- A line past a limit. Where it is the last line, the text ends early there too, and that fault comes first.
+abbrev pub past_limit : ℕ → ℕ → TextFault → TextFault
+past_limit line last fault = if line == last then BadLine line else fault
 
-abbrev pub with_declarations : ℕ → Scope → Reached → (List (List ℕ) × Tail) → Reached
-with_declarations line scope r d =
-    record {
-      place = r.place;
-      instructions = r.instructions;
-      listing = record { name = r.listing.name; declarations = r.listing.declarations ++ map (declared_in line scope d.1) d.0; items = r.listing.items };
-    }
+abbrev pub counted : ℕ → ℕ → ℕ → Reached → Result Read TextFault
+counted line last before s =
+    if nat_lt before 4000 then Ok (record { reached = s; instructions = before + 1 }) else Err (past_limit line last (TooLong line))
 
-abbrev pub with_action : ℕ → Reached → Action → Reached
-with_action line r a =
-    record {
-      place = place.Body;
-      instructions = r.instructions + 1;
-      listing = record { name = r.listing.name; declarations = r.listing.declarations; items = r.listing.items ++ action line a ∷ [] };
-    }
+-- what a line with an instruction leaves, within the limits of 16 open parentheses and 4,000 such lines
+unfoldable pub bounded : ℕ → ℕ → ℕ → Reached → Result Read TextFault
+bounded line last before s =
+    if nat_le (length s.parentheses) 16 then counted line last before s else Err (past_limit line last (TooDeep line))
 
--- A line too much. Where it is the last line, the text ends early there too, and that fault comes first.
-abbrev pub too_long : ℕ → ℕ → TextFault
-too_long line last = if line == last then BadLine line else TooLong line
+abbrev pub limited : ℕ → ℕ → ℕ → List Part → Reached → Result Read TextFault
+limited line last before ps s =
+    if has_instruction ps then bounded line last before s else Ok (record { reached = s; instructions = before })
 
-abbrev pub with_instruction : ℕ → ℕ → Reached → Option Action → Result Reached TextFault
-with_instruction line last r None = Err (BadLine line)
-with_instruction line last r (Some a) = if nat_lt r.instructions 4000 then Ok (with_action line r a) else Err (too_long line last)
+abbrev pub stepped : ℕ → ℕ → ℕ → List Part → Option Reached → Result Read TextFault
+stepped line last before ps None = Err (BadLine line)
+stepped line last before ps (Some s) = limited line last before ps s
 
--- END_PROGRAM or an instruction
-unfoldable pub body_line : ℕ → ℕ → Reached → List Symbol → Result Reached TextFault
-body_line line last r ts =
-    if is_alone word.EndProgram ts then Ok (at_place place.Finished r)
-    else with_instruction line last r (instruction ts)
+abbrev pub after_parts : ℕ → ℕ → Read → Option (List Part) → Result Read TextFault
+after_parts line last r None = Err (BadLine line)
+after_parts line last r (Some ps) = stepped line last r.instructions ps (steps line r.reached ps)
 
--- END_VAR or a declaration
-unfoldable pub block_line : ℕ → Scope → Reached → List Symbol → Result Reached TextFault
-block_line line scope r ts =
-    if is_alone word.EndVar ts then Ok (at_place place.Declarations r)
-    else ok_or (option_map (with_declarations line scope r) (declaration scope ts)) (BadLine line)
+-- what a line of tokens leaves, or its fault
+unfoldable pub after_line : ℕ → ℕ → Read → List Symbol → Result Read TextFault
+after_line line last r ts = after_parts line last r (parts_of ts)
 
-abbrev pub block_or_body : ℕ → ℕ → Reached → List Symbol → Option Scope → Result Reached TextFault
-block_or_body line last r ts (Some scope) = Ok (at_place (place.Block scope) r)
-block_or_body line last r ts None = body_line line last r ts
-
-abbrev pub line_at : ℕ → ℕ → Reached → List Symbol → Stage → Result Reached TextFault
-line_at line last r ts place.Start = ok_or (option_map (with_name r) (header ts)) (BadLine line)
-line_at line last r ts place.Declarations = block_or_body line last r ts (opened ts)
-line_at line last r ts (place.Block scope) = block_line line scope r ts
-line_at line last r ts place.Body = body_line line last r ts
-line_at line last r ts place.Finished = Err (BadLine line)
-
--- a line of tokens, of which a blank one changes nothing
-unfoldable pub after_line : ℕ → ℕ → Reached → List Symbol → Result Reached TextFault
-after_line line last r [] = Ok r
-after_line line last r (t ∷ ts) = line_at line last r (t ∷ ts) r.place
+abbrev pub listed : Reached → PlainProgram
+listed s = record { name = s.name; declarations = s.declarations; items = s.items }
 
 -- the text is whole after END_PROGRAM
-abbrev pub whole : ℕ → PlainProgram → Stage → Result PlainProgram TextFault
-whole last l place.Start = Err (BadLine last)
-whole last l place.Declarations = Err (BadLine last)
-whole last l (place.Block scope) = Err (BadLine last)
-whole last l place.Body = Err (BadLine last)
-whole last l place.Finished = Ok l
+abbrev pub whole_at : ℕ → Reached → Stage → Result PlainProgram TextFault
+whole_at last s place.Finished = Ok (listed s)
+whole_at last s other = Err (BadLine last)
+
+abbrev pub whole : ℕ → Reached → Result PlainProgram TextFault
+whole last s = whole_at last s s.place
 
 -- the program that lines make after others, the first of them at this number: its first faulty line decides
-unfoldable pub reading : ℕ → Reached → ℕ → List (List Piece) → Result PlainProgram TextFault
-reading last r line [] = whole last r.listing r.place
+unfoldable pub reading : ℕ → Read → ℕ → List (List Piece) → Result PlainProgram TextFault
+reading last r line [] = whole last r.reached
 reading last r line (l ∷ ls) =
     then_on (tokens_of line l) (λ ts. then_on (after_line line last r ts) (λ s. reading last s (line + 1) ls))
 
-abbrev pub nothing_read : Reached
-nothing_read = record { place = place.Start; instructions = 0; listing = record { name = []; declarations = []; items = [] } }
+abbrev pub none_yet : Read
+none_yet = record { reached = nothing_read; instructions = 0 }
 
 -- the program of a text, or its fault
 unfoldable pub program_of : List ℕ → Result PlainProgram TextFault
-program_of text = reading (last_line text) nothing_read 1 (lines (cut false text))
+program_of text = reading (last_line text) none_yet 1 (lines (cut false text))

@@ -15,10 +15,10 @@ pub record IsRun (bytes : List ℕ) (start end : ℕ) : Type 0 where
 
 -- numbers past those of every type count as one
 abbrev pub capped : Option ℕ → Option ℕ
-capped = option_map (λ n. min n (2 ^ 32))
+capped = option_map (λ n. min n (2 ^ 64 - 1))
 
 abbrev pub capped_signed : Option Signed → Option Signed
-capped_signed = option_map (λ z. (z.0, min z.1 (2 ^ 32)))
+capped_signed = option_map (λ z. (z.0, min z.1 (2 ^ 64 - 1)))
 
 -- `&N` stands here, with nothing that would make a longer word of the `N`
 unfoldable pub is_negated_and : List ℕ → ℕ → Bool

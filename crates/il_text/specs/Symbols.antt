@@ -1,72 +1,56 @@
 -- What a piece of a text is: a blank, a line end, a token, or none (IEC 61131-3:2003, 2.1 and annex B).
-use Rattle.std.specs.Prelude.{ℕ, Bool, true, false, ◌||◌, ◌==◌, nat_le, if◌then◌else◌, List, [], ◌∷◌, length, slice_index, codes, map, Option, Some, None}
+use Rattle.std.specs.Prelude.{ℕ, Bool, true, false, ◌||◌, ◌==◌, nat_le, if◌then◌else◌, List, [], ◌∷◌, length, slice_index, codes, map, Option, Some, None, Result, Ok, Err}
 use Rattle.std.specs.Str.{byte, bytes_eq}
 use Rattle.il_text.specs.Characters.{is_blank, begins_word, begins_name}
 use Rattle.bay_base.specs.Names.{same_name}
-use Rattle.il_text.specs.Words.{reserved_form}
 use Rattle.il_text.specs.Literals.{halves, prefixed, decimal, untyped}
 use Rattle.il_text.specs.Pieces.{pieces, blanked}
-use Rattle.il_text.specs.declared.literal.Judged.{Judged}
-use Rattle.il_text.specs.declared.literal.Judged.TheVariants.{Fine, Malformed, OutOfRange}
-use Rattle.il_text.specs.declared.reserved.Reserved.{Reserved}
-use Rattle.il_text.specs.declared.token.Mark.{Mark}
+use Rattle.il_text.specs.Tokens.{Symbol, name, literal, mnemonic_word, mark_symbol, Piece, blank, line_end, token, bad_token, bad_literal}
+use Rattle.il_text.specs.Words.{reserved_symbol}
+use Rattle.il_text.specs.declared.literal.LiteralFault.{LiteralFault}
+use Rattle.il_text.specs.declared.literal.LiteralFault.TheVariants.{Malformed, OutOfRange}
+use Rattle.il_text.specs.declared.program.Literal.{Literal}
+use Rattle.il_text.specs.declared.program.Operator.TheVariants.{And}
 use Rattle.il_text.specs.declared.token.Mark.TheVariants as mark
+use Rattle.il_text.specs.declared.token.Mnemonic.TheVariants.{Combine}
 
--- a token
-pub data Symbol : Type 0 where
-  name : List ℕ → Symbol
-  reserved_word : Reserved → Symbol
-  truth : Bool → Symbol
-  other_literal : Symbol
-  mark_symbol : Mark → Symbol
+abbrev pub literal_piece : Result Literal LiteralFault → Piece
+literal_piece (Ok value) = token (literal value)
+literal_piece (Err Malformed) = bad_token
+literal_piece (Err OutOfRange) = bad_literal
 
--- a piece
-pub data Piece : Type 0 where
-  blank : Piece
-  line_end : Piece
-  token : Symbol → Piece
-  bad_token : Piece
-  bad_literal : Piece
-
-abbrev pub judged_piece : Judged → Piece
-judged_piece Fine = token other_literal
-judged_piece Malformed = bad_token
-judged_piece OutOfRange = bad_literal
-
-abbrev name_or_reserved : List ℕ → Option Reserved → Piece
-name_or_reserved w (Some r) = token (reserved_word r)
+abbrev name_or_reserved : List ℕ → Option Symbol → Piece
+name_or_reserved w (Some s) = token s
 name_or_reserved w None = if nat_le (length w) 64 then token (name w) else bad_token
 
--- a word that begins with a letter or `_` and has no `#`: TRUE, FALSE, a reserved word or a name
+-- a word that begins with a letter or `_` and has no `#`: a reserved word, or a name
 unfoldable pub plain_word : List ℕ → Piece
-plain_word w =
-    if same_name w (codes "TRUE") then token (truth true)
-    else if same_name w (codes "FALSE") then token (truth false)
-    else name_or_reserved w (reserved_form w)
+plain_word w = name_or_reserved w (reserved_symbol w)
 
 abbrev word_by_halves : List ℕ → Option (List ℕ × List ℕ) → Piece
-word_by_halves w (Some h) = judged_piece (prefixed h.0 h.1)
-word_by_halves w None = if begins_name (slice_index w 0) then plain_word w else judged_piece (untyped (decimal w))
+word_by_halves w (Some h) = literal_piece (prefixed h.0 h.1)
+word_by_halves w None = if begins_name (slice_index w 0) then plain_word w else literal_piece (untyped (decimal w))
 
 -- a name, a reserved word or a literal
 unfoldable pub word : List ℕ → Piece
 word w = word_by_halves w (halves w)
 
 -- the marks, and the operators `&` and `&N`
-unfoldable pub mark_of : List ℕ → Option Mark
+unfoldable pub mark_of : List ℕ → Option Symbol
 mark_of p =
-    if bytes_eq p (codes ":") then Some mark.Colon
-    else if bytes_eq p (codes ":=") then Some mark.Assign
-    else if bytes_eq p (codes ",") then Some mark.Comma
-    else if bytes_eq p (codes ";") then Some mark.Semicolon
-    else if bytes_eq p (codes ".") then Some mark.Dot
-    else if bytes_eq p (codes "(") then Some mark.Open
-    else if bytes_eq p (codes ")") then Some mark.Close
-    else if slice_index p 0 == byte "&" then Some mark.Ampersand
+    if bytes_eq p (codes ":") then Some (mark_symbol mark.Colon)
+    else if bytes_eq p (codes ":=") then Some (mark_symbol mark.Assign)
+    else if bytes_eq p (codes ",") then Some (mark_symbol mark.Comma)
+    else if bytes_eq p (codes ";") then Some (mark_symbol mark.Semicolon)
+    else if bytes_eq p (codes ".") then Some (mark_symbol mark.Dot)
+    else if bytes_eq p (codes "(") then Some (mark_symbol mark.Open)
+    else if bytes_eq p (codes ")") then Some (mark_symbol mark.Close)
+    else if bytes_eq p (codes "&") then Some (mnemonic_word (Combine And false))
+    else if slice_index p 0 == byte "&" then Some (mnemonic_word (Combine And true))
     else None
 
-abbrev pub mark_piece : Option Mark → Piece
-mark_piece (Some m) = token (mark_symbol m)
+abbrev pub mark_piece : Option Symbol → Piece
+mark_piece (Some s) = token s
 mark_piece None = bad_token
 
 -- LF, or CR LF

@@ -1,6 +1,6 @@
 -- The plain data that tokens and pieces of the code stand for.
 use Rattle.std.specs.Prelude.{List, map}
-use Rattle.il_text.specs.Symbols.{Symbol, name, reserved_word, truth, other_literal, mark_symbol, Piece, blank, line_end, token, bad_token, bad_literal}
+use Rattle.il_text.specs.Tokens.{Symbol, name, frame_word, type_word, literal, mnemonic_word, mark_symbol, Piece, blank, line_end, token, bad_token, bad_literal}
 use Rattle.il_text.specs.declared.token.Token.{Token}
 use Rattle.il_text.specs.declared.token.Token.TheVariants as t
 use Rattle.il_text.specs.declared.lexeme.Lexeme.{Lexeme}
@@ -8,9 +8,10 @@ use Rattle.il_text.specs.declared.lexeme.Lexeme.TheVariants as x
 
 abbrev pub symbol_of : Token → Symbol
 symbol_of (t.Name n) = name n.now
-symbol_of (t.Reserved r) = reserved_word r
-symbol_of (t.Truth b) = truth b
-symbol_of t.Literal = other_literal
+symbol_of (t.Frame word) = frame_word word
+symbol_of (t.Type kind) = type_word kind
+symbol_of (t.Literal value) = literal value
+symbol_of (t.Mnemonic operator) = mnemonic_word operator
 symbol_of (t.Mark m) = mark_symbol m
 
 abbrev pub symbols_of : List Token → List Symbol

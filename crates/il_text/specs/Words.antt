@@ -1,42 +1,69 @@
--- The reserved words of the lines that are read (IEC 61131-3:2003, annex B).
-use Rattle.std.specs.Prelude.{ℕ, Bool, ◌==◌, List, Option, option_map}
+-- What each reserved word is in a line (IEC 61131-3:2003, annex B and table 52).
+use Rattle.std.specs.Prelude.{ℕ, true, false, List, Option, option_map}
 use Rattle.bay_base.specs.Words.{reserved_of}
+use Rattle.bay_base.specs.declared.types.ElementaryType.TheVariants as elementary
 use Rattle.bay_base.specs.declared.words.ReservedWord.{ReservedWord}
-use Rattle.bay_base.specs.declared.words.ReservedWord.TheVariants as reserved
-use Rattle.il_text.specs.declared.reserved.Reserved.{Reserved}
-use Rattle.il_text.specs.declared.reserved.Reserved.TheVariants as word
+use Rattle.bay_base.specs.declared.words.ReservedWord.TheVariants as word
+use Rattle.il_text.specs.declared.program.Condition.TheVariants as condition
+use Rattle.il_text.specs.declared.program.Conversion.TheVariants as conversion
+use Rattle.il_text.specs.declared.program.DeclaredType.TheVariants.{Elementary, Timer}
+use Rattle.il_text.specs.declared.program.Literal.TheVariants.{Truth}
+use Rattle.il_text.specs.declared.program.Operator.TheVariants as operator
+use Rattle.il_text.specs.declared.program.StoreKind.TheVariants as kind
+use Rattle.il_text.specs.declared.program.TimerKind.TheVariants as timer
+use Rattle.il_text.specs.declared.token.Frame.TheVariants as frame
+use Rattle.il_text.specs.declared.token.Mnemonic.TheVariants as mnemonic
+use Rattle.il_text.specs.Tokens.{Symbol, frame_word, type_word, literal, mnemonic_word}
 
-abbrev pub read_form_of : ReservedWord → Reserved
-read_form_of reserved.Program = word.Program
-read_form_of reserved.EndProgram = word.EndProgram
-read_form_of reserved.Var = word.Var
-read_form_of reserved.VarExternal = word.VarExternal
-read_form_of reserved.EndVar = word.EndVar
-read_form_of reserved.Bool = word.Bool
-read_form_of reserved.Ld = word.Load
-read_form_of reserved.Ldn = word.LoadNot
-read_form_of reserved.St = word.Store
-read_form_of reserved.And = word.And
-read_form_of reserved.Or = word.Or
-read_form_of other = word.Other
+abbrev pub symbol_of_word : ReservedWord → Symbol
+symbol_of_word word.Ld = mnemonic_word (mnemonic.Load false)
+symbol_of_word word.Ldn = mnemonic_word (mnemonic.Load true)
+symbol_of_word word.St = mnemonic_word (mnemonic.Store kind.Plain)
+symbol_of_word word.Stn = mnemonic_word (mnemonic.Store kind.Negated)
+symbol_of_word word.S = mnemonic_word (mnemonic.Store kind.Set)
+symbol_of_word word.R = mnemonic_word (mnemonic.Store kind.Reset)
+symbol_of_word word.And = mnemonic_word (mnemonic.Combine operator.And false)
+symbol_of_word word.Andn = mnemonic_word (mnemonic.Combine operator.And true)
+symbol_of_word word.Or = mnemonic_word (mnemonic.Combine operator.Or false)
+symbol_of_word word.Orn = mnemonic_word (mnemonic.Combine operator.Or true)
+symbol_of_word word.Xor = mnemonic_word (mnemonic.Combine operator.Xor false)
+symbol_of_word word.Xorn = mnemonic_word (mnemonic.Combine operator.Xor true)
+symbol_of_word word.Not = mnemonic_word mnemonic.Not
+symbol_of_word word.Add = mnemonic_word (mnemonic.Combine operator.Add false)
+symbol_of_word word.Sub = mnemonic_word (mnemonic.Combine operator.Sub false)
+symbol_of_word word.Mul = mnemonic_word (mnemonic.Combine operator.Mul false)
+symbol_of_word word.Div = mnemonic_word (mnemonic.Combine operator.Div false)
+symbol_of_word word.Mod = mnemonic_word (mnemonic.Combine operator.Mod false)
+symbol_of_word word.Gt = mnemonic_word (mnemonic.Combine operator.Gt false)
+symbol_of_word word.Ge = mnemonic_word (mnemonic.Combine operator.Ge false)
+symbol_of_word word.Eq = mnemonic_word (mnemonic.Combine operator.Eq false)
+symbol_of_word word.Ne = mnemonic_word (mnemonic.Combine operator.Ne false)
+symbol_of_word word.Le = mnemonic_word (mnemonic.Combine operator.Le false)
+symbol_of_word word.Lt = mnemonic_word (mnemonic.Combine operator.Lt false)
+symbol_of_word word.Jmp = mnemonic_word (mnemonic.Jump condition.Always)
+symbol_of_word word.Jmpc = mnemonic_word (mnemonic.Jump condition.IfTrue)
+symbol_of_word word.Jmpcn = mnemonic_word (mnemonic.Jump condition.IfFalse)
+symbol_of_word word.Cal = mnemonic_word mnemonic.Call
+symbol_of_word word.Ret = mnemonic_word (mnemonic.Return condition.Always)
+symbol_of_word word.Retc = mnemonic_word (mnemonic.Return condition.IfTrue)
+symbol_of_word word.Retcn = mnemonic_word (mnemonic.Return condition.IfFalse)
+symbol_of_word word.IntToDint = mnemonic_word (mnemonic.Convert conversion.IntToDint)
+symbol_of_word word.DintToLint = mnemonic_word (mnemonic.Convert conversion.DintToLint)
+symbol_of_word word.Program = frame_word frame.Program
+symbol_of_word word.EndProgram = frame_word frame.EndProgram
+symbol_of_word word.Var = frame_word frame.Var
+symbol_of_word word.VarExternal = frame_word frame.VarExternal
+symbol_of_word word.EndVar = frame_word frame.EndVar
+symbol_of_word word.Bool = type_word (Elementary elementary.Bool)
+symbol_of_word word.Int = type_word (Elementary elementary.Int)
+symbol_of_word word.Dint = type_word (Elementary elementary.Dint)
+symbol_of_word word.Lint = type_word (Elementary elementary.Lint)
+symbol_of_word word.Time = type_word (Elementary elementary.Time)
+symbol_of_word word.Ton = type_word (Timer timer.OnDelay)
+symbol_of_word word.Tof = type_word (Timer timer.OffDelay)
+symbol_of_word word.True = literal (Truth true)
+symbol_of_word word.False = literal (Truth false)
 
--- the reserved word that a word is
-unfoldable pub reserved_form : List ℕ → Option Reserved
-reserved_form w = option_map read_form_of (reserved_of w)
-
-abbrev pub word_number : Reserved → ℕ
-word_number word.Program = 0
-word_number word.EndProgram = 1
-word_number word.Var = 2
-word_number word.VarExternal = 3
-word_number word.EndVar = 4
-word_number word.Bool = 5
-word_number word.Load = 6
-word_number word.LoadNot = 7
-word_number word.Store = 8
-word_number word.And = 9
-word_number word.Or = 10
-word_number word.Other = 11
-
-abbrev pub same_word : Reserved → Reserved → Bool
-same_word a b = word_number a == word_number b
+-- the token that a word is, if it is reserved
+unfoldable pub reserved_symbol : List ℕ → Option Symbol
+reserved_symbol w = option_map symbol_of_word (reserved_of w)

@@ -16,10 +16,13 @@ pub enum TextFault {
     /// The tokens form no line that may stand here, or the text ends early.
     #[error("a line cannot be read")]
     BadLine { line: usize },
+    /// Parentheses are open more than 16 deep.
+    #[error("parentheses are too deep")]
+    TooDeep { line: usize },
     /// A literal that is well formed but outside the range of its type.
     #[error("a literal is out of range")]
     BadLiteral { line: usize },
-    /// More than 4,000 lines hold an instruction.
+    /// More than 4,000 lines hold an instruction or a `)`.
     #[error("the program is too long")]
     TooLong { line: usize },
     /// There is not enough memory for the program.
@@ -35,6 +38,7 @@ impl TextFault {
         match self {
             TextFault::BadToken { .. } => Some(60),
             TextFault::BadLine { .. } => Some(61),
+            TextFault::TooDeep { .. } => Some(62),
             TextFault::BadLiteral { .. } => Some(63),
             TextFault::TooLong { .. } => Some(64),
             TextFault::OutOfMemory => None,
@@ -48,6 +52,7 @@ impl TextFault {
         match self {
             TextFault::BadToken { line }
             | TextFault::BadLine { line }
+            | TextFault::TooDeep { line }
             | TextFault::BadLiteral { line }
             | TextFault::TooLong { line } => line,
             TextFault::OutOfMemory => 0,

@@ -1,47 +1,55 @@
-// The forms of lines, and what stands before a line.
-ghost use Rattle.std.specs.Prelude.{◌≡◌, ◌≤◌, length, option_map};
-ghost use Rattle.std.specs.Option.{option_copied};
+// The forms of lines.
+ghost use Rattle.std.specs.Prelude.{◌≡◌, ◌<◌, ◌≤◌, length, option_map, option_and_then};
 ghost use Rattle.std.specs.List.{position_or_len};
+ghost use Rattle.il_text.specs.FormViews.{halves_of, line_parts, statement_parts};
 ghost use Rattle.il_text.specs.Forms as spec;
 ghost use Rattle.il_text.specs.TokenViews.{symbol_of, symbols_of};
-ghost use Rattle.il_text.specs.Views.{source_of, action_of};
+ghost use Rattle.il_text.specs.Views.{action_of, argument_of, arguments_of, place_of, source_of};
 
-use crate::program::{Instruction, Operand, Operator, Scope};
-use crate::reserved::Reserved;
-use crate::token::{Mark, Token};
-use bay_base::types::ElementaryType;
+use crate::program::{
+    Argument, Arguments, DeclaredType, Input, Instruction, Literal, Operand, Operator, Output,
+    Scope, Variable,
+};
+use crate::token::{Frame, Mark, Mnemonic, Token};
+use bay_base::names::same_name;
 
-/// What the lines before a line make of the text.
+/// An instruction, or an operator with the opening of its parenthesis.
+#[derive(Clone, Copy)]
+pub(crate) enum Statement<'a> {
+    Plain(Instruction<'a>),
+    Open {
+        operator: Operator,
+        negated: bool,
+        operand: Option<Operand<'a>>,
+    },
+}
+
+/// What follows the names of a declaration: its type, and its initial value.
 #[derive(Clone, Copy, Debug, PartialEq, Eq)]
-pub(crate) enum Stage {
-    /// Before the line of PROGRAM.
-    Start,
-    /// Between the declaration blocks.
-    Declarations,
-    /// In a declaration block.
-    Block(Scope),
-    /// After the first instruction.
-    Body,
-    /// After END_PROGRAM.
-    Finished,
+pub(crate) struct Tail {
+    pub(crate) kind: DeclaredType,
+    pub(crate) initial: Option<Literal>,
 }
 
-fn is_reserved(token: Token<'_>, word: Reserved) -> bool
-    ensures { result ≡ spec.is_reserved word (symbol_of token.entry) }
-{
-    match token {
-        Token::Reserved(found) => found.is(word),
-        _ => false,
-    }
+/// A line, by its form. The names of a declaration are not looked at yet.
+#[derive(Clone, Copy)]
+pub(crate) enum Line<'t, 'a> {
+    Heading(&'a str),
+    Opening(Scope),
+    Declaration { names: &'t [Token<'a>], tail: Tail },
+    Closing,
+    Label(&'a str),
+    Labelled(&'a str, Statement<'a>),
+    Statement(Statement<'a>),
+    Leaving,
+    Ending,
 }
 
-pub(crate) fn is_mark(token: Token<'_>, mark: Mark) -> bool
-    ensures { result ≡ spec.is_mark mark (symbol_of token.entry) }
-{
-    match token {
-        Token::Mark(found) => found.is(mark),
-        _ => false,
-    }
+/// What stands before and after a token.
+#[derive(Clone, Copy)]
+struct Halves<'t, 'a> {
+    front: &'t [Token<'a>],
+    rest: &'t [Token<'a>],
 }
 
 pub(crate) fn name_of(token: Token<'_>) -> Option<&str>
@@ -53,142 +61,502 @@ pub(crate) fn name_of(token: Token<'_>) -> Option<&str>
     }
 }
 
-fn truth_of(token: Token<'_>) -> Option<bool>
-    ensures { result ≡ spec.truth_of (symbol_of token.entry) }
+fn literal_of(token: Token<'_>) -> Option<Literal>
+    ensures { result ≡ spec.literal_of (symbol_of token.entry) }
 {
     match token {
-        Token::Truth(value) => Some(value),
+        Token::Literal(value) => Some(value),
         _ => None,
     }
 }
 
-/// `PROGRAM name`
-#[tactic(auto, unfolding(crate::specs::Forms::header))]
-pub(crate) fn header<'a>(tokens: &[Token<'a>]) -> Option<&'a str>
-    ensures { option_map (λ n. n.now) result ≡ spec.header (symbols_of tokens.now) }
+fn type_of(token: Token<'_>) -> Option<DeclaredType>
+    ensures { result ≡ spec.type_of (symbol_of token.entry) }
 {
-    match tokens {
-        [first, second] if is_reserved(*first, Reserved::Program) => name_of(*second),
+    match token {
+        Token::Type(kind) => Some(kind),
         _ => None,
     }
 }
 
-/// Whether the line is this reserved word alone.
-#[tactic(auto, unfolding(crate::specs::Forms::is_alone))]
-pub(crate) fn is_alone(tokens: &[Token<'_>], word: Reserved) -> bool
-    ensures { result ≡ spec.is_alone word (symbols_of tokens.now) }
+fn elementary_of(token: Token<'_>) -> Option<DeclaredType>
+    ensures { result ≡ spec.elementary_of (symbol_of token.entry) }
 {
-    match tokens {
-        [only] => is_reserved(*only, word),
-        _ => false,
+    match token {
+        Token::Type(DeclaredType::Elementary(kind)) => Some(DeclaredType::Elementary(kind)),
+        _ => None,
     }
 }
 
-/// `VAR` or `VAR_EXTERNAL`
-#[tactic(auto, unfolding(crate::specs::Forms::opened))]
-pub(crate) fn opened_block(tokens: &[Token<'_>]) -> Option<Scope>
-    ensures { result ≡ spec.opened (symbols_of tokens.now) }
+fn is_mnemonic(token: Token<'_>) -> bool
+    ensures { result ≡ spec.is_mnemonic (symbol_of token.entry) }
 {
-    if is_alone(tokens, Reserved::Var) {
-        return Some(Scope::Local);
+    matches!(token, Token::Mnemonic(_))
+}
+
+fn is_colon(token: Token<'_>) -> bool
+    ensures { result ≡ spec.is_colon (symbol_of token.entry) }
+{
+    matches!(token, Token::Mark(Mark::Colon))
+}
+
+fn is_assign(token: Token<'_>) -> bool
+    ensures { result ≡ spec.is_assign (symbol_of token.entry) }
+{
+    matches!(token, Token::Mark(Mark::Assign))
+}
+
+pub(crate) fn is_comma(token: Token<'_>) -> bool
+    ensures { result ≡ spec.is_comma (symbol_of token.entry) }
+{
+    matches!(token, Token::Mark(Mark::Comma))
+}
+
+fn is_semicolon(token: Token<'_>) -> bool
+    ensures { result ≡ spec.is_semicolon (symbol_of token.entry) }
+{
+    matches!(token, Token::Mark(Mark::Semicolon))
+}
+
+fn is_dot(token: Token<'_>) -> bool
+    ensures { result ≡ spec.is_dot (symbol_of token.entry) }
+{
+    matches!(token, Token::Mark(Mark::Dot))
+}
+
+fn is_open(token: Token<'_>) -> bool
+    ensures { result ≡ spec.is_open (symbol_of token.entry) }
+{
+    matches!(token, Token::Mark(Mark::Open))
+}
+
+fn is_close(token: Token<'_>) -> bool
+    ensures { result ≡ spec.is_close (symbol_of token.entry) }
+{
+    matches!(token, Token::Mark(Mark::Close))
+}
+
+#[tactic(auto, unfolding(crate::specs::Forms::only_name))]
+fn only_name<'a>(tokens: &[Token<'a>]) -> Option<&'a str>
+    ensures { option_map (λ n. n.now) result ≡ spec.only_name (symbols_of tokens.now) }
+{
+    match tokens {
+        [only] => name_of(*only),
+        _ => None,
     }
-    if is_alone(tokens, Reserved::VarExternal) {
-        return Some(Scope::External);
+}
+
+#[tactic(auto, unfolding(crate::specs::Forms::output_named))]
+fn output_named(word: &str) -> Option<Output>
+    ensures { result ≡ spec.output_named word.now }
+{
+    if same_name(word, "Q") {
+        return Some(Output::Q);
+    }
+    if same_name(word, "ET") {
+        return Some(Output::Et);
     }
     None
 }
 
-fn operand(token: Token<'_>) -> Option<Operand<'_>>
-    ensures { option_map source_of result ≡ spec.operand (symbol_of token.entry) }
+/// The output of a timer, by the tokens of both names.
+#[tactic(auto, unfolding(crate::specs::Forms::output_by))]
+fn output_by<'a>(timer: Token<'a>, output: Token<'a>) -> Option<Variable<'a>>
+    ensures { option_map place_of result ≡ spec.output_by (symbol_of timer.entry) (symbol_of output.entry) }
 {
-    match token {
-        Token::Name(name) => Some(Operand::Name(name)),
-        Token::Truth(value) => Some(Operand::Literal(value)),
-        _ => None,
-    }
+    let timer = name_of(timer)?;
+    let output = output_named(name_of(output)?)?;
+    Some(Variable::Output { timer, output })
 }
 
-/// An operator with its operand.
-#[tactic(auto, unfolding(crate::specs::Forms::instruction))]
-pub(crate) fn instruction<'a>(tokens: &[Token<'a>]) -> Option<Instruction<'a>>
-    ensures { option_map action_of result ≡ spec.instruction (symbols_of tokens.now) }
-{
-    let [first, second] = tokens else {
-        return None;
-    };
-    match *first {
-        Token::Reserved(word) => operation(word, *second),
-        _ => None,
-    }
-}
-
-fn operation(word: Reserved, token: Token<'_>) -> Option<Instruction<'_>>
-    ensures { option_map action_of result ≡ spec.operation word (symbol_of token.entry) }
-{
-    match word {
-        Reserved::Load => Some(Instruction::Load {
-            negated: false,
-            operand: operand(token)?,
-        }),
-        Reserved::LoadNot => Some(Instruction::Load {
-            negated: true,
-            operand: operand(token)?,
-        }),
-        Reserved::Store => Some(Instruction::Store {
-            target: name_of(token)?,
-        }),
-        Reserved::And => Some(Instruction::Combine {
-            operator: Operator::And,
-            operand: operand(token)?,
-        }),
-        Reserved::Or => Some(Instruction::Combine {
-            operator: Operator::Or,
-            operand: operand(token)?,
-        }),
-        _ => None,
-    }
-}
-
-/// What follows the names of a declaration: its type, and its initial value.
-#[derive(Clone, Copy, Debug, PartialEq, Eq)]
-pub(crate) struct Tail {
-    pub(crate) kind: ElementaryType,
-    pub(crate) initial: Option<bool>,
-}
-
-/// `BOOL ;` or `BOOL := literal ;`, where an external has no literal.
-#[tactic(auto, unfolding(crate::specs::Forms::tail))]
-pub(crate) fn declared_tail(tokens: &[Token<'_>], scope: Scope) -> Option<Tail>
-    ensures { result ≡ spec.tail scope (symbols_of tokens.now) }
+/// A name, or a name with `.Q` or `.ET`.
+#[tactic(auto, unfolding(crate::specs::Forms::place))]
+fn place<'a>(tokens: &[Token<'a>]) -> Option<Variable<'a>>
+    ensures { option_map place_of result ≡ spec.place (symbols_of tokens.now) }
 {
     match tokens {
-        [kind, end] if is_reserved(*kind, Reserved::Bool) && is_mark(*end, Mark::Semicolon) => {
-            Some(Tail {
-                kind: ElementaryType::Bool,
-                initial: None,
-            })
-        }
-        [kind, assign, value, end]
-            if scope == Scope::Local
-                && is_reserved(*kind, Reserved::Bool)
-                && is_mark(*assign, Mark::Assign)
-                && is_mark(*end, Mark::Semicolon) => {
-            Some(Tail {
-                kind: ElementaryType::Bool,
-                initial: Some(truth_of(*value)?),
-            })
+        [only] => Some(Variable::Name(name_of(*only)?)),
+        [timer, dot, output] if is_dot(*dot) => output_by(*timer, *output),
+        _ => None,
+    }
+}
+
+#[tactic(auto, unfolding(crate::specs::Forms::only_literal))]
+fn only_literal(tokens: &[Token<'_>]) -> Option<Literal>
+    ensures { result ≡ spec.only_literal (symbols_of tokens.now) }
+{
+    match tokens {
+        [only] => literal_of(*only),
+        _ => None,
+    }
+}
+
+#[tactic(auto, unfolding(crate::specs::Forms::operand))]
+fn operand<'a>(tokens: &[Token<'a>]) -> Option<Operand<'a>>
+    ensures { option_map source_of result ≡ spec.operand (symbols_of tokens.now) }
+{
+    match only_literal(tokens) {
+        Some(value) => Some(Operand::Literal(value)),
+        None => Some(Operand::Variable(place(tokens)?)),
+    }
+}
+
+#[tactic(auto, unfolding(crate::specs::Forms::input_named))]
+fn input_named(word: &str) -> Option<Input>
+    ensures { result ≡ spec.input_named word.now }
+{
+    if same_name(word, "IN") {
+        return Some(Input::In);
+    }
+    if same_name(word, "PT") {
+        return Some(Input::Pt);
+    }
+    None
+}
+
+/// What a call gives to one input.
+#[tactic(auto, unfolding(crate::specs::Forms::argument))]
+fn argument<'a>(tokens: &[Token<'a>]) -> Option<Argument<'a>>
+    ensures { option_map argument_of result ≡ spec.argument (symbols_of tokens.now) }
+{
+    match tokens {
+        [name, assign, rest @ ..] if is_assign(*assign) => {
+            let input = input_named(name_of(*name)?)?;
+            let operand = operand(rest)?;
+            Some(Argument { input, operand })
         }
         _ => None,
     }
+}
+
+fn same_input(a: Input, b: Input) -> bool
+    ensures { result ≡ spec.same_input a b }
+{
+    match (a, b) {
+        (Input::In, Input::In) | (Input::Pt, Input::Pt) => true,
+        (Input::In, Input::Pt) | (Input::Pt, Input::In) => false,
+    }
+}
+
+fn both<'a>(first: Argument<'a>, second: Argument<'a>) -> Option<Arguments<'a>>
+    ensures { option_map arguments_of result ≡ spec.both (argument_of first.entry) (argument_of second.entry) }
+{
+    if same_input(first.input, second.input) {
+        None
+    } else {
+        Some(Arguments::Two(first, second))
+    }
+}
+
+/// The place of the first comma, or the number of tokens where there is none.
+fn comma_at(tokens: &[Token<'_>]) -> usize
+    ensures place { result ≡ position_or_len (λ t. spec.is_comma (symbol_of t)) tokens.now }
+    ensures within { result ≤ length tokens.now }
+{
+    tokens.iter().take_while(|token| !is_comma(**token)).count()
+}
+
+/// The place of the first `)`, or the number of tokens where there is none.
+fn close_at(tokens: &[Token<'_>]) -> usize
+    ensures place { result ≡ position_or_len (λ t. spec.is_close (symbol_of t)) tokens.now }
+    ensures within { result ≤ length tokens.now }
+{
+    tokens.iter().take_while(|token| !is_close(**token)).count()
 }
 
 /// The place of the first colon, or the number of tokens where there is none.
-pub(crate) fn colon_at(tokens: &[Token<'_>]) -> usize
+fn colon_at(tokens: &[Token<'_>]) -> usize
     ensures place { result ≡ position_or_len (λ t. spec.is_colon (symbol_of t)) tokens.now }
     ensures within { result ≤ length tokens.now }
 {
-    tokens
-        .iter()
-        .take_while(|token| !is_mark(**token, Mark::Colon))
-        .count()
+    tokens.iter().take_while(|token| !is_colon(**token)).count()
+}
+
+/// What stands before and after the token at this place.
+#[tactic(auto, using(crate::proofs::FormLemmas::parts_rules), unfolding(crate::specs::Forms::parts_at))]
+fn parts_at<'t, 'a>(tokens: &'t [Token<'a>], at: usize) -> Option<Halves<'t, 'a>>
+    requires { at ≤ length tokens.now }
+    ensures { option_map halves_of result ≡ spec.parts_at at (symbols_of tokens.now) }
+{
+    let (front, back) = tokens.split_at(at);
+    match back {
+        [] => None,
+        [_, rest @ ..] => Some(Halves { front, rest }),
+    }
+}
+
+#[tactic(auto, using(crate::proofs::FormLemmas::place_of))]
+fn at_comma<'t, 'a>(tokens: &'t [Token<'a>]) -> Option<Halves<'t, 'a>>
+    ensures { option_map halves_of result ≡ spec.parted spec.is_comma (symbols_of tokens.now) }
+{
+    parts_at(tokens, comma_at(tokens))
+}
+
+#[tactic(auto, using(crate::proofs::FormLemmas::place_of))]
+fn at_close<'t, 'a>(tokens: &'t [Token<'a>]) -> Option<Halves<'t, 'a>>
+    ensures { option_map halves_of result ≡ spec.parted spec.is_close (symbols_of tokens.now) }
+{
+    parts_at(tokens, close_at(tokens))
+}
+
+#[tactic(auto, using(crate::proofs::FormLemmas::place_of))]
+fn at_colon<'t, 'a>(tokens: &'t [Token<'a>]) -> Option<Halves<'t, 'a>>
+    ensures { option_map halves_of result ≡ spec.parted spec.is_colon (symbols_of tokens.now) }
+{
+    parts_at(tokens, colon_at(tokens))
+}
+
+/// One argument or two.
+fn argument_list<'a>(tokens: &[Token<'a>]) -> Option<Arguments<'a>>
+    ensures { option_map arguments_of result ≡ spec.argument_list (symbols_of tokens.now) (spec.parted spec.is_comma (symbols_of tokens.now)) }
+{
+    match at_comma(tokens) {
+        None => Some(Arguments::One(argument(tokens)?)),
+        Some(halves) => {
+            let first = argument(halves.front)?;
+            let second = argument(halves.rest)?;
+            both(first, second)
+        }
+    }
+}
+
+/// The arguments of a call.
+#[tactic(auto, unfolding(crate::specs::Forms::arguments))]
+fn arguments<'a>(tokens: &[Token<'a>]) -> Option<Arguments<'a>>
+    ensures { option_map arguments_of result ≡ spec.arguments (symbols_of tokens.now) }
+{
+    match tokens {
+        [] => Some(Arguments::None),
+        _ => argument_list(tokens),
+    }
+}
+
+/// The arguments of a call, and the `)` behind them.
+#[tactic(auto, unfolding(crate::specs::Forms::closed_arguments))]
+fn closed_arguments<'a>(tokens: &[Token<'a>]) -> Option<Arguments<'a>>
+    ensures { option_map arguments_of result ≡ spec.closed_arguments (symbols_of tokens.now) }
+{
+    let halves = at_close(tokens)?;
+    match halves.rest {
+        [] => arguments(halves.front),
+        _ => None,
+    }
+}
+
+/// The call of a timer.
+#[tactic(auto, unfolding(crate::specs::Forms::called))]
+fn called<'a>(tokens: &[Token<'a>]) -> Option<Instruction<'a>>
+    ensures { option_map action_of result ≡ spec.called (symbols_of tokens.now) }
+{
+    match tokens {
+        [timer, open, rest @ ..] if is_open(*open) => {
+            let timer = name_of(*timer)?;
+            let arguments = closed_arguments(rest)?;
+            Some(Instruction::Call { timer, arguments })
+        }
+        _ => None,
+    }
+}
+
+fn alone<'a>(instruction: Instruction<'a>, tokens: &[Token<'a>]) -> Option<Statement<'a>>
+    ensures { option_map statement_parts result ≡ spec.alone (action_of instruction.entry) (symbols_of tokens.now) }
+{
+    if tokens.is_empty() {
+        Some(Statement::Plain(instruction))
+    } else {
+        None
+    }
+}
+
+/// What stands behind the `(` of an operator.
+fn entered<'a>(operator: Operator, negated: bool, tokens: &[Token<'a>]) -> Option<Statement<'a>>
+    ensures { option_map statement_parts result ≡ spec.entered operator negated (symbols_of tokens.now) }
+{
+    let operand = match tokens {
+        [] => None,
+        _ => Some(operand(tokens)?),
+    };
+    Some(Statement::Open {
+        operator,
+        negated,
+        operand,
+    })
+}
+
+/// What stands behind an operator that combines.
+fn combined<'a>(operator: Operator, negated: bool, tokens: &[Token<'a>]) -> Option<Statement<'a>>
+    ensures { option_map statement_parts result ≡ spec.combined operator negated (symbols_of tokens.now) }
+{
+    match tokens {
+        [] => None,
+        [first, rest @ ..] if is_open(*first) => entered(operator, negated, rest),
+        _ => {
+            let operand = operand(tokens)?;
+            Some(Statement::Plain(Instruction::Combine {
+                operator,
+                negated,
+                operand,
+            }))
+        }
+    }
+}
+
+/// An operator, and what belongs to it.
+#[tactic(auto, unfolding(crate::specs::Forms::statement))]
+fn statement_of<'a>(mnemonic: Mnemonic, tokens: &[Token<'a>]) -> Option<Statement<'a>>
+    ensures { option_map statement_parts result ≡ spec.statement mnemonic (symbols_of tokens.now) }
+{
+    match mnemonic {
+        Mnemonic::Load { negated } => {
+            let operand = operand(tokens)?;
+            Some(Statement::Plain(Instruction::Load { negated, operand }))
+        }
+        Mnemonic::Store(kind) => {
+            let target = place(tokens)?;
+            Some(Statement::Plain(Instruction::Store { kind, target }))
+        }
+        Mnemonic::Combine { operator, negated } => combined(operator, negated, tokens),
+        Mnemonic::Not => alone(Instruction::Not, tokens),
+        Mnemonic::Convert(conversion) => alone(Instruction::Convert(conversion), tokens),
+        Mnemonic::Return(condition) => alone(Instruction::Return(condition), tokens),
+        Mnemonic::Jump(condition) => {
+            let label = only_name(tokens)?;
+            Some(Statement::Plain(Instruction::Jump { condition, label }))
+        }
+        Mnemonic::Call => Some(Statement::Plain(called(tokens)?)),
+    }
+}
+
+/// `type ;` or `type := literal ;`, where a timer has no literal.
+#[tactic(auto, unfolding(crate::specs::Forms::tail))]
+fn tail_of(tokens: &[Token<'_>]) -> Option<Tail>
+    ensures { result ≡ spec.tail (symbols_of tokens.now) }
+{
+    match tokens {
+        [kind, end] if is_semicolon(*end) => Some(Tail {
+            kind: type_of(*kind)?,
+            initial: None,
+        }),
+        [kind, assign, value, end] if is_assign(*assign) && is_semicolon(*end) => {
+            let kind = elementary_of(*kind)?;
+            let value = literal_of(*value)?;
+            Some(Tail {
+                kind,
+                initial: Some(value),
+            })
+        }
+        _ => None,
+    }
+}
+
+/// A declaration, whose names are not looked at yet.
+#[tactic(auto, unfolding(crate::specs::Forms::declaration))]
+fn declaration<'t, 'a>(tokens: &'t [Token<'a>]) -> Option<Line<'t, 'a>>
+    ensures { option_and_then line_parts result ≡ spec.declaration (symbols_of tokens.now) }
+{
+    let halves = at_colon(tokens)?;
+    let tail = tail_of(halves.rest)?;
+    Some(Line::Declaration {
+        names: halves.front,
+        tail,
+    })
+}
+
+#[tactic(auto, unfolding(crate::specs::Forms::may_follow_label))]
+fn may_follow_label(tokens: &[Token<'_>]) -> bool
+    ensures { result ≡ spec.may_follow_label (symbols_of tokens.now) }
+{
+    match tokens {
+        [] => true,
+        [first, ..] => is_mnemonic(*first),
+    }
+}
+
+/// What stands behind the colon of a label.
+#[tactic(auto, unfolding(crate::specs::Forms::label_rest))]
+fn label_rest<'t, 'a>(tokens: &'t [Token<'a>]) -> Option<&'t [Token<'a>]>
+    ensures { option_map (λ ts. symbols_of ts.now) result ≡ spec.label_rest (symbols_of tokens.now) }
+{
+    match tokens {
+        [colon, rest @ ..] if is_colon(*colon) && may_follow_label(rest) => Some(rest),
+        _ => None,
+    }
+}
+
+/// A label, and the instruction that may stand behind it.
+#[tactic(auto, unfolding(crate::specs::Forms::labelled))]
+fn labelled<'t, 'a>(label: &'a str, tokens: &'t [Token<'a>]) -> Option<Line<'t, 'a>>
+    ensures { option_and_then line_parts result ≡ spec.labelled label.now (symbols_of tokens.now) }
+{
+    match tokens {
+        [] => Some(Line::Label(label)),
+        [first, rest @ ..] => match *first {
+            Token::Mnemonic(mnemonic) => Some(Line::Labelled(label, statement_of(mnemonic, rest)?)),
+            _ => None,
+        },
+    }
+}
+
+/// A line that begins with a word of the frame.
+#[tactic(auto, unfolding(crate::specs::Forms::framed))]
+fn framed<'t, 'a>(word: Frame, tokens: &'t [Token<'a>]) -> Option<Line<'t, 'a>>
+    ensures { option_and_then line_parts result ≡ spec.framed word (symbols_of tokens.now) }
+{
+    let line = match word {
+        Frame::Program => return Some(Line::Heading(only_name(tokens)?)),
+        Frame::EndProgram => Line::Ending,
+        Frame::Var => Line::Opening(Scope::Local),
+        Frame::VarExternal => Line::Opening(Scope::External),
+        Frame::EndVar => Line::Closing,
+    };
+    if tokens.is_empty() { Some(line) } else { None }
+}
+
+/// A line that begins with a name: a label, or a declaration.
+#[tactic(auto, unfolding(crate::specs::Forms::named_line))]
+fn named_line<'t, 'a>(
+    name: &'a str,
+    rest: &'t [Token<'a>],
+    tokens: &'t [Token<'a>],
+) -> Option<Line<'t, 'a>>
+    ensures { option_and_then line_parts result ≡ spec.named_line name.now (symbols_of rest.now) (symbols_of tokens.now) }
+{
+    match label_rest(rest) {
+        Some(behind) => labelled(name, behind),
+        None => declaration(tokens),
+    }
+}
+
+#[tactic(auto, unfolding(crate::specs::Forms::marked))]
+fn marked<'t, 'a>(mark: Mark, tokens: &'t [Token<'a>]) -> Option<Line<'t, 'a>>
+    ensures { option_and_then line_parts result ≡ spec.marked mark (symbols_of tokens.now) }
+{
+    match (mark, tokens) {
+        (Mark::Close, []) => Some(Line::Leaving),
+        _ => None,
+    }
+}
+
+fn statement_line<'t, 'a>(mnemonic: Mnemonic, tokens: &'t [Token<'a>]) -> Option<Line<'t, 'a>>
+    ensures { option_and_then line_parts result ≡ spec.statement mnemonic (symbols_of tokens.now) }
+{
+    Some(Line::Statement(statement_of(mnemonic, tokens)?))
+}
+
+/// The form of a line that is not blank, if it has one.
+#[tactic(auto, unfolding(crate::specs::Forms::parts_of))]
+pub(crate) fn line_of<'t, 'a>(tokens: &'t [Token<'a>]) -> Option<Line<'t, 'a>>
+    requires { 0 < length tokens.now }
+    ensures { option_and_then line_parts result ≡ spec.parts_of (symbols_of tokens.now) }
+{
+    let [first, rest @ ..] = tokens else {
+        unreachable!();
+    };
+    match *first {
+        Token::Name(name) => named_line(name, rest, tokens),
+        Token::Frame(word) => framed(word, rest),
+        Token::Mnemonic(mnemonic) => statement_line(mnemonic, rest),
+        Token::Mark(mark) => marked(mark, rest),
+        Token::Type(_) | Token::Literal(_) => None,
+    }
 }

@@ -1,5 +1,4 @@
 // Laws of the definition of a text's program, each the contract of a function that does nothing.
-ghost use Rattle.il_text.specs.LetterCase.{LettersMayBeRespelled};
 ghost use Rattle.il_text.specs.Respelling.{BlanksMayBeRespelled};
 
 /// Blanks and whole comments between two parts of a text, within their line, may be spelled by other
@@ -7,10 +6,4 @@ ghost use Rattle.il_text.specs.Respelling.{BlanksMayBeRespelled};
 /// (IEC 61131-3:2003, 2.1.4 and 2.1.5).
 pub fn blanks_may_be_respelled()
     ensures { BlanksMayBeRespelled }
-{}
-
-/// Letters may be spelled in either case: a text in upper case makes the program of the text, with its
-/// names in upper case, or has the same fault (IEC 61131-3:2003, 2.1.1).
-pub fn letters_may_be_respelled()
-    ensures { LettersMayBeRespelled }
 {}

@@ -1,13 +1,13 @@
 // What a piece of a text is: a blank, a line end, a token, or none.
 ghost use Rattle.std.specs.Prelude.{◌≡◌, ◌<◌, ◌≤◌, ◌-◌, length, slice_index, slice_range, option_map};
 ghost use Rattle.il_text.specs.Symbols as spec;
-ghost use Rattle.il_text.specs.TokenViews.{piece_of};
+ghost use Rattle.il_text.specs.TokenViews.{piece_of, symbol_of};
 
 use crate::character::{begins_name, begins_word, byte_at, is_blank};
-use crate::literal::{Judged, decimal, halves, prefixed, untyped};
-use crate::reserved::reserved_form;
+use crate::literal::{LiteralFault, decimal, halves, prefixed, untyped};
+use crate::program::{Literal, Operator};
+use crate::reserved::{combine, reserved_token};
 use crate::token::{Mark, Token};
-use bay_base::names::same_name;
 
 /// A piece of a text.
 #[derive(Clone, Copy)]
@@ -22,13 +22,13 @@ pub(crate) enum Lexeme<'a> {
 /// The longest name, in characters.
 const MAX_NAME: usize = 64;
 
-fn literal_lexeme<'a>(judged: Judged) -> Lexeme<'a>
-    ensures { piece_of result ≡ spec.judged_piece judged }
+fn literal_lexeme<'a>(read: Result<Literal, LiteralFault>) -> Lexeme<'a>
+    ensures { piece_of result ≡ spec.literal_piece read }
 {
-    match judged {
-        Judged::Fine => Lexeme::Token(Token::Literal),
-        Judged::Malformed => Lexeme::BadToken,
-        Judged::OutOfRange => Lexeme::BadLiteral,
+    match read {
+        Ok(value) => Lexeme::Token(Token::Literal(value)),
+        Err(LiteralFault::Malformed) => Lexeme::BadToken,
+        Err(LiteralFault::OutOfRange) => Lexeme::BadLiteral,
     }
 }
 
@@ -37,14 +37,8 @@ fn literal_lexeme<'a>(judged: Judged) -> Lexeme<'a>
 fn plain_word(word: &str) -> Lexeme<'_>
     ensures { piece_of result ≡ spec.plain_word word.now }
 {
-    if same_name(word, "TRUE") {
-        return Lexeme::Token(Token::Truth(true));
-    }
-    if same_name(word, "FALSE") {
-        return Lexeme::Token(Token::Truth(false));
-    }
-    if let Some(found) = reserved_form(word) {
-        return Lexeme::Token(Token::Reserved(found));
+    if let Some(token) = reserved_token(word) {
+        return Lexeme::Token(token);
     }
     if word.len() <= MAX_NAME {
         Lexeme::Token(Token::Name(word))
@@ -69,18 +63,19 @@ fn word_lexeme(word: &str) -> Lexeme<'_>
 }
 
 #[tactic(auto, unfolding(crate::specs::Symbols::mark_of))]
-fn mark_of(piece: &[u8]) -> Option<Mark>
-    ensures { result ≡ spec.mark_of piece.now }
+fn mark_of<'a>(piece: &[u8]) -> Option<Token<'a>>
+    ensures { option_map symbol_of result ≡ spec.mark_of piece.now }
 {
     match piece {
-        b":" => Some(Mark::Colon),
-        b":=" => Some(Mark::Assign),
-        b"," => Some(Mark::Comma),
-        b";" => Some(Mark::Semicolon),
-        b"." => Some(Mark::Dot),
-        b"(" => Some(Mark::Open),
-        b")" => Some(Mark::Close),
-        [b'&', ..] => Some(Mark::Ampersand),
+        b":" => Some(Token::Mark(Mark::Colon)),
+        b":=" => Some(Token::Mark(Mark::Assign)),
+        b"," => Some(Token::Mark(Mark::Comma)),
+        b";" => Some(Token::Mark(Mark::Semicolon)),
+        b"." => Some(Token::Mark(Mark::Dot)),
+        b"(" => Some(Token::Mark(Mark::Open)),
+        b")" => Some(Token::Mark(Mark::Close)),
+        b"&" => Some(Token::Mnemonic(combine(Operator::And, false))),
+        [b'&', ..] => Some(Token::Mnemonic(combine(Operator::And, true))),
         _ => None,
     }
 }
@@ -111,7 +106,7 @@ pub(crate) fn lexeme_at(text: &str, start: usize, end: usize) -> Lexeme<'_>
         return word_lexeme(&text[start..end]);
     }
     match mark_of(piece) {
-        Some(mark) => Lexeme::Token(Token::Mark(mark)),
+        Some(token) => Lexeme::Token(token),
         None => Lexeme::BadToken,
     }
 }

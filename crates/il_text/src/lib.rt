@@ -1,7 +1,6 @@
 // Reads a text in Instruction List (IEC 61131-3:2003, 3.2) into a program: its declarations and its
-// items, whose names are slices of the text. The text is cut into tokens, each line of tokens is
-// judged as a whole, and the first faulty line is the refusal. The read forms are the frame of a
-// program, BOOL variables, and LD, LDN, ST, AND and OR.
+// items, whose names are slices of the text. The text is cut into tokens, each line of tokens has one
+// form, and the first faulty line is the refusal.
 //
 // Handed out: `read` (a text becomes a program, or its first faulty line), `program` (what that is),
 // `fault`, and `laws` (how a text may be respelled). Inside: `piece` (what stands at a place of the

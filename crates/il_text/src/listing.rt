@@ -1,37 +1,69 @@
 // What has been read of a program, line by line.
-ghost use Rattle.std.specs.Prelude.{◌≡◌, ◌≢◌, List, ◌∷◌, map, option_map, false, Some, None, Ok, Err, OnOk, IfOk, IfErr};
-ghost use Rattle.std.specs.Option.{ok_or};
+ghost use Rattle.std.specs.Prelude.{◌≡◌, ◌≢◌, List, ◌∷◌, map, reverse, option_and_then, false, Some, None, Ok, Err, OnOk, IfOk, IfErr};
 ghost use Rattle.il_text.specs.Declaring.{declared_from};
-ghost use Rattle.il_text.specs.Forms as forms;
-ghost use Rattle.il_text.specs.ListingViews.{reached_of};
+ghost use Rattle.il_text.specs.Forms.{declared_names};
+ghost use Rattle.il_text.specs.FormViews.{line_parts, opened_parts, statement_parts};
+ghost use Rattle.il_text.specs.Grammar as grammar;
+ghost use Rattle.il_text.specs.ListingViews.{opened_of, reached_of, read_of};
+ghost use Rattle.il_text.specs.Parts.{Part, heading, opening, closing, labelling, acting, entering, leaving, ending};
 ghost use Rattle.il_text.specs.Reading as spec;
+ghost use Rattle.il_text.specs.Steps as rules;
+ghost use Rattle.il_text.specs.Steps.{step, steps};
 ghost use Rattle.il_text.specs.TokenViews.{symbol_of, symbols_of};
-ghost use Rattle.il_text.specs.Symbols.{Symbol};
-ghost use Rattle.il_text.specs.Views.{declared_of};
+ghost use Rattle.il_text.specs.Tokens.{Symbol};
+ghost use Rattle.il_text.specs.Views.{action_of, declared_of, entry_of};
 ghost use Rattle.il_text.specs.declared.fault.TextFault.TheVariants.{BadLine, OutOfMemory};
 
 use crate::fault::TextFault;
-use crate::form::{
-    Stage, Tail, colon_at, declared_tail, header, instruction, is_alone, is_mark, name_of,
-    opened_block,
-};
-use crate::program::{Declaration, Item, Scope};
-use crate::reserved::Reserved;
-use crate::token::{Mark, Token};
+use crate::form::{Line, Statement, Tail, is_comma, line_of, name_of};
+use crate::program::{Declaration, Instruction, Item, Literal, Operand, Operator, Scope};
+use crate::token::Token;
 use std::alloc::Global;
+use std::mem;
 
-/// How many lines may hold an instruction.
+/// How many lines may hold an instruction or `)`.
 const MAX_INSTRUCTIONS: usize = 4_000;
+
+/// How many parentheses may be open.
+const MAX_OPEN: usize = 16;
+
+/// What the lines before a line make of the text.
+#[derive(Clone, Copy, Debug, PartialEq, Eq)]
+pub(crate) enum Stage {
+    /// Before the line of PROGRAM.
+    Start,
+    /// Between the declaration blocks.
+    Declarations,
+    /// In a declaration block.
+    Block(Scope),
+    /// After the first line of the body.
+    Body,
+    /// After END_PROGRAM.
+    Finished,
+}
+
+/// An open parenthesis: the line of its operator, and the items before it.
+#[derive(Drop)]
+pub(crate) struct Open<'a> {
+    pub(crate) line: usize,
+    pub(crate) operator: Operator,
+    pub(crate) negated: bool,
+    pub(crate) outer: Vec<Item<'a>>,
+}
 
 /// What has been read of a program, and where in it the next line stands.
 #[derive(Drop)]
 pub(crate) struct Draft<'a> {
+    pub(crate) alloc: Global,
     pub(crate) place: Stage,
-    /// How many lines held an instruction.
+    /// How many lines held an instruction or `)`.
     pub(crate) instructions: usize,
     pub(crate) name: &'a str,
     pub(crate) declarations: Vec<Declaration<'a>>,
+    /// The items of the innermost open parenthesis, or of the body.
     pub(crate) items: Vec<Item<'a>>,
+    /// The open parentheses, the innermost last.
+    pub(crate) parentheses: Vec<Open<'a>>,
 }
 
 /// Where a line stands: its number, and that of the last line of the text.
@@ -41,121 +73,445 @@ pub(crate) struct Position {
     pub(crate) last: usize,
 }
 
-impl<'a> Draft<'a> {
-    pub(crate) fn new(alloc: Global) -> Self
-        ensures { reached_of result ≡ spec.nothing_read }
-    {
-        Draft {
-            place: Stage::Start,
-            instructions: 0,
-            name: "",
-            declarations: Vec::new(alloc),
-            items: Vec::new(alloc),
-        }
-    }
-
-    /// Takes one line.
-    #[tactic(auto, unfolding(crate::specs::Reading::after_line))]
-    pub(crate) fn take_line(
-        &mut self,
-        tokens: &[Token<'a>],
-        position: Position,
-    ) -> Result<(), TextFault>
-        ensures ok { OnOk result (spec.after_line position.line position.last (reached_of self.old) (symbols_of tokens.now) ≡ Ok (reached_of self.new)) }
-        ensures refused { IfErr result (λ e. e ≢ OutOfMemory → spec.after_line position.line position.last (reached_of self.old) (symbols_of tokens.now) ≡ Err e) }
-    {
-        let line = position.line;
-        if tokens.is_empty() {
-            return Ok(());
-        }
-        match self.place {
-            Stage::Start => self.take_header(tokens, line),
-            Stage::Declarations => match opened_block(tokens) {
-                Some(scope) => {
-                    self.place = Stage::Block(scope);
-                    Ok(())
-                }
-                None => self.take_body_line(tokens, position),
-            },
-            Stage::Block(scope) => self.take_block_line(tokens, scope, line),
-            Stage::Body => self.take_body_line(tokens, position),
-            Stage::Finished => Err(TextFault::BadLine { line }),
-        }
-    }
-
-    fn take_header(&mut self, tokens: &[Token<'a>], line: usize) -> Result<(), TextFault>
-        ensures ok { OnOk result (ok_or (option_map (spec.with_name (reached_of self.old)) (forms.header (symbols_of tokens.now))) (BadLine line) ≡ Ok (reached_of self.new)) }
-        ensures refused { IfErr result (λ e. e ≢ OutOfMemory → ok_or (option_map (spec.with_name (reached_of self.old)) (forms.header (symbols_of tokens.now))) (BadLine line) ≡ Err e) }
-    {
-        let Some(name) = header(tokens) else {
-            return Err(TextFault::BadLine { line });
-        };
-        self.name = name;
-        self.place = Stage::Declarations;
-        Ok(())
-    }
-
-    #[tactic(auto, using(crate::proofs::ListingLemmas::block_rules))]
-    fn take_block_line(
-        &mut self,
-        tokens: &[Token<'a>],
-        scope: Scope,
-        line: usize,
-    ) -> Result<(), TextFault>
-        ensures ok { OnOk result (spec.block_line line scope (reached_of self.old) (symbols_of tokens.now) ≡ Ok (reached_of self.new)) }
-        ensures refused { IfErr result (λ e. e ≢ OutOfMemory → spec.block_line line scope (reached_of self.old) (symbols_of tokens.now) ≡ Err e) }
-    {
-        if is_alone(tokens, Reserved::EndVar) {
-            self.place = Stage::Declarations;
-            return Ok(());
-        }
-        let colon = colon_at(tokens);
-        if colon >= tokens.len() {
-            return Err(TextFault::BadLine { line });
-        }
-        let Some(tail) = declared_tail(&tokens[colon + 1..], scope) else {
-            return Err(TextFault::BadLine { line });
-        };
-        let declaring = Declaring { line, scope, tail };
-        match declare(&mut self.declarations, &tokens[..colon], declaring) {
-            Ok(()) => Ok(()),
-            Err(fault) => Err(fault),
-        }
-    }
-
-    #[tactic(auto, using(crate::proofs::ListingLemmas::body_rules), unfolding(crate::specs::Reading::body_line))]
-    fn take_body_line(&mut self, tokens: &[Token<'a>], position: Position) -> Result<(), TextFault>
-        ensures ok { OnOk result (spec.body_line position.line position.last (reached_of self.old) (symbols_of tokens.now) ≡ Ok (reached_of self.new)) }
-        ensures refused { IfErr result (λ e. e ≢ OutOfMemory → spec.body_line position.line position.last (reached_of self.old) (symbols_of tokens.now) ≡ Err e) }
-    {
-        let line = position.line;
-        if is_alone(tokens, Reserved::EndProgram) {
-            self.place = Stage::Finished;
-            return Ok(());
-        }
-        let Some(instruction) = instruction(tokens) else {
-            return Err(TextFault::BadLine { line });
-        };
-        if self.instructions >= MAX_INSTRUCTIONS {
-            return Err(too_long(position));
-        }
-        self.items.push(Item::Instruction { line, instruction })?;
-        self.instructions += 1;
-        self.place = Stage::Body;
-        Ok(())
+/// An instruction that may stand in a parenthesis: no jump, no return, and no call.
+fn is_plain(instruction: Instruction<'_>) -> bool
+    ensures { result ≡ grammar.is_plain (action_of instruction.entry) }
+{
+    match instruction {
+        Instruction::Load { .. }
+        | Instruction::Store { .. }
+        | Instruction::Combine { .. }
+        | Instruction::Not
+        | Instruction::Convert(_) => true,
+        Instruction::Jump { .. } | Instruction::Return(_) | Instruction::Call { .. } => false,
     }
 }
 
-/// A line too much; where it is the last one, the text ends early there too, and that comes first.
-fn too_long(position: Position) -> TextFault
-    ensures { result ≡ spec.too_long position.line position.last }
+fn is_load(instruction: Instruction<'_>) -> bool
+    ensures { result ≡ rules.is_load (action_of instruction.entry) }
+{
+    matches!(instruction, Instruction::Load { .. })
+}
+
+fn is_start(place: Stage) -> bool
+    ensures { result ≡ rules.is_start place }
+{
+    matches!(place, Stage::Start)
+}
+
+fn is_between(place: Stage) -> bool
+    ensures { result ≡ rules.is_between place }
+{
+    matches!(place, Stage::Declarations)
+}
+
+fn block_scope(place: Stage) -> Option<Scope>
+    ensures { result ≡ rules.block_scope place }
+{
+    match place {
+        Stage::Block(scope) => Some(scope),
+        _ => None,
+    }
+}
+
+fn is_body(place: Stage) -> bool
+    ensures { result ≡ rules.is_body place }
+{
+    matches!(place, Stage::Declarations | Stage::Body)
+}
+
+fn may_begin_with(scope: Scope, initial: Option<Literal>) -> bool
+    ensures { result ≡ rules.may_begin_with scope initial }
+{
+    match (scope, initial) {
+        (Scope::Local, _) | (Scope::External, None) => true,
+        (Scope::External, Some(_)) => false,
+    }
+}
+
+fn has_instruction(line: Line<'_, '_>) -> bool
+    ensures { (ps : List Part) → line_parts line.entry ≡ Some ps → result ≡ spec.has_instruction ps }
+{
+    match line {
+        Line::Labelled(_, _) | Line::Statement(_) | Line::Leaving => true,
+        Line::Heading(_)
+        | Line::Opening(_)
+        | Line::Declaration { .. }
+        | Line::Closing
+        | Line::Label(_)
+        | Line::Ending => false,
+    }
+}
+
+/// A line past a limit; where it is the last one, the text ends early there too, and that comes first.
+fn past_limit(position: Position, fault: TextFault) -> TextFault
+    ensures { result ≡ spec.past_limit position.line position.last fault }
 {
     let line = position.line;
     if line == position.last {
         TextFault::BadLine { line }
     } else {
-        TextFault::TooLong { line }
+        fault
     }
+}
+
+impl<'a> Draft<'a> {
+    pub(crate) fn new(alloc: Global) -> Self
+        ensures { read_of result ≡ spec.none_yet }
+    {
+        Draft {
+            alloc,
+            place: Stage::Start,
+            instructions: 0,
+            name: "",
+            declarations: Vec::new(alloc),
+            items: Vec::new(alloc),
+            parentheses: Vec::new(alloc),
+        }
+    }
+
+    /// Takes one line.
+    #[tactic(auto, using(crate::proofs::ListingLemmas::blank_line))]
+    pub(crate) fn take_line(
+        &mut self,
+        tokens: &[Token<'a>],
+        position: Position,
+    ) -> Result<(), TextFault>
+        ensures ok { OnOk result (spec.after_line position.line position.last (read_of self.old) (symbols_of tokens.now) ≡ Ok (read_of self.new)) }
+        ensures refused { IfErr result (λ e. e ≢ OutOfMemory → spec.after_line position.line position.last (read_of self.old) (symbols_of tokens.now) ≡ Err e) }
+    {
+        let line = position.line;
+        if tokens.is_empty() {
+            return Ok(());
+        }
+        let Some(form) = line_of(tokens) else {
+            return Err(TextFault::BadLine { line });
+        };
+        self.take_form(form, line)?;
+        if has_instruction(form) {
+            self.count(position)?;
+        }
+        Ok(())
+    }
+
+    /// Counts a line that holds an instruction or `)`.
+    #[tactic(auto, using(crate::proofs::ListingLemmas::length_opened), unfolding(crate::specs::Reading::bounded))]
+    fn count(&mut self, position: Position) -> Result<(), TextFault>
+        ensures ok { OnOk result (spec.bounded position.line position.last self.old.instructions (reached_of self.old) ≡ Ok (read_of self.new)) }
+        ensures refused { IfErr result (λ e. spec.bounded position.line position.last self.old.instructions (reached_of self.old) ≡ Err e) }
+    {
+        let line = position.line;
+        if self.parentheses.len() > MAX_OPEN {
+            return Err(past_limit(position, TextFault::TooDeep { line }));
+        }
+        if self.instructions >= MAX_INSTRUCTIONS {
+            return Err(past_limit(position, TextFault::TooLong { line }));
+        }
+        self.instructions += 1;
+        Ok(())
+    }
+
+    /// Takes the parts of a line.
+    #[tactic(auto, using(crate::proofs::ListingLemmas::steps_rules))]
+    fn take_form(&mut self, form: Line<'_, 'a>, line: usize) -> Result<(), TextFault>
+        ensures ok { OnOk result (option_and_then (steps line (reached_of self.old)) (line_parts form.entry) ≡ Some (reached_of self.new)) }
+        ensures count { OnOk result (self.new.instructions ≡ self.old.instructions) }
+        ensures bad { IfErr result (λ e. e ≢ OutOfMemory → e ≡ BadLine line) }
+        ensures none { IfErr result (λ e. e ≢ OutOfMemory → option_and_then (steps line (reached_of self.old)) (line_parts form.entry) ≡ None) }
+    {
+        match form {
+            Line::Heading(name) => self.take_heading(name, line),
+            Line::Opening(scope) => self.take_opening(scope, line),
+            Line::Declaration { names, tail } => self.take_declaration(names, tail, line),
+            Line::Closing => self.take_closing(line),
+            Line::Label(name) => self.take_label(name, line),
+            Line::Labelled(name, statement) => self.take_labelled(name, statement, line),
+            Line::Statement(statement) => self.take_statement(statement, line),
+            Line::Leaving => self.take_leaving(line),
+            Line::Ending => self.take_ending(line),
+        }
+    }
+
+    /// Whether a line of the body may stand here, outside of parentheses.
+    #[tactic(auto, unfolding(crate::specs::Steps::may_stand))]
+    fn may_stand(&self) -> bool
+        ensures { result ≡ rules.may_stand (reached_of self.now) }
+    {
+        is_body(self.place) && is_outside(self.parentheses.as_slice())
+    }
+
+    /// Whether an instruction may stand here.
+    #[tactic(auto, unfolding(crate::specs::Steps::may_act))]
+    fn may_act(&self, instruction: Instruction<'a>) -> bool
+        ensures { result ≡ rules.may_act (reached_of self.now) (action_of instruction.entry) }
+    {
+        let inside = is_plain(instruction)
+            && (is_some(self.items.as_slice()) || is_load(instruction));
+        is_body(self.place) && (is_outside(self.parentheses.as_slice()) || inside)
+    }
+
+    /// Whether a parenthesis may begin here.
+    #[tactic(auto, unfolding(crate::specs::Steps::may_enter))]
+    fn may_enter(&self) -> bool
+        ensures { result ≡ rules.may_enter (reached_of self.now) }
+    {
+        is_body(self.place)
+            && (is_outside(self.parentheses.as_slice()) || is_some(self.items.as_slice()))
+    }
+
+    /// Whether the innermost parenthesis may end here.
+    #[tactic(auto, unfolding(crate::specs::Steps::may_leave))]
+    fn may_leave(&self) -> bool
+        ensures { result ≡ rules.may_leave (reached_of self.now) }
+    {
+        is_body(self.place) && is_some(self.items.as_slice())
+    }
+
+    #[tactic(auto, unfolding(crate::specs::Steps::step))]
+    fn take_heading(&mut self, name: &'a str, line: usize) -> Result<(), TextFault>
+        ensures ok { OnOk result (step line (reached_of self.old) (heading name.now) ≡ Some (reached_of self.new)) }
+        ensures count { OnOk result (self.new.instructions ≡ self.old.instructions) }
+        ensures bad { IfErr result (λ e. e ≡ BadLine line) }
+        ensures none { IfErr result (λ e. step line (reached_of self.old) (heading name.now) ≡ None) }
+    {
+        if !is_start(self.place) {
+            return Err(TextFault::BadLine { line });
+        }
+        self.name = name;
+        self.place = Stage::Declarations;
+        Ok(())
+    }
+
+    #[tactic(auto, unfolding(crate::specs::Steps::step))]
+    fn take_opening(&mut self, scope: Scope, line: usize) -> Result<(), TextFault>
+        ensures ok { OnOk result (step line (reached_of self.old) (opening scope) ≡ Some (reached_of self.new)) }
+        ensures count { OnOk result (self.new.instructions ≡ self.old.instructions) }
+        ensures bad { IfErr result (λ e. e ≡ BadLine line) }
+        ensures none { IfErr result (λ e. step line (reached_of self.old) (opening scope) ≡ None) }
+    {
+        if !is_between(self.place) {
+            return Err(TextFault::BadLine { line });
+        }
+        self.place = Stage::Block(scope);
+        Ok(())
+    }
+
+    #[tactic(auto, unfolding(crate::specs::Steps::step))]
+    fn take_closing(&mut self, line: usize) -> Result<(), TextFault>
+        ensures ok { OnOk result (step line (reached_of self.old) closing ≡ Some (reached_of self.new)) }
+        ensures count { OnOk result (self.new.instructions ≡ self.old.instructions) }
+        ensures bad { IfErr result (λ e. e ≡ BadLine line) }
+        ensures none { IfErr result (λ e. step line (reached_of self.old) closing ≡ None) }
+    {
+        let Some(_) = block_scope(self.place) else {
+            return Err(TextFault::BadLine { line });
+        };
+        self.place = Stage::Declarations;
+        Ok(())
+    }
+
+    /// Takes a declaration, whose names are looked at here.
+    fn take_declaration(
+        &mut self,
+        names: &[Token<'a>],
+        tail: Tail,
+        line: usize,
+    ) -> Result<(), TextFault>
+        ensures ok { OnOk result (option_and_then (steps line (reached_of self.old)) (declared_names tail (symbols_of names.now)) ≡ Some (reached_of self.new)) }
+        ensures count { OnOk result (self.new.instructions ≡ self.old.instructions) }
+        ensures bad { IfErr result (λ e. e ≢ OutOfMemory → e ≡ BadLine line) }
+        ensures none { IfErr result (λ e. e ≢ OutOfMemory → option_and_then (steps line (reached_of self.old)) (declared_names tail (symbols_of names.now)) ≡ None) }
+    {
+        let Some(scope) = block_scope(self.place) else {
+            return Err(TextFault::BadLine { line });
+        };
+        if !may_begin_with(scope, tail.initial) {
+            return Err(TextFault::BadLine { line });
+        }
+        let declaring = Declaring { line, scope, tail };
+        declare(&mut self.declarations, names, declaring)?;
+        Ok(())
+    }
+
+    #[tactic(auto, using(crate::proofs::ListingLemmas::item_rules), unfolding(crate::specs::Steps::step))]
+    fn take_label(&mut self, name: &'a str, line: usize) -> Result<(), TextFault>
+        ensures ok { OnOk result (step line (reached_of self.old) (labelling name.now) ≡ Some (reached_of self.new)) }
+        ensures count { OnOk result (self.new.instructions ≡ self.old.instructions) }
+        ensures bad { IfErr result (λ e. e ≢ OutOfMemory → e ≡ BadLine line) }
+        ensures none { IfErr result (λ e. e ≢ OutOfMemory → step line (reached_of self.old) (labelling name.now) ≡ None) }
+    {
+        if !self.may_stand() {
+            return Err(TextFault::BadLine { line });
+        }
+        self.items.push(Item::Label { line, name })?;
+        self.place = Stage::Body;
+        Ok(())
+    }
+
+    /// Takes an instruction. In a parenthesis the first is a load, and none leaves it.
+    #[tactic(auto, using(crate::proofs::ListingLemmas::item_rules), unfolding(crate::specs::Steps::step))]
+    fn take_acting(&mut self, instruction: Instruction<'a>, line: usize) -> Result<(), TextFault>
+        ensures ok { OnOk result (step line (reached_of self.old) (acting (action_of instruction.entry)) ≡ Some (reached_of self.new)) }
+        ensures count { OnOk result (self.new.instructions ≡ self.old.instructions) }
+        ensures bad { IfErr result (λ e. e ≢ OutOfMemory → e ≡ BadLine line) }
+        ensures none { IfErr result (λ e. e ≢ OutOfMemory → step line (reached_of self.old) (acting (action_of instruction.entry)) ≡ None) }
+    {
+        if !self.may_act(instruction) {
+            return Err(TextFault::BadLine { line });
+        }
+        self.items.push(Item::Instruction { line, instruction })?;
+        self.place = Stage::Body;
+        Ok(())
+    }
+
+    /// Takes an operator with `(`.
+    #[tactic(auto, using(crate::proofs::ListingLemmas::opened_more), unfolding(crate::specs::Steps::step))]
+    fn take_entering(
+        &mut self,
+        operator: Operator,
+        negated: bool,
+        line: usize,
+    ) -> Result<(), TextFault>
+        ensures ok { OnOk result (step line (reached_of self.old) (entering operator negated) ≡ Some (reached_of self.new)) }
+        ensures count { OnOk result (self.new.instructions ≡ self.old.instructions) }
+        ensures bad { IfErr result (λ e. e ≢ OutOfMemory → e ≡ BadLine line) }
+        ensures none { IfErr result (λ e. e ≢ OutOfMemory → step line (reached_of self.old) (entering operator negated) ≡ None) }
+    {
+        if !self.may_enter() {
+            return Err(TextFault::BadLine { line });
+        }
+        let outer = mem::replace(&mut self.items, Vec::new(self.alloc));
+        self.parentheses.push(Open {
+            line,
+            operator,
+            negated,
+            outer,
+        })?;
+        self.place = Stage::Body;
+        Ok(())
+    }
+
+    /// Takes a `)`, before which something has to stand in the parenthesis.
+    #[tactic(auto, using(crate::proofs::ListingLemmas::leaving_rules), unfolding(crate::specs::Steps::step))]
+    fn take_leaving(&mut self, line: usize) -> Result<(), TextFault>
+        ensures ok { OnOk result (step line (reached_of self.old) leaving ≡ Some (reached_of self.new)) }
+        ensures count { OnOk result (self.new.instructions ≡ self.old.instructions) }
+        ensures bad { IfErr result (λ e. e ≢ OutOfMemory → e ≡ BadLine line) }
+        ensures none { IfErr result (λ e. e ≢ OutOfMemory → step line (reached_of self.old) leaving ≡ None) }
+    {
+        if !self.may_leave() {
+            return Err(TextFault::BadLine { line });
+        }
+        let Some(opened) = self.parentheses.pop() else {
+            return Err(TextFault::BadLine { line });
+        };
+        let Open {
+            line: begin,
+            operator,
+            negated,
+            outer,
+        } = opened;
+        let items = mem::replace(&mut self.items, outer);
+        self.items.push(Item::Block {
+            line: begin,
+            operator,
+            negated,
+            items,
+            end: line,
+        })?;
+        self.place = Stage::Body;
+        Ok(())
+    }
+
+    #[tactic(auto, unfolding(crate::specs::Steps::step))]
+    fn take_ending(&mut self, line: usize) -> Result<(), TextFault>
+        ensures ok { OnOk result (step line (reached_of self.old) ending ≡ Some (reached_of self.new)) }
+        ensures count { OnOk result (self.new.instructions ≡ self.old.instructions) }
+        ensures bad { IfErr result (λ e. e ≡ BadLine line) }
+        ensures none { IfErr result (λ e. step line (reached_of self.old) ending ≡ None) }
+    {
+        if !self.may_stand() {
+            return Err(TextFault::BadLine { line });
+        }
+        self.place = Stage::Finished;
+        Ok(())
+    }
+
+    #[tactic(auto, using(crate::proofs::ListingLemmas::steps_rules))]
+    fn take_statement(&mut self, statement: Statement<'a>, line: usize) -> Result<(), TextFault>
+        ensures ok { OnOk result (steps line (reached_of self.old) (statement_parts statement.entry) ≡ Some (reached_of self.new)) }
+        ensures count { OnOk result (self.new.instructions ≡ self.old.instructions) }
+        ensures bad { IfErr result (λ e. e ≢ OutOfMemory → e ≡ BadLine line) }
+        ensures none { IfErr result (λ e. e ≢ OutOfMemory → steps line (reached_of self.old) (statement_parts statement.entry) ≡ None) }
+    {
+        match statement {
+            Statement::Plain(instruction) => self.take_acting(instruction, line),
+            Statement::Open {
+                operator,
+                negated,
+                operand: None,
+            } => self.take_entering(operator, negated, line),
+            Statement::Open {
+                operator,
+                negated,
+                operand: Some(operand),
+            } => self.take_loaded(operator, negated, operand, line),
+        }
+    }
+
+    /// Takes an operator with `(` and the operand behind it.
+    #[tactic(auto, using(crate::proofs::ListingLemmas::steps_rules))]
+    fn take_loaded(
+        &mut self,
+        operator: Operator,
+        negated: bool,
+        operand: Operand<'a>,
+        line: usize,
+    ) -> Result<(), TextFault>
+        ensures ok { OnOk result (steps line (reached_of self.old) (opened_parts operator negated (Some operand.entry)) ≡ Some (reached_of self.new)) }
+        ensures count { OnOk result (self.new.instructions ≡ self.old.instructions) }
+        ensures bad { IfErr result (λ e. e ≢ OutOfMemory → e ≡ BadLine line) }
+        ensures none { IfErr result (λ e. e ≢ OutOfMemory → steps line (reached_of self.old) (opened_parts operator negated (Some operand.entry)) ≡ None) }
+    {
+        self.take_entering(operator, negated, line)?;
+        let load = Instruction::Load {
+            negated: false,
+            operand,
+        };
+        self.take_acting(load, line)?;
+        Ok(())
+    }
+
+    #[tactic(auto, using(crate::proofs::ListingLemmas::steps_rules))]
+    fn take_labelled(
+        &mut self,
+        name: &'a str,
+        statement: Statement<'a>,
+        line: usize,
+    ) -> Result<(), TextFault>
+        ensures ok { OnOk result (steps line (reached_of self.old) (labelling name.now ∷ statement_parts statement.entry) ≡ Some (reached_of self.new)) }
+        ensures count { OnOk result (self.new.instructions ≡ self.old.instructions) }
+        ensures bad { IfErr result (λ e. e ≢ OutOfMemory → e ≡ BadLine line) }
+        ensures none { IfErr result (λ e. e ≢ OutOfMemory → steps line (reached_of self.old) (labelling name.now ∷ statement_parts statement.entry) ≡ None) }
+    {
+        self.take_label(name, line)?;
+        self.take_statement(statement, line)?;
+        Ok(())
+    }
+}
+
+#[tactic(auto, using(crate::proofs::ListingLemmas::outside_rules))]
+fn is_outside(parentheses: &[Open<'_>]) -> bool
+    ensures { result ≡ rules.is_outside (reverse (map opened_of parentheses.now)) }
+{
+    parentheses.is_empty()
+}
+
+#[tactic(auto, using(crate::proofs::ListingLemmas::some_rules))]
+fn is_some(items: &[Item<'_>]) -> bool
+    ensures { result ≡ rules.is_some (map entry_of items.now) }
+{
+    !items.is_empty()
 }
 
 /// What a line of declarations gives to each of its names.
@@ -165,7 +521,6 @@ struct Declaring {
     scope: Scope,
     tail: Tail,
 }
-
 /// Declares the names of a list, `name {"," name}`.
 #[tactic(auto, using(crate::proofs::ListingLemmas::end_rules))]
 fn declare<'a>(
@@ -214,7 +569,7 @@ fn declare_token<'a>(
 {
     let line = declaring.line;
     if after_name {
-        if is_mark(token, Mark::Comma) {
+        if is_comma(token) {
             return Ok(false);
         }
         return Err(TextFault::BadLine { line });

@@ -2,22 +2,24 @@
 ghost use Rattle.std.specs.Prelude.{◌≡◌, ◌≤◌, ◌<◌, ◌+◌, ◌*◌, ◌^◌, Option, length, min, option_map, option_and_then, IfSome};
 ghost use Rattle.std.specs.Char.{is_ascii_alphabetic};
 ghost use Rattle.std.specs.List.{prefix_len};
-ghost use Rattle.il_text.specs.Durations.{seen, capped_duration};
+ghost use Rattle.il_text.specs.Durations.{seen, capped_duration, capped_time};
 ghost use Rattle.il_text.specs.Literals as spec;
 ghost use Rattle.il_text.specs.Runs.{capped, capped_signed};
 
 use crate::character::byte_at;
+use crate::program::Literal;
 use bay_base::names::{same_letters, same_name};
 
-/// What is known of a word that is to be a literal.
+/// Why a word is no literal.
 #[derive(Clone, Copy, Debug, PartialEq, Eq)]
-pub(crate) enum Judged {
-    Fine,
+pub(crate) enum LiteralFault {
+    /// It is not formed as a literal.
     Malformed,
+    /// It is formed as one, and its value is outside its type.
     OutOfRange,
 }
 
-/// Greater magnitudes count as this one, which no type holds.
+/// Greater milliseconds count as this many, which no duration has.
 const CAP: u64 = 0x1_0000_0000;
 
 /// The number that digits write, with single underscores between them.
@@ -34,7 +36,9 @@ fn number(digits: &[u8], radix: u32) -> Option<u64>
             wanted = true;
         } else {
             let digit = char::from(*byte).to_digit(radix)?;
-            value = (value * u64::from(radix) + u64::from(digit)).min(CAP);
+            value = value
+                .saturating_mul(u64::from(radix))
+                .saturating_add(u64::from(digit));
             wanted = false;
         }
     }
@@ -98,68 +102,131 @@ fn integer(word: &str) -> Option<(bool, u64)>
     }
 }
 
-fn judge(number: Option<(bool, u64)>, below: u64, above: u64) -> Judged
-    ensures { result ≡ spec.within_range below above number }
+/// The value of a number, within 64 bits.
+fn signed(number: Option<(bool, u64)>) -> Result<i64, LiteralFault>
+    ensures { result ≡ spec.signed number }
 {
     match number {
-        None => Judged::Malformed,
-        Some((negative, magnitude)) => {
-            if magnitude <= (if negative { below } else { above }) {
-                Judged::Fine
-            } else {
-                Judged::OutOfRange
-            }
+        None => Err(LiteralFault::Malformed),
+        Some((false, magnitude)) if magnitude <= 0x7FFF_FFFF_FFFF_FFFF => Ok(magnitude as i64),
+        Some((true, 0)) => Ok(0),
+        Some((true, magnitude)) if magnitude <= 0x8000_0000_0000_0000 => {
+            Ok(-1 - (magnitude - 1) as i64)
         }
+        _ => Err(LiteralFault::OutOfRange),
     }
 }
 
-/// Judges a literal without a type, whose largest range is that of DINT.
+/// A number without a type.
 #[tactic(auto, unfolding(crate::specs::Literals::untyped))]
-pub(crate) fn untyped(number: Option<(bool, u64)>) -> Judged
+pub(crate) fn untyped(number: Option<(bool, u64)>) -> Result<Literal, LiteralFault>
     ensures { result ≡ spec.untyped number }
 {
-    judge(number, 2_147_483_648, 2_147_483_647)
+    match signed(number) {
+        Ok(value) => Ok(Literal::Number(value)),
+        Err(fault) => Err(fault),
+    }
 }
 
-fn is_truth(word: &str) -> bool
-    ensures { result ≡ spec.is_truth word.now }
+fn bool_literal(value: i64) -> Result<Literal, LiteralFault>
+    ensures { result ≡ spec.bool_literal value }
 {
-    same_name(word, "TRUE") || same_name(word, "FALSE")
+    match value {
+        0 => Ok(Literal::Truth(false)),
+        1 => Ok(Literal::Truth(true)),
+        _ => Err(LiteralFault::OutOfRange),
+    }
 }
 
-#[tactic(auto, using(crate::proofs::LiteralLemmas::judged_capped), unfolding(crate::specs::Literals::typed_bool))]
-fn typed_bool(word: &str) -> Judged
+fn int_literal(value: i64) -> Result<Literal, LiteralFault>
+    ensures { result ≡ spec.int_literal value }
+{
+    if -32_768 <= value && value <= 32_767 {
+        Ok(Literal::Int(value as i16))
+    } else {
+        Err(LiteralFault::OutOfRange)
+    }
+}
+
+fn dint_literal(value: i64) -> Result<Literal, LiteralFault>
+    ensures { result ≡ spec.dint_literal value }
+{
+    if -2_147_483_648 <= value && value <= 2_147_483_647 {
+        Ok(Literal::Dint(value as i32))
+    } else {
+        Err(LiteralFault::OutOfRange)
+    }
+}
+
+fn truth_of(word: &str) -> Option<bool>
+    ensures { result ≡ spec.truth_of word.now }
+{
+    if same_name(word, "TRUE") {
+        return Some(true);
+    }
+    if same_name(word, "FALSE") {
+        return Some(false);
+    }
+    None
+}
+
+/// The number behind a type of numbers, where a truth value is outside the type.
+#[tactic(auto, using(crate::proofs::LiteralLemmas::signed_capped), unfolding(crate::specs::Literals::typed_number))]
+fn typed_number(word: &str) -> Result<i64, LiteralFault>
+    ensures { result ≡ spec.typed_number word.now }
+{
+    match truth_of(word) {
+        Some(_) => Err(LiteralFault::OutOfRange),
+        None => signed(integer(word)),
+    }
+}
+
+#[tactic(auto, using(crate::proofs::LiteralLemmas::signed_capped), unfolding(crate::specs::Literals::typed_bool))]
+fn typed_bool(word: &str) -> Result<Literal, LiteralFault>
     ensures { result ≡ spec.typed_bool word.now }
 {
-    if is_truth(word) {
-        return Judged::Fine;
+    if let Some(value) = truth_of(word) {
+        return Ok(Literal::Truth(value));
     }
-    judge(integer(word), 0, 1)
+    match signed(integer(word)) {
+        Ok(value) => bool_literal(value),
+        Err(fault) => Err(fault),
+    }
 }
 
-#[tactic(auto, using(crate::proofs::LiteralLemmas::judged_capped), unfolding(crate::specs::Literals::typed_int))]
-fn typed_int(word: &str) -> Judged
+#[tactic(auto, unfolding(crate::specs::Literals::typed_int))]
+fn typed_int(word: &str) -> Result<Literal, LiteralFault>
     ensures { result ≡ spec.typed_int word.now }
 {
-    if is_truth(word) {
-        return Judged::OutOfRange;
+    match typed_number(word) {
+        Ok(value) => int_literal(value),
+        Err(fault) => Err(fault),
     }
-    judge(integer(word), 32_768, 32_767)
 }
 
-#[tactic(auto, using(crate::proofs::LiteralLemmas::judged_capped), unfolding(crate::specs::Literals::typed_dint))]
-fn typed_dint(word: &str) -> Judged
+#[tactic(auto, unfolding(crate::specs::Literals::typed_dint))]
+fn typed_dint(word: &str) -> Result<Literal, LiteralFault>
     ensures { result ≡ spec.typed_dint word.now }
 {
-    if is_truth(word) {
-        return Judged::OutOfRange;
+    match typed_number(word) {
+        Ok(value) => dint_literal(value),
+        Err(fault) => Err(fault),
     }
-    judge(integer(word), 2_147_483_648, 2_147_483_647)
 }
 
-/// Judges a literal with something before its first `#`.
+#[tactic(auto, unfolding(crate::specs::Literals::typed_lint))]
+fn typed_lint(word: &str) -> Result<Literal, LiteralFault>
+    ensures { result ≡ spec.typed_lint word.now }
+{
+    match typed_number(word) {
+        Ok(value) => Ok(Literal::Lint(value)),
+        Err(fault) => Err(fault),
+    }
+}
+
+/// Reads a literal with something before its first `#`.
 #[tactic(auto, using(crate::proofs::LiteralLemmas::untyped_capped), unfolding(crate::specs::Literals::prefixed))]
-pub(crate) fn prefixed(before: &str, word: &str) -> Judged
+pub(crate) fn prefixed(before: &str, word: &str) -> Result<Literal, LiteralFault>
     ensures { result ≡ spec.prefixed before.now word.now }
 {
     if same_name(before, "BOOL") {
@@ -170,6 +237,9 @@ pub(crate) fn prefixed(before: &str, word: &str) -> Judged
     }
     if same_name(before, "DINT") {
         return typed_dint(word);
+    }
+    if same_name(before, "LINT") {
+        return typed_lint(word);
     }
     if same_name(before, "T") || same_name(before, "TIME") {
         return typed_time(word.as_bytes());
@@ -244,7 +314,7 @@ fn part<'a>(duration: Option<Duration<'a>>, unit: &[u8], factor: u64) -> Option<
 
 /// The milliseconds of a duration: parts in falling units, of which the first may pass the next unit.
 fn milliseconds(word: &[u8]) -> Option<u64>
-    ensures { result ≡ capped (spec.milliseconds word.now) }
+    ensures { result ≡ capped_time (spec.milliseconds word.now) }
 {
     let whole = Duration {
         rest: word,
@@ -265,18 +335,19 @@ fn milliseconds(word: &[u8]) -> Option<u64>
     }
 }
 
-#[tactic(auto, using(crate::proofs::DurationLemmas::span_capped), unfolding(crate::specs::Literals::typed_time))]
-fn typed_time(word: &[u8]) -> Judged
+#[tactic(auto, using(crate::proofs::DurationLemmas::time_capped), unfolding(crate::specs::Literals::typed_time))]
+fn typed_time(word: &[u8]) -> Result<Literal, LiteralFault>
     ensures { result ≡ spec.typed_time word.now }
 {
-    match milliseconds(word) {
-        None => Judged::Malformed,
-        Some(total) => {
-            if total <= 2_147_483_647 {
-                Judged::Fine
-            } else {
-                Judged::OutOfRange
-            }
-        }
+    time_literal(milliseconds(word))
+}
+
+fn time_literal(milliseconds: Option<u64>) -> Result<Literal, LiteralFault>
+    ensures { result ≡ spec.time_literal milliseconds }
+{
+    match milliseconds {
+        None => Err(LiteralFault::Malformed),
+        Some(total) if total <= 2_147_483_647 => Ok(Literal::Time(total as u32)),
+        Some(_) => Err(LiteralFault::OutOfRange),
     }
 }

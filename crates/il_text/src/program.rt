@@ -15,9 +15,9 @@ pub struct Declaration<'a> {
     pub line: usize,
     pub scope: Scope,
     pub name: &'a str,
-    pub kind: ElementaryType,
-    /// The initial value, where the text gives one.
-    pub initial: Option<bool>,
+    pub kind: DeclaredType,
+    /// The initial value, where the text gives one; an external and a timer have none.
+    pub initial: Option<Literal>,
 }
 
 /// Where a declared variable lives (IEC 61131-3:2003, 2.4.3).
@@ -29,13 +29,64 @@ pub enum Scope {
     External,
 }
 
+/// The type of a declared name.
+#[derive(Clone, Copy, Debug, PartialEq, Eq)]
+pub enum DeclaredType {
+    /// A variable of this type.
+    Elementary(ElementaryType),
+    /// An instance of a timer.
+    Timer(TimerKind),
+}
+
+/// A timer (IEC 61131-3:2003, 2.5.2.3.4).
+#[derive(Clone, Copy, Debug, PartialEq, Eq)]
+pub enum TimerKind {
+    /// `TON`
+    OnDelay,
+    /// `TOF`
+    OffDelay,
+}
+
+/// A literal: its type, where it has one, and its value (IEC 61131-3:2003, 2.2).
+#[derive(Clone, Copy, Debug, PartialEq, Eq)]
+pub enum Literal {
+    /// `TRUE`, `FALSE`, or a typed BOOL.
+    Truth(bool),
+    /// A number without a type.
+    Number(i64),
+    /// A typed INT.
+    Int(i16),
+    /// A typed DINT.
+    Dint(i32),
+    /// A typed LINT.
+    Lint(i64),
+    /// A TIME of 0 to 2,147,483,647 milliseconds.
+    Time(u32),
+}
+
+/// What a timer gives (IEC 61131-3:2003, table 38).
+#[derive(Clone, Copy, Debug, PartialEq, Eq)]
+pub enum Output {
+    /// `.Q`, a BOOL.
+    Q,
+    /// `.ET`, the elapsed time.
+    Et,
+}
+
+/// What an instruction reads or writes by name, with the spelling of the text.
+#[derive(Clone, Copy, Debug, PartialEq, Eq)]
+pub enum Variable<'a> {
+    /// A name.
+    Name(&'a str),
+    /// A timer's name and one of its outputs.
+    Output { timer: &'a str, output: Output },
+}
+
 /// What an instruction reads.
 #[derive(Clone, Copy, Debug, PartialEq, Eq)]
 pub enum Operand<'a> {
-    /// `TRUE` or `FALSE`.
-    Literal(bool),
-    /// A variable, with the spelling of the text.
-    Name(&'a str),
+    Literal(Literal),
+    Variable(Variable<'a>),
 }
 
 /// An operator that combines the current result with an operand (IEC 61131-3:2003, table 52).
@@ -43,6 +94,73 @@ pub enum Operand<'a> {
 pub enum Operator {
     And,
     Or,
+    Xor,
+    Add,
+    Sub,
+    Mul,
+    Div,
+    Mod,
+    Gt,
+    Ge,
+    Eq,
+    Ne,
+    Le,
+    Lt,
+}
+
+/// How a result is stored (IEC 61131-3:2003, table 52).
+#[derive(Clone, Copy, Debug, PartialEq, Eq)]
+pub enum StoreKind {
+    /// `ST`: the result.
+    Plain,
+    /// `STN`: the negated result.
+    Negated,
+    /// `S`: TRUE, where the result is TRUE.
+    Set,
+    /// `R`: FALSE, where the result is TRUE.
+    Reset,
+}
+
+/// When a jump or a return goes (IEC 61131-3:2003, table 52).
+#[derive(Clone, Copy, Debug, PartialEq, Eq)]
+pub enum Condition {
+    /// `JMP`, `RET`
+    Always,
+    /// `JMPC`, `RETC`: where the result is TRUE.
+    IfTrue,
+    /// `JMPCN`, `RETCN`: where the result is FALSE.
+    IfFalse,
+}
+
+/// A conversion of the current result to a wider type.
+#[derive(Clone, Copy, Debug, PartialEq, Eq)]
+pub enum Conversion {
+    IntToDint,
+    DintToLint,
+}
+
+/// An input of a timer (IEC 61131-3:2003, table 38).
+#[derive(Clone, Copy, Debug, PartialEq, Eq)]
+pub enum Input {
+    /// `IN`, a BOOL.
+    In,
+    /// `PT`, the preset time.
+    Pt,
+}
+
+/// What a call gives to one input.
+#[derive(Clone, Copy, Debug, PartialEq, Eq)]
+pub struct Argument<'a> {
+    pub input: Input,
+    pub operand: Operand<'a>,
+}
+
+/// The arguments of a call in the order of the text, of which no two are of one input.
+#[derive(Clone, Copy, Debug, PartialEq, Eq)]
+pub enum Arguments<'a> {
+    None,
+    One(Argument<'a>),
+    Two(Argument<'a>, Argument<'a>),
 }
 
 /// An instruction (IEC 61131-3:2003, 3.2 and table 52).
@@ -53,28 +171,55 @@ pub enum Instruction<'a> {
         negated: bool,
         operand: Operand<'a>,
     },
-    /// `ST`: the current result is stored.
+    /// `ST`, `STN`, `S`, `R`: the current result is stored.
     Store {
-        target: &'a str,
+        kind: StoreKind,
+        target: Variable<'a>,
     },
-    /// `AND`, `OR`: the current result is combined with the operand.
+    /// An operator: the current result is combined with the operand, which is negated first where it
+    /// says so.
     Combine {
         operator: Operator,
+        negated: bool,
         operand: Operand<'a>,
+    },
+    /// `NOT`: the current result is negated.
+    Not,
+    /// `INT_TO_DINT`, `DINT_TO_LINT`: the current result is widened.
+    Convert(Conversion),
+    /// A jump to a label.
+    Jump {
+        condition: Condition,
+        label: &'a str,
+    },
+    /// The end of the program's run.
+    Return(Condition),
+    /// `CAL`: a timer is run.
+    Call {
+        timer: &'a str,
+        arguments: Arguments<'a>,
     },
 }
 
-/// An instruction, or the operator of a parenthesis with the items in it. Lines are counted from 1.
+/// A label, an instruction, or a parenthesis. Lines are counted from 1.
 #[derive(Drop)]
 pub enum Item<'a> {
+    /// A label; the instruction behind it may stand on the same line.
+    Label {
+        line: usize,
+        name: &'a str,
+    },
     Instruction {
         line: usize,
         instruction: Instruction<'a>,
     },
-    /// The line of `operator(`, the items of the parenthesis, and the line of its `)`.
+    /// The line of `operator(`, the items of the parenthesis, and the line of its `)`. The result of the
+    /// items is negated first where it says so. An operand behind the parenthesis is a load of it on the
+    /// same line, which is the first item.
     Block {
         line: usize,
         operator: Operator,
+        negated: bool,
         items: Vec<Item<'a>>,
         end: usize,
     },

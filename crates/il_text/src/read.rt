@@ -2,15 +2,14 @@
 ghost use Rattle.std.specs.Prelude.{◌≡◌, ◌≢◌, ◌<◌, ◌≤◌, ◌+◌, true, false, drop, length, Ok, Err, OnOk, IfOk, IfErr};
 ghost use Rattle.il_text.specs.ListingViews.{reached_of};
 ghost use Rattle.il_text.specs.Pieces.{opens as starts_comment};
-ghost use Rattle.il_text.specs.Reading.{program_of};
+ghost use Rattle.il_text.specs.Reading.{listed, program_of};
 ghost use Rattle.il_text.specs.Views.{plain_program};
 ghost use Rattle.il_text.specs.declared.fault.TextFault.TheVariants.{OutOfMemory};
 ghost use Rattle.il_text.specs.Places.{last_line};
 
 use crate::fault::TextFault;
-use crate::form::Stage;
 use crate::lexeme::{Lexeme, lexeme_at};
-use crate::listing::{Draft, Position};
+use crate::listing::{Draft, Position, Stage};
 use crate::piece::{closes, ends, opens, piece_end};
 use crate::program::Program;
 use crate::token::Token;
@@ -61,11 +60,13 @@ pub fn read_program<'a>(alloc: Global, text: &'a str) -> Result<Program<'a>, Tex
         listing,
     } = reader;
     let Draft {
+        alloc: _,
         place: _,
         instructions: _,
         name,
         declarations,
         items,
+        parentheses: _,
     } = listing;
     Ok(Program {
         name,
@@ -203,7 +204,7 @@ impl<'a> Reader<'a> {
 
     /// Takes the last line, after which the program has to be whole.
     fn finish(&mut self) -> Result<(), TextFault>
-        ensures ok { OnOk result (whole_of self.old ≡ Ok (reached_of self.new.listing).listing) }
+        ensures ok { OnOk result (whole_of self.old ≡ Ok (listed (reached_of self.new.listing))) }
         ensures refused { IfErr result (λ e. e ≢ OutOfMemory → whole_of self.old ≡ Err e) }
     {
         let position = Position {

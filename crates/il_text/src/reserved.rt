@@ -1,61 +1,83 @@
-// The reserved words of the lines that are read.
-ghost use Rattle.std.specs.Prelude.{◌≡◌};
+// The reserved words as tokens.
+ghost use Rattle.std.specs.Prelude.{◌≡◌, option_map};
+ghost use Rattle.il_text.specs.TokenViews.{symbol_of};
 ghost use Rattle.il_text.specs.Words as spec;
+ghost use Rattle.il_text.specs.declared.token.Mnemonic.TheVariants.{Combine};
 
+use crate::program::{
+    Condition, Conversion, DeclaredType, Literal, Operator, StoreKind, TimerKind,
+};
+use crate::token::{Frame, Mnemonic, Token};
+use bay_base::types::ElementaryType;
 use bay_base::words::{ReservedWord, reserved_word};
 
-/// A reserved word of the read forms, or another one.
-#[derive(Clone, Copy, Debug, PartialEq, Eq)]
-pub(crate) enum Reserved {
-    Program,
-    EndProgram,
-    Var,
-    VarExternal,
-    EndVar,
-    Bool,
-    Load,
-    LoadNot,
-    Store,
-    And,
-    Or,
-    Other,
+pub(crate) fn combine(operator: Operator, negated: bool) -> Mnemonic
+    ensures { result ≡ Combine operator negated }
+{
+    Mnemonic::Combine { operator, negated }
 }
 
-impl Reserved {
-    /// Whether two reserved words are the same.
-    pub(crate) fn is(self, other: Reserved) -> bool
-        ensures { result ≡ spec.same_word self other }
-    {
-        self as u8 == other as u8
-    }
-}
-
-fn read_form_of(word: ReservedWord) -> Reserved
-    ensures { result ≡ spec.read_form_of word }
+fn token_of<'a>(word: ReservedWord) -> Token<'a>
+    ensures { symbol_of result ≡ spec.symbol_of_word word }
 {
     match word {
-        ReservedWord::Program => Reserved::Program,
-        ReservedWord::EndProgram => Reserved::EndProgram,
-        ReservedWord::Var => Reserved::Var,
-        ReservedWord::VarExternal => Reserved::VarExternal,
-        ReservedWord::EndVar => Reserved::EndVar,
-        ReservedWord::Bool => Reserved::Bool,
-        ReservedWord::Ld => Reserved::Load,
-        ReservedWord::Ldn => Reserved::LoadNot,
-        ReservedWord::St => Reserved::Store,
-        ReservedWord::And => Reserved::And,
-        ReservedWord::Or => Reserved::Or,
-        _ => Reserved::Other,
+        ReservedWord::Ld => Token::Mnemonic(Mnemonic::Load { negated: false }),
+        ReservedWord::Ldn => Token::Mnemonic(Mnemonic::Load { negated: true }),
+        ReservedWord::St => Token::Mnemonic(Mnemonic::Store(StoreKind::Plain)),
+        ReservedWord::Stn => Token::Mnemonic(Mnemonic::Store(StoreKind::Negated)),
+        ReservedWord::S => Token::Mnemonic(Mnemonic::Store(StoreKind::Set)),
+        ReservedWord::R => Token::Mnemonic(Mnemonic::Store(StoreKind::Reset)),
+        ReservedWord::And => Token::Mnemonic(combine(Operator::And, false)),
+        ReservedWord::Andn => Token::Mnemonic(combine(Operator::And, true)),
+        ReservedWord::Or => Token::Mnemonic(combine(Operator::Or, false)),
+        ReservedWord::Orn => Token::Mnemonic(combine(Operator::Or, true)),
+        ReservedWord::Xor => Token::Mnemonic(combine(Operator::Xor, false)),
+        ReservedWord::Xorn => Token::Mnemonic(combine(Operator::Xor, true)),
+        ReservedWord::Not => Token::Mnemonic(Mnemonic::Not),
+        ReservedWord::Add => Token::Mnemonic(combine(Operator::Add, false)),
+        ReservedWord::Sub => Token::Mnemonic(combine(Operator::Sub, false)),
+        ReservedWord::Mul => Token::Mnemonic(combine(Operator::Mul, false)),
+        ReservedWord::Div => Token::Mnemonic(combine(Operator::Div, false)),
+        ReservedWord::Mod => Token::Mnemonic(combine(Operator::Mod, false)),
+        ReservedWord::Gt => Token::Mnemonic(combine(Operator::Gt, false)),
+        ReservedWord::Ge => Token::Mnemonic(combine(Operator::Ge, false)),
+        ReservedWord::Eq => Token::Mnemonic(combine(Operator::Eq, false)),
+        ReservedWord::Ne => Token::Mnemonic(combine(Operator::Ne, false)),
+        ReservedWord::Le => Token::Mnemonic(combine(Operator::Le, false)),
+        ReservedWord::Lt => Token::Mnemonic(combine(Operator::Lt, false)),
+        ReservedWord::Jmp => Token::Mnemonic(Mnemonic::Jump(Condition::Always)),
+        ReservedWord::Jmpc => Token::Mnemonic(Mnemonic::Jump(Condition::IfTrue)),
+        ReservedWord::Jmpcn => Token::Mnemonic(Mnemonic::Jump(Condition::IfFalse)),
+        ReservedWord::Cal => Token::Mnemonic(Mnemonic::Call),
+        ReservedWord::Ret => Token::Mnemonic(Mnemonic::Return(Condition::Always)),
+        ReservedWord::Retc => Token::Mnemonic(Mnemonic::Return(Condition::IfTrue)),
+        ReservedWord::Retcn => Token::Mnemonic(Mnemonic::Return(Condition::IfFalse)),
+        ReservedWord::IntToDint => Token::Mnemonic(Mnemonic::Convert(Conversion::IntToDint)),
+        ReservedWord::DintToLint => Token::Mnemonic(Mnemonic::Convert(Conversion::DintToLint)),
+        ReservedWord::Program => Token::Frame(Frame::Program),
+        ReservedWord::EndProgram => Token::Frame(Frame::EndProgram),
+        ReservedWord::Var => Token::Frame(Frame::Var),
+        ReservedWord::VarExternal => Token::Frame(Frame::VarExternal),
+        ReservedWord::EndVar => Token::Frame(Frame::EndVar),
+        ReservedWord::Bool => Token::Type(DeclaredType::Elementary(ElementaryType::Bool)),
+        ReservedWord::Int => Token::Type(DeclaredType::Elementary(ElementaryType::Int)),
+        ReservedWord::Dint => Token::Type(DeclaredType::Elementary(ElementaryType::Dint)),
+        ReservedWord::Lint => Token::Type(DeclaredType::Elementary(ElementaryType::Lint)),
+        ReservedWord::Time => Token::Type(DeclaredType::Elementary(ElementaryType::Time)),
+        ReservedWord::Ton => Token::Type(DeclaredType::Timer(TimerKind::OnDelay)),
+        ReservedWord::Tof => Token::Type(DeclaredType::Timer(TimerKind::OffDelay)),
+        ReservedWord::True => Token::Literal(Literal::Truth(true)),
+        ReservedWord::False => Token::Literal(Literal::Truth(false)),
     }
 }
 
-/// The reserved word that a word is, if it is one.
-#[tactic(auto, unfolding(crate::specs::Words::reserved_form))]
-pub(crate) fn reserved_form(word: &str) -> Option<Reserved>
-    ensures { result ≡ spec.reserved_form word.now }
+/// The token that a reserved word is, if the word is one.
+#[tactic(auto, unfolding(crate::specs::Words::reserved_symbol))]
+pub(crate) fn reserved_token<'a>(word: &str) -> Option<Token<'a>>
+    ensures { option_map symbol_of result ≡ spec.reserved_symbol word.now }
 {
     match reserved_word(word) {
-        Some(found) => Some(read_form_of(found)),
+        Some(found) => Some(token_of(found)),
         None => None,
     }
 }

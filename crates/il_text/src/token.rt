@@ -1,10 +1,29 @@
 // The tokens of a text.
-ghost use Rattle.std.specs.Prelude.{◌≡◌, ◌==◌};
-ghost use Rattle.il_text.specs.Forms.{mark_number};
+use crate::program::{Condition, Conversion, DeclaredType, Literal, Operator, StoreKind};
 
-use crate::reserved::Reserved;
+/// A word of a program's frame.
+#[derive(Clone, Copy, Debug, PartialEq, Eq)]
+pub(crate) enum Frame {
+    Program,
+    EndProgram,
+    Var,
+    VarExternal,
+    EndVar,
+}
 
-/// A mark; `&` and `&N` are operators.
+/// An operator of a line (IEC 61131-3:2003, table 52).
+#[derive(Clone, Copy, Debug, PartialEq, Eq)]
+pub(crate) enum Mnemonic {
+    Load { negated: bool },
+    Store(StoreKind),
+    Combine { operator: Operator, negated: bool },
+    Not,
+    Convert(Conversion),
+    Return(Condition),
+    Jump(Condition),
+    Call,
+}
+
 #[derive(Clone, Copy, Debug, PartialEq, Eq)]
 pub(crate) enum Mark {
     Colon,
@@ -14,26 +33,15 @@ pub(crate) enum Mark {
     Dot,
     Open,
     Close,
-    Ampersand,
-}
-
-impl Mark {
-    /// Whether two marks are the same.
-    pub(crate) fn is(self, other: Mark) -> bool
-        ensures { result ≡ (mark_number self == mark_number other) }
-    {
-        self as u8 == other as u8
-    }
 }
 
 /// A token; a name is a slice of the text.
 #[derive(Clone, Copy, Debug, PartialEq, Eq)]
 pub(crate) enum Token<'a> {
     Name(&'a str),
-    Reserved(Reserved),
-    /// `TRUE` or `FALSE`.
-    Truth(bool),
-    /// Any other literal.
-    Literal,
+    Frame(Frame),
+    Type(DeclaredType),
+    Literal(Literal),
+    Mnemonic(Mnemonic),
     Mark(Mark),
 }

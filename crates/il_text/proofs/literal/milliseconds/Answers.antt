@@ -1,7 +1,6 @@
 use Rattle.std.proofs.Common.{Option, Some, false, option_map, option_and_then, sym, refl, ap, ◌∙◌}
 use Rattle.il_text.specs.Literals.{Duration, milliseconds, total_of}
-use Rattle.il_text.specs.Runs.{capped}
-use Rattle.il_text.specs.Durations.{seen}
+use Rattle.il_text.specs.Durations.{seen, capped_time}
 use Rattle.il_text.proofs.DurationLemmas.{none_from, total_from}
 use Rattle.il_text.proofs.literal.milliseconds.Goals.{else-last-via-then-last+else-is_empty, else-last-via-else-last}
 use Rattle.il_text.proofs.literal.milliseconds.Goals as goal
@@ -16,7 +15,7 @@ returns-in_default c =
     let seconds = c.part-seconds.ensures _ minutes in
     let last = c.part.ensures _ seconds in
     let none = none_from _ (last ∙ ap (option_map seen) c.in_default.is) in
-    sym (ap (λ (o : Option Duration). capped (option_and_then total_of o)) none)
+    sym (ap (λ (o : Option Duration). capped_time (option_and_then total_of o)) none)
 
 pub returns-then-is_empty : goal.returns-then-is_empty
 unfolding milliseconds

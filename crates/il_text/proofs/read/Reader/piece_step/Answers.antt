@@ -1,5 +1,5 @@
 use Rattle.std.proofs.Common.{ℕ, List, sym, subst, ◌∙◌}
-use Rattle.il_text.specs.ListingViews.{reached_of}
+use Rattle.il_text.specs.ListingViews.{read_of}
 use Rattle.il_text.specs.Runs.{IsPiece}
 use Rattle.il_text.specs.TokenViews.{symbols_of}
 use Rattle.il_text.proofs.ReadLemmas.{step_ended}
@@ -10,11 +10,11 @@ returns-in-Ok-clause-ok c =
     let old = c.args.self.now in
     let piece = subst (λ (bs : List ℕ). IsPiece bs old.at c.piece_end-end.result) c.as_bytes.ensures.value c.piece_end-end.ensures.piece in
     c.in-Ok.ensures.ok
-    ∙ sym (step_ended old.last (reached_of old.listing) old.line (symbols_of old.tokens.items) old.text.now old.in_comment old.at _ c.requires.outside piece c.in-LineEnd.ensures)
+    ∙ sym (step_ended old.last (read_of old.listing) old.line (symbols_of old.tokens.items) old.text.now old.in_comment old.at _ c.requires.outside piece c.in-LineEnd.ensures)
 
 pub returns-in-Err-clause-refused : goal.returns-in-Err-clause-refused
 returns-in-Err-clause-refused c = λ m.
     let old = c.args.self.now in
     let piece = subst (λ (bs : List ℕ). IsPiece bs old.at c.piece_end-end.result) c.as_bytes.ensures.value c.piece_end-end.ensures.piece in
-    step_ended old.last (reached_of old.listing) old.line (symbols_of old.tokens.items) old.text.now old.in_comment old.at _ c.requires.outside piece c.in-LineEnd.ensures
+    step_ended old.last (read_of old.listing) old.line (symbols_of old.tokens.items) old.text.now old.in_comment old.at _ c.requires.outside piece c.in-LineEnd.ensures
     ∙ c.in-Err.ensures.refused m

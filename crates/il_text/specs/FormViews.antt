@@ -1,0 +1,37 @@
+-- The parts of the code's lines.
+use Rattle.std.specs.Prelude.{Bool, false, List, [], ◌∷◌, Option, Some, None}
+use Rattle.il_text.specs.Forms.{declared_names}
+use Rattle.il_text.specs.Listing.{load}
+use Rattle.il_text.specs.Parts.{Part, heading, opening, closing, labelling, acting, entering, leaving, ending}
+use Rattle.il_text.specs.TokenViews.{symbols_of}
+use Rattle.il_text.specs.Views.{action_of, source_of}
+use Rattle.il_text.specs.Tokens.{Symbol}
+use Rattle.il_text.specs.declared.form.Halves.{Halves}
+use Rattle.il_text.specs.declared.form.Line.{Line}
+use Rattle.il_text.specs.declared.form.Line.TheVariants as line
+use Rattle.il_text.specs.declared.form.Statement.{Statement}
+use Rattle.il_text.specs.declared.form.Statement.TheVariants.{Plain, Open}
+use Rattle.il_text.specs.declared.program.Operand.{Operand}
+use Rattle.il_text.specs.declared.program.Operator.{Operator}
+
+abbrev pub opened_parts : Operator → Bool → Option Operand → List Part
+opened_parts o n None = entering o n ∷ []
+opened_parts o n (Some x) = entering o n ∷ acting (load false (source_of x)) ∷ []
+
+abbrev pub statement_parts : Statement → List Part
+statement_parts (Plain instruction) = acting (action_of instruction) ∷ []
+statement_parts (Open operator negated operand) = opened_parts operator negated operand
+
+abbrev pub line_parts : Line → Option (List Part)
+line_parts (line.Heading name) = Some (heading name.now ∷ [])
+line_parts (line.Opening scope) = Some (opening scope ∷ [])
+line_parts (line.Declaration names tail) = declared_names tail (symbols_of names.now)
+line_parts line.Closing = Some (closing ∷ [])
+line_parts (line.Label name) = Some (labelling name.now ∷ [])
+line_parts (line.Labelled name statement) = Some (labelling name.now ∷ statement_parts statement)
+line_parts (line.Statement statement) = Some (statement_parts statement)
+line_parts line.Leaving = Some (leaving ∷ [])
+line_parts line.Ending = Some (ending ∷ [])
+
+abbrev pub halves_of : Halves → List Symbol × List Symbol
+halves_of h = (symbols_of h.front.now, symbols_of h.rest.now)

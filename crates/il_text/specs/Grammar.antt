@@ -1,0 +1,119 @@
+-- The grammar of a program, over the parts of its lines (IEC 61131-3:2003, 2.5.3 and annexes B.1.4.3, B.1.5.3 and B.2).
+use Rattle.std.specs.Prelude.{◌≡◌, ℕ, Bool, true, false, ◌&&◌, List, [], ◌∷◌, ◌++◌, map, Option}
+use Rattle.std.specs.Option.{is_none}
+use Rattle.std.specs.List.{flat_map, list_all}
+use Rattle.il_text.specs.Listing.{Action, load, store, combine, invert, convert, jump, leave, call, Entry, label, action, block, Entries, no_entries, entry, Declared, PlainProgram}
+use Rattle.il_text.specs.Parts.{Part, heading, opening, declaring, closing, labelling, acting, entering, leaving, ending}
+use Rattle.il_text.specs.declared.program.DeclaredType.{DeclaredType}
+use Rattle.il_text.specs.declared.program.Literal.{Literal}
+use Rattle.il_text.specs.declared.program.Scope.{Scope}
+use Rattle.il_text.specs.declared.program.Scope.TheVariants.{Local, External}
+
+-- a part with the number of its line
+abbrev pub Numbered : Type 0
+Numbered = ℕ × Part
+
+-- name {"," name} ":" type [":=" literal] ";", with its line
+pub record Declaration : Type 0 where
+  pub line : ℕ
+  pub names : List (List ℕ)
+  pub kind : DeclaredType
+  pub initial : Option Literal
+
+-- ("VAR" | "VAR_EXTERNAL") {declaration} "END_VAR", with the lines of both ends
+pub record Block : Type 0 where
+  pub line : ℕ
+  pub scope : Scope
+  pub declarations : List Declaration
+  pub end : ℕ
+
+abbrev pub declaration_part : Declaration → Numbered
+declaration_part d = (d.line, declaring d.names d.kind d.initial)
+
+abbrev pub block_parts : Block → List Numbered
+block_parts b = (b.line, opening b.scope) ∷ (map declaration_part b.declarations ++ (b.end, closing) ∷ [])
+
+-- the names that a declaration in a block declares, one by one
+abbrev pub names_declared : Scope → Declaration → List Declared
+names_declared scope d =
+    map (λ name. record { line = d.line; scope = scope; name = name; kind = d.kind; initial = d.initial }) d.names
+
+abbrev pub block_declared : Block → List Declared
+block_declared b = flat_map (names_declared b.scope) b.declarations
+
+-- an external has no initial value
+abbrev pub may_declare : Scope → Declaration → Bool
+may_declare Local d = true
+may_declare External d = is_none d.initial
+
+abbrev pub is_allowed : Block → Bool
+is_allowed b = list_all (may_declare b.scope) b.declarations
+
+abbrev mutual
+  pub entry_parts : Entry → List Numbered
+  entry_parts (label line name) = (line, labelling name) ∷ []
+  entry_parts (action line a) = (line, acting a) ∷ []
+  entry_parts (block line operator negated es end) =
+      (line, entering operator negated) ∷ (entries_parts es ++ (end, leaving) ∷ [])
+
+  pub entries_parts : Entries → List Numbered
+  entries_parts no_entries = []
+  entries_parts (entry e es) = entry_parts e ++ entries_parts es
+
+-- an instruction that may stand in a parenthesis: no jump, no return, and no call
+abbrev pub is_plain : Action → Bool
+is_plain (load negated source) = true
+is_plain (store kind place) = true
+is_plain (combine operator negated source) = true
+is_plain invert = true
+is_plain (convert conversion) = true
+is_plain (jump condition to) = false
+is_plain (leave condition) = false
+is_plain (call timer arguments) = false
+
+-- a parenthesis begins with LD or LDN
+abbrev pub is_first : Entry → Bool
+is_first (label line name) = false
+is_first (action line (load negated source)) = true
+is_first (action line other) = false
+is_first (block line operator negated es end) = false
+
+abbrev mutual
+  -- an entry that may stand in a parenthesis
+  pub is_inner : Entry → Bool
+  is_inner (label line name) = false
+  is_inner (action line a) = is_plain a
+  is_inner (block line operator negated es end) = is_parenthesis es
+
+  pub all_inner : Entries → Bool
+  all_inner no_entries = true
+  all_inner (entry e es) = is_inner e && all_inner es
+
+  -- the entries of a parenthesis
+  pub is_parenthesis : Entries → Bool
+  is_parenthesis no_entries = false
+  is_parenthesis (entry e es) = is_first e && (is_inner e && all_inner es)
+
+-- an entry of the body
+abbrev pub is_outer : Entry → Bool
+is_outer (label line name) = true
+is_outer (action line a) = true
+is_outer (block line operator negated es end) = is_parenthesis es
+
+-- text ::= "PROGRAM" name, {block}, {entry}, "END_PROGRAM"
+pub record Derives (ps : List Numbered) (program : PlainProgram) : Type 0 where
+  pub first : ℕ
+  pub blocks : List Block
+  pub end : ℕ
+  pub parts : ps
+      ≡ (first, heading program.name)
+      ∷ (flat_map block_parts blocks ++ (flat_map entry_parts program.items ++ (end, ending) ∷ []))
+  pub declared : program.declarations ≡ flat_map block_declared blocks
+  pub blocks_allowed : list_all is_allowed blocks ≡ true
+  pub items_allowed : list_all is_outer program.items ≡ true
+
+-- some parts after these make a program
+pub record CanGoOn (ps : List Numbered) : Type 0 where
+  pub more : List Numbered
+  pub program : PlainProgram
+  pub derived : Derives (ps ++ more) program

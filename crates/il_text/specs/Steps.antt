@@ -1,0 +1,150 @@
+-- What the parts of lines make, one after the other, where parentheses are open.
+use Rattle.std.specs.Prelude.{ℕ, Bool, true, false, not, ◌&&◌, ◌||◌, if◌then◌else◌, List, [], ◌∷◌, ◌++◌, map, Option, Some, None, option_and_then}
+use Rattle.il_text.specs.Listing.{Action, load, Entry, label, action, block, entries_of, Declared}
+use Rattle.il_text.specs.Grammar.{is_plain}
+use Rattle.il_text.specs.Parts.{Part, heading, opening, declaring, closing, labelling, acting, entering, leaving, ending}
+use Rattle.il_text.specs.declared.listing.Stage.{Stage}
+use Rattle.il_text.specs.declared.listing.Stage.TheVariants as place
+use Rattle.il_text.specs.declared.program.DeclaredType.{DeclaredType}
+use Rattle.il_text.specs.declared.program.Literal.{Literal}
+use Rattle.il_text.specs.declared.program.Operator.{Operator}
+use Rattle.il_text.specs.declared.program.Scope.{Scope}
+use Rattle.il_text.specs.declared.program.Scope.TheVariants.{Local, External}
+
+-- an open parenthesis: its line, its operator, whether that is negated, and the items before it
+pub record Opened : Type 0 where
+  pub line : ℕ
+  pub operator : Operator
+  pub negated : Bool
+  pub outer : List Entry
+
+-- where the next line stands; the name; the declarations; the items of the innermost open parenthesis, or of the body; and
+-- the open parentheses, the innermost first
+pub record Reached : Type 0 where
+  pub place : Stage
+  pub name : List ℕ
+  pub declarations : List Declared
+  pub items : List Entry
+  pub parentheses : List Opened
+
+abbrev pub nothing_read : Reached
+nothing_read = record { place = place.Start; name = []; declarations = []; items = []; parentheses = [] }
+
+abbrev pub at_place : Stage → Reached → Reached
+at_place p r = record { place = p; name = r.name; declarations = r.declarations; items = r.items; parentheses = r.parentheses }
+
+abbrev pub with_name : List ℕ → Reached → Reached
+with_name n r = record { place = place.Declarations; name = n; declarations = r.declarations; items = r.items; parentheses = r.parentheses }
+
+abbrev pub declared_in : ℕ → Scope → DeclaredType → Option Literal → List ℕ → Declared
+declared_in line scope kind initial name = record { line = line; scope = scope; name = name; kind = kind; initial = initial }
+
+abbrev pub with_declarations : List Declared → Reached → Reached
+with_declarations ds r =
+    record { place = r.place; name = r.name; declarations = r.declarations ++ ds; items = r.items; parentheses = r.parentheses }
+
+-- the items with one more, in the body
+abbrev pub with_item : Entry → Reached → Reached
+with_item e r = record { place = place.Body; name = r.name; declarations = r.declarations; items = r.items ++ e ∷ []; parentheses = r.parentheses }
+
+abbrev pub with_opened : ℕ → Operator → Bool → Reached → Reached
+with_opened line operator negated r =
+    record {
+      place = place.Body;
+      name = r.name;
+      declarations = r.declarations;
+      items = [];
+      parentheses = record { line = line; operator = operator; negated = negated; outer = r.items } ∷ r.parentheses;
+    }
+
+abbrev pub with_closed : ℕ → Reached → Opened → List Opened → Reached
+with_closed line r f fs =
+    record {
+      place = place.Body;
+      name = r.name;
+      declarations = r.declarations;
+      items = f.outer ++ block f.line f.operator f.negated (entries_of r.items) line ∷ [];
+      parentheses = fs;
+    }
+
+abbrev pub is_start : Stage → Bool
+is_start place.Start = true
+is_start other = false
+
+abbrev pub is_between : Stage → Bool
+is_between place.Declarations = true
+is_between other = false
+
+abbrev pub block_scope : Stage → Option Scope
+block_scope (place.Block scope) = Some scope
+block_scope other = None
+
+-- a line of the body may stand here, the first one too
+abbrev pub is_body : Stage → Bool
+is_body place.Declarations = true
+is_body place.Body = true
+is_body other = false
+
+abbrev pub is_outside : List Opened → Bool
+is_outside [] = true
+is_outside (f ∷ fs) = false
+
+abbrev pub is_some : List Entry → Bool
+is_some [] = false
+is_some (e ∷ es) = true
+
+abbrev pub is_load : Action → Bool
+is_load (load negated source) = true
+is_load other = false
+
+-- an external has no initial value
+abbrev pub may_begin_with : Scope → Option Literal → Bool
+may_begin_with Local initial = true
+may_begin_with External None = true
+may_begin_with External (Some value) = false
+
+abbrev pub declared_here : ℕ → List (List ℕ) → DeclaredType → Option Literal → Reached → Option Scope → Option Reached
+declared_here n ns kind initial r None = None
+declared_here n ns kind initial r (Some scope) =
+    if may_begin_with scope initial then Some (with_declarations (map (declared_in n scope kind initial) ns) r) else None
+
+abbrev pub closed_block : Reached → Option Scope → Option Reached
+closed_block r None = None
+closed_block r (Some scope) = Some (at_place place.Declarations r)
+
+-- a line of the body may stand here, outside of parentheses
+unfoldable pub may_stand : Reached → Bool
+may_stand r = is_body r.place && is_outside r.parentheses
+
+-- an instruction may stand here: in a parenthesis the first is a load, and none leaves it
+unfoldable pub may_act : Reached → Action → Bool
+may_act r a = is_body r.place && (is_outside r.parentheses || (is_plain a && (is_some r.items || is_load a)))
+
+-- a parenthesis may begin here
+unfoldable pub may_enter : Reached → Bool
+may_enter r = is_body r.place && (is_outside r.parentheses || is_some r.items)
+
+-- the innermost parenthesis may end here
+unfoldable pub may_leave : Reached → Bool
+may_leave r = is_body r.place && is_some r.items
+
+abbrev pub left_here : ℕ → Reached → List Opened → Option Reached
+left_here n r [] = None
+left_here n r (f ∷ fs) = Some (with_closed n r f fs)
+
+-- one part, of the line of this number
+unfoldable pub step : ℕ → Reached → Part → Option Reached
+step n r (heading name) = if is_start r.place then Some (with_name name r) else None
+step n r (opening scope) = if is_between r.place then Some (at_place (place.Block scope) r) else None
+step n r (declaring ns kind initial) = declared_here n ns kind initial r (block_scope r.place)
+step n r closing = closed_block r (block_scope r.place)
+step n r (labelling name) = if may_stand r then Some (with_item (label n name) r) else None
+step n r (acting a) = if may_act r a then Some (with_item (action n a) r) else None
+step n r (entering operator negated) = if may_enter r then Some (with_opened n operator negated r) else None
+step n r leaving = if may_leave r then left_here n r r.parentheses else None
+step n r ending = if may_stand r then Some (at_place place.Finished r) else None
+
+-- parts of one line, one after the other
+unfoldable pub steps : ℕ → Reached → List Part → Option Reached
+steps n r [] = Some r
+steps n r (p ∷ ps) = option_and_then (λ s. steps n s ps) (step n r p)

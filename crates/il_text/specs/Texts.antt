@@ -1,0 +1,83 @@
+-- What a text reads as: its program, or its first faulty line (IEC 61131-3:2003, 2.1, 2.5.3 and 3.2).
+use Rattle.std.specs.Prelude.{◌≡◌, ℕ, ◌+◌, ◌<◌, ◌⊎◌, Bool, true, false, List, [], ◌∷◌, ◌++◌, map, count_by, Option, Some, None, Result, Ok, Err}
+use Rattle.std.specs.List.{flat_map}
+use Rattle.il_text.specs.Forms.{parts_of}
+use Rattle.il_text.specs.Grammar.{Numbered, Derives, CanGoOn}
+use Rattle.il_text.specs.Listing.{PlainProgram}
+use Rattle.il_text.specs.Parts.{Part, entering, leaving}
+use Rattle.il_text.specs.Places.{last_line}
+use Rattle.il_text.specs.Reading.{lines, tokens_of, has_instruction, past_limit}
+use Rattle.il_text.specs.Symbols.{cut}
+use Rattle.il_text.specs.Tokens.{Symbol, Piece}
+use Rattle.il_text.specs.declared.fault.TextFault.{TextFault}
+use Rattle.il_text.specs.declared.fault.TextFault.TheVariants.{BadLine, TooDeep, TooLong}
+
+-- a line: its number, and its parts
+abbrev pub Line : Type 0
+Line = ℕ × List Part
+
+abbrev pub numbered : Line → List Numbered
+numbered l = map (λ p. (l.0, p)) l.1
+
+abbrev pub all_parts : List Line → List Numbered
+all_parts = flat_map numbered
+
+abbrev pub is_entering : Numbered → Bool
+is_entering (line, entering operator negated) = true
+is_entering (line, other) = false
+
+abbrev pub is_leaving : Numbered → Bool
+is_leaving (line, leaving) = true
+is_leaving (line, other) = false
+
+-- more than 16 parentheses are open
+abbrev pub IsDeep : List Line → Type 0
+IsDeep ls = count_by is_leaving (all_parts ls) + 16 < count_by is_entering (all_parts ls)
+
+-- more than 4,000 lines hold an instruction or `)`
+abbrev pub IsLong : List Line → Type 0
+IsLong ls = 4000 < count_by (λ l. has_instruction l.1) ls
+
+-- lines with which a program may begin
+pub record Allowed (ls : List Line) : Type 0 where
+  pub goes_on : CanGoOn (all_parts ls)
+  pub shallow : IsDeep ls → ⊥
+  pub short : IsLong ls → ⊥
+
+-- what is wrong with the last of these lines, where the lines before it are allowed
+pub data LineFault (last line : ℕ) (ls : List Line) (fault : TextFault) : Type 0 where
+  no_program : (CanGoOn (all_parts ls) → ⊥) → fault ≡ BadLine line → LineFault last line ls fault
+  too_deep : CanGoOn (all_parts ls) → IsDeep ls → fault ≡ past_limit line last (TooDeep line) → LineFault last line ls fault
+  too_long : CanGoOn (all_parts ls) → (IsDeep ls → ⊥) → IsLong ls → fault ≡ past_limit line last (TooLong line)
+      → LineFault last line ls fault
+
+abbrev pub Refused : ℕ → ℕ → List Line → Result PlainProgram TextFault → Type 0
+Refused last line ls (Ok program) = ⊥
+Refused last line ls (Err fault) = LineFault last line ls fault
+
+-- the text ends: the lines are a program, or it ends early
+abbrev pub Ends : ℕ → List Line → Result PlainProgram TextFault → Type 0
+Ends last ls (Ok program) = Derives (all_parts ls) program
+Ends last ls (Err fault) = ((program : PlainProgram) → Derives (all_parts ls) program → ⊥) × (fault ≡ BadLine last)
+
+abbrev pub OnParts : ℕ → (List Part → Type 0) → Option (List Part) → Result PlainProgram TextFault → Type 0
+OnParts line goes None r = r ≡ Err (BadLine line)
+OnParts line goes (Some ps) r = goes ps
+
+abbrev pub OnTokens : ℕ → (List Part → Type 0) → Result (List Symbol) TextFault → Result PlainProgram TextFault → Type 0
+OnTokens line goes (Err fault) r = r ≡ Err fault
+OnTokens line goes (Ok ts) r = OnParts line goes (parts_of ts) r
+
+-- What the lines from this number on read as, after allowed lines: the first faulty line decides. In a line a bad token comes
+-- first, then what is no form of a line, then what cannot be gone on to a program, then the limits.
+abbrev pub Reads : ℕ → List Line → ℕ → List (List Piece) → Result PlainProgram TextFault → Type 0
+Reads last before line [] r = Ends last before r
+Reads last before line (l ∷ ls) r =
+    OnTokens line
+    (λ ps. (Allowed (before ++ (line, ps) ∷ []) × Reads last (before ++ (line, ps) ∷ []) (line + 1) ls r)
+    ⊎ Refused last line (before ++ (line, ps) ∷ []) r)
+    (tokens_of line l) r
+
+-- what a text reads as
+unfoldable pub ReadsAs : List ℕ → Result PlainProgram TextFault → Type 0
+ReadsAs text r = Reads (last_line text) [] 1 (lines (cut false text)) r

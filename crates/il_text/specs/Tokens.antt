@@ -1,0 +1,24 @@
+-- The tokens of a line, and the pieces of a text (IEC 61131-3:2003, 2.1 and annex B).
+use Rattle.std.specs.Prelude.{ℕ, List}
+use Rattle.il_text.specs.declared.program.DeclaredType.{DeclaredType}
+use Rattle.il_text.specs.declared.program.Literal.{Literal}
+use Rattle.il_text.specs.declared.token.Frame.{Frame}
+use Rattle.il_text.specs.declared.token.Mark.{Mark}
+use Rattle.il_text.specs.declared.token.Mnemonic.{Mnemonic}
+
+-- a token: a name, a word of the frame, a type, a literal, an operator, or a mark
+pub data Symbol : Type 0 where
+  name : List ℕ → Symbol
+  frame_word : Frame → Symbol
+  type_word : DeclaredType → Symbol
+  literal : Literal → Symbol
+  mnemonic_word : Mnemonic → Symbol
+  mark_symbol : Mark → Symbol
+
+-- a piece
+pub data Piece : Type 0 where
+  blank : Piece
+  line_end : Piece
+  token : Symbol → Piece
+  bad_token : Piece
+  bad_literal : Piece
