@@ -6,7 +6,7 @@ use Rattle.bay_config.specs.declared.bay.Bay.{Bay}
 use Rattle.bay_config.specs.declared.bay.Switch.{Switch}
 use Rattle.il_check.specs.Slots.{items_named, names_of}
 use Rattle.il_check.specs.declared.typed.Variable as typed
-use Rattle.il_text.specs.Listing.{Entry}
+use Rattle.il_check.specs.Straight.{Action}
 use Rattle.bay_device.specs.Device.{State}
 use Rattle.il_check.specs.WellTyped.{Checked}
 use Rattle.bay_device.specs.Bound.{IsProgram, bound_from}
@@ -99,7 +99,7 @@ pub loaded-view : (bay : Bay) (checked : Checked) (program : BoundProgram) (valu
     } ≡ initial_device bay checked
 loaded-view bay checked program values rows switches b r w =
     let s = initial_device bay checked in
-    let state : List typed.Variable → List Entry → List Row → List Bool → List Switch → State = λ vs is rs xs ss.
+    let state : List typed.Variable → List Action → List Row → List Bool → List Switch → State = λ vs is rs xs ss.
     record s { switches = ss; declared = declared_of (names_of vs) (origins_of vs); items = is; rows = rs; variables = variables_of (names_of vs) xs } in
     ap (λ is. state program.variables is rows values switches) b.items
     ∙ ap (λ vs. state vs checked.items rows values switches) b.variables

@@ -8,7 +8,7 @@ use Rattle.il_check.specs.declared.typed.Variable as typed
 use Rattle.bay_tree.specs.declared.row.Row.{Row}
 use Rattle.bay_tree.specs.Rows.{leaf_of}
 use Rattle.bay_config.specs.declared.bay.Switch.{Switch}
-use Rattle.il_text.specs.Meaning.{Value, truth, Variables, mean}
+use Rattle.il_check.specs.Meaning.{Value, truth, Variables, mean}
 use Rattle.il_check.specs.Slots.{AreApart, items_named, names_of}
 use Rattle.bay_device.specs.Device.{is_point, input_of, input_of_switch, input_value, or_else, with_inputs, output_of, with_output, with_outputs, scanned}
 use Rattle.bay_device.specs.Layout.{Layout, layout_of, switches_of, IsBound, AreBound, AreKinded}

@@ -7,8 +7,8 @@ use Rattle.std.proofs.Common.{not, drop}
 use Rattle.std.proofs.Math.Seq.{drop-cons}
 use Rattle.std.proofs.Common.{add-one}
 use mathlib.Core.Bool.{beq}
-use Rattle.il_text.specs.declared.program.Operator.{Operator}
-use Rattle.il_text.specs.Meaning.{Value, truth, Variables, State, value_of, with_value, read, negated, applied, combined, acted, mean_from}
+use Rattle.il_check.specs.declared.typed.Connective.{Connective}
+use Rattle.il_check.specs.Meaning.{Value, truth, Variables, State, value_of, with_value, read, negated, applied, combined, acted, mean_from}
 use Rattle.il_check.specs.declared.typed.Source.{Source}
 use Rattle.il_check.specs.declared.typed.Source.TheVariants.{Literal, Slot}
 use Rattle.il_check.specs.declared.typed.TypedInstruction.{TypedInstruction}
@@ -81,12 +81,12 @@ module _ (names : List (List ℕ)) (values : List Bool) (apart : AreApart names)
       let with_variables : Variables → State = λ vs. record { result = Some (truth value); variables = vs } in
       ap with_variables (with_value-slot names values slot value apart same within)
 
-  pub acted-Combine : (operator : Operator) (source : Source) (left right value : Bool) → IsSourceWithin (length values) source → source_value values source ≡ Some right
-      → applied operator (truth left) (truth right) ≡ truth value
-      → acted (action_named names (Combine operator source)) (at_slots names (Some left) values) ≡ at_slots names (Some value) values
-  acted-Combine operator source left right value within here e =
+  pub acted-Combine : (connective : Connective) (source : Source) (left right value : Bool) → IsSourceWithin (length values) source → source_value values source ≡ Some right
+      → applied connective (truth left) (truth right) ≡ truth value
+      → acted (action_named names (Combine connective source)) (at_slots names (Some left) values) ≡ at_slots names (Some value) values
+  acted-Combine connective source left right value within here e =
       let with_result : Option Value → State = λ r. record { result = r; variables = variables_of names values } in
-      ap (λ r. with_result (combined operator (Some (truth left)) r)) (read-source names values source right apart same within here)
+      ap (λ r. with_result (combined connective (Some (truth left)) r)) (read-source names values source right apart same within here)
       ∙ ap (λ v. with_result (Some v)) e
 
 -- one instruction more

@@ -14,8 +14,8 @@ use Rattle.bay_config.specs.declared.bay.Origin.TheVariants as origin
 use Rattle.bay_config.specs.declared.bay.SwitchPoint.{SwitchPoint}
 use Rattle.bay_config.specs.declared.bay.SwitchPoint.TheVariants.{Position, Open, Closed, EnableOpen, EnableClose}
 use Rattle.bay_device.specs.Names.{StatusNames, SwitchNames, switch_names}
-use Rattle.il_text.specs.Listing.{Entry}
-use Rattle.il_text.specs.Meaning.{Value, truth, Variables, mean}
+use Rattle.il_check.specs.Straight.{Action}
+use Rattle.il_check.specs.Meaning.{Value, truth, Variables, mean}
 use Rattle.bay_device.specs.declared.event.Event.{Event}
 use Rattle.bay_device.specs.declared.event.Event.TheVariants.{Contact, Scan}
 use Rattle.bay_device.specs.declared.event.Step.{Step}
@@ -37,7 +37,7 @@ pub record State : Type 0 where
   pub scan_max_age_ms : ℕ
   pub switches : List Switch
   pub declared : List Variable
-  pub items : List Entry
+  pub items : List Action
   pub rows : List Row
   pub variables : Variables
   pub moment : ℕ

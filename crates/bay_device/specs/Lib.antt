@@ -1,7 +1,6 @@
 pub mod Bound
 pub mod Code
 pub mod Device
-pub mod Entries
 pub mod Layout
 pub mod Load
 pub mod LookUps

@@ -1,6 +1,6 @@
 -- A program on slots: what its slots stand for, and their values by name, whatever the slots are called.
 use Rattle.std.specs.Prelude.{ℕ, Bool, false, map, List, [], ◌∷◌, slice_get, unwrap_or, position, Option, Some, None}
-use Rattle.il_text.specs.Meaning.{truth, Variables}
+use Rattle.il_check.specs.Meaning.{truth, Variables}
 use Rattle.il_check.specs.declared.typed.Source.{Source}
 use Rattle.il_check.specs.declared.typed.Source.TheVariants as source
 use Rattle.bay_device.specs.Device.{Variable, is_point}

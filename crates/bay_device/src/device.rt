@@ -21,13 +21,12 @@ pub struct Device {
 
 impl Model for Device {
     ghost use Rattle.bay_device.specs.Device.{State};
-    ghost use Rattle.bay_device.specs.Entries.{entry_code};
     ghost use Rattle.bay_device.specs.StateView.{state_view};
     ghost use Rattle.std.specs.Coded.{codes};
 
     ghost Value = { State };
 
-    ghost coded = { Prim.hlevel (codes, entry_code (Prim.hlevel codes)) };
+    ghost coded = { Prim.hlevel codes };
 
     ghost view = { λ d. state_view d.state };
 }

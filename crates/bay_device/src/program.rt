@@ -1,13 +1,12 @@
 // A checked program: each name is resolved to a slot, which holds its value.
 ghost use Rattle.std.specs.Prelude.{◌≡◌, ℕ, List, length, All, Some, None, option_map};
-ghost use Rattle.il_text.specs.Meaning.{truth, applied, acted, mean};
+ghost use Rattle.il_check.specs.Meaning.{truth, applied, acted, mean};
 ghost use Rattle.bay_device.specs.Slots.{source_value, variables_of};
 ghost use Rattle.il_check.specs.Slots.{AreApart, IsSourceWithin, IsWithin, action_named, items_named, names_of};
 
 use crate::values::Values;
 use bay_base::listing::Listing;
-use il_check::typed::{Source, TypedInstruction, Variable};
-use il_text::program::Operator;
+use il_check::typed::{Connective, Source, TypedInstruction, Variable};
 
 /// The slots of a switch's interlocking values, where the program names them.
 #[derive(Clone, Copy, Debug, PartialEq, Eq)]
@@ -40,12 +39,12 @@ fn source_value(source: Source, values: &Values) -> bool
 }
 
 /// What an operator makes of the current result and an operand.
-fn combined(operator: Operator, left: bool, right: bool) -> bool
-    ensures { applied operator (truth left) (truth right) ≡ truth result }
+fn combined(connective: Connective, left: bool, right: bool) -> bool
+    ensures { applied connective (truth left) (truth right) ≡ truth result }
 {
-    match operator {
-        Operator::And => left && right,
-        Operator::Or => left || right,
+    match connective {
+        Connective::And => left && right,
+        Connective::Or => left || right,
     }
 }
 
@@ -70,8 +69,8 @@ fn run_instruction(
             }
             current
         }
-        TypedInstruction::Combine { operator, source } => match current {
-            Some(left) => Some(combined(operator, left, source_value(source, values))),
+        TypedInstruction::Combine { connective, source } => match current {
+            Some(left) => Some(combined(connective, left, source_value(source, values))),
             None => None,
         },
     }

@@ -1,6 +1,6 @@
 // What a scan reads, and what it writes (IEC 61850-7-4, CILO: EnaOpn and EnaCls).
 ghost use Rattle.std.specs.Prelude.{◌≡◌, ℕ, List, length, None};
-ghost use Rattle.il_text.specs.Meaning.{mean};
+ghost use Rattle.il_check.specs.Meaning.{mean};
 ghost use Rattle.il_check.specs.Slots.{AreApart, items_named};
 ghost use Rattle.bay_tree.specs.declared.leaf.Kind.TheVariants as kind;
 ghost use Rattle.bay_tree.specs.Rows.{leaf_of};

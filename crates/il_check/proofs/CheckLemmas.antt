@@ -7,11 +7,11 @@ use Rattle.std.specs.List.{filter_map, cons_option, list_any, position_from}
 use Rattle.std.specs.Str.{bytes_eq}
 use Rattle.bay_config.specs.declared.bay.Point.{Point}
 use Rattle.std.proofs.Common.{subst}
-use Rattle.il_text.specs.declared.program.Operator.{Operator}
+use Rattle.il_check.specs.declared.typed.Connective.{Connective}
 use Rattle.bay_base.specs.Names.{upper, same_name}
 use Rattle.bay_base.proofs.NameLemmas.{upper-upper, same-upper}
-use Rattle.il_text.specs.Listing as listing
-use Rattle.il_text.specs.Listing.{Declared, constant, variable, Action, load, store, combine, Entry, action, block}
+use Rattle.il_check.specs.Straight as straight
+use Rattle.il_check.specs.Straight.{Declared, constant, variable, Action, load, store, combine, Entry, action, outside}
 use Rattle.il_check.specs.Places.{place_in, source_at, instruction_at, entry_at, is_fixed, may_not_write, action_faults_at, entry_faults_at, entries_faults_at}
 use Rattle.il_check.specs.Slots.{name_at, AreApart, action_named, source_named, items_named, slots_of, slots_of_source, IsWithin}
 use Rattle.il_check.specs.WellTyped.{fault_if, is_declared, declaration_of, can_write, variable_of, action_faults, entry_faults, entries_faults, declaration_faults, declarations_faults, plain_source, plain_action, plain_entry}
@@ -89,14 +89,14 @@ module _ (of_bay : List Point) (declared : List Declared) (places : List ℕ →
   store_cases line true (Some i) e = refl
   store_cases line false (Some i) e = absurd (cc)
 
-  combine_cases : (line : ℕ) (operator : Operator) (unset : List CheckFault) (is_known : Bool) (place : Option ℕ) → is_known ≡ is_some place
-      → fault_if (is_none (option_map (λ s. Combine operator s) (option_map (λ i. Slot i) place))) (UnknownName line)
-      ++ (unset ++ fault_if (may_not_write variables (option_map (λ s. Combine operator s) (option_map (λ i. Slot i) place))) (ReadOnly line))
+  combine_cases : (line : ℕ) (connective : Connective) (unset : List CheckFault) (is_known : Bool) (place : Option ℕ) → is_known ≡ is_some place
+      → fault_if (is_none (option_map (λ s. Combine connective s) (option_map (λ i. Slot i) place))) (UnknownName line)
+      ++ (unset ++ fault_if (may_not_write variables (option_map (λ s. Combine connective s) (option_map (λ i. Slot i) place))) (ReadOnly line))
       ≡ fault_if (not is_known) (UnknownName line) ++ unset
-  combine_cases line operator unset true None e = absurd (cc)
-  combine_cases line operator unset false None e = ap (λ (fs : List CheckFault). UnknownName line ∷ fs) (append-nil unset)
-  combine_cases line operator unset true (Some i) e = append-nil unset
-  combine_cases line operator unset false (Some i) e = absurd (cc)
+  combine_cases line connective unset true None e = absurd (cc)
+  combine_cases line connective unset false None e = ap (λ (fs : List CheckFault). UnknownName line ∷ fs) (append-nil unset)
+  combine_cases line connective unset true (Some i) e = append-nil unset
+  combine_cases line connective unset false (Some i) e = absurd (cc)
 
   action_same : (is_set : Bool) (line : ℕ) (a : Action) → action_faults_at variables is_set line a (instruction_at places a) ≡ action_faults of_bay declared is_set line a
   action_same is_set line (load negated (constant b)) = refl
@@ -105,12 +105,12 @@ module _ (of_bay : List Point) (declared : List Declared) (places : List ℕ →
       ap (λ (fs : List CheckFault). fs ++ (fault_if (not is_set) (UnsetResult line) ++ fault_if (may_not_write variables (option_map (λ i. Store i) (places (upper name)))) (ReadOnly line)))
       (store_cases line (is_declared declared name) (places (upper name)) (known name))
       ∙ ap (λ b. fault_if (not (is_declared declared name)) (UnknownName line) ++ (fault_if (not is_set) (UnsetResult line) ++ fault_if b (ReadOnly line))) (may_store name)
-  action_same is_set line (combine operator (constant b)) = append-nil (fault_if (not is_set) (UnsetResult line))
-  action_same is_set line (combine operator (variable name)) = combine_cases line operator (fault_if (not is_set) (UnsetResult line)) (is_declared declared name) (places (upper name)) (known name)
+  action_same is_set line (combine connective (constant b)) = append-nil (fault_if (not is_set) (UnsetResult line))
+  action_same is_set line (combine connective (variable name)) = combine_cases line connective (fault_if (not is_set) (UnsetResult line)) (is_declared declared name) (places (upper name)) (known name)
 
   entry_same : (is_set : Bool) (e : Entry) → entry_faults_at variables is_set e (entry_at places e) ≡ entry_faults of_bay declared is_set e
   entry_same is_set (action line a) = action_same is_set line a
-  entry_same is_set (block line operator items end) = refl
+  entry_same is_set (outside line) = refl
 
   -- the faults by places are those by names
   pub entries_same : (is_set : Bool) (es : List Entry) → entries_faults_at places variables is_set es ≡ entries_faults of_bay declared is_set es
@@ -167,7 +167,7 @@ all_cons_option P None xs here rest = rest
 all_cons_option P (Some x) xs here rest = all_cons P x xs (here x refl) rest
 
 module _ (names : List (List ℕ)) (places : List ℕ → Option ℕ) (leads_to : Leads names places) where
-  SourceIs : listing.Source → typed.Source → Type 0
+  SourceIs : straight.Source → typed.Source → Type 0
   SourceIs s t = (slots_of_source t ≤ length names) × (source_named names t ≡ plain_source s)
 
   variable_is : (name : List ℕ) (o : Option ℕ) (t : typed.Source) → places (upper name) ≡ o → option_map (λ i. Slot i) o ≡ Some t → SourceIs (variable name) t
@@ -178,7 +178,7 @@ module _ (names : List (List ℕ)) (places : List ℕ → Option ℕ) (leads_to 
       subst (λ (x : typed.Source). (slots_of_source x ≤ length names) × (source_named names x ≡ variable (upper name))) same
       (omega (arith, leads_to.within (upper name) i at), ap variable (leads_to.here (upper name) i at))
 
-  source_is : (s : listing.Source) (t : typed.Source) → source_at places s ≡ Some t → SourceIs s t
+  source_is : (s : straight.Source) (t : typed.Source) → source_at places s ≡ Some t → SourceIs s t
   unfolding SourceIs
   source_is (constant b) t is =
       let same : Literal b ≡ t = cc in
@@ -188,7 +188,7 @@ module _ (names : List (List ℕ)) (places : List ℕ → Option ℕ) (leads_to 
   ActionIs : Action → TypedInstruction → Type 0
   ActionIs a t = (slots_of t ≤ length names) × (action_named names t ≡ plain_action a)
 
-  load_is : (negated : Bool) (s : listing.Source) (o : Option typed.Source) (t : TypedInstruction) → source_at places s ≡ o → option_map (λ x. Load negated x) o ≡ Some t → ActionIs (load negated s) t
+  load_is : (negated : Bool) (s : straight.Source) (o : Option typed.Source) (t : TypedInstruction) → source_at places s ≡ o → option_map (λ x. Load negated x) o ≡ Some t → ActionIs (load negated s) t
   unfolding ActionIs SourceIs
   load_is negated s None t at is = absurd (cc)
   load_is negated s (Some x) t at is =
@@ -204,28 +204,28 @@ module _ (names : List (List ℕ)) (places : List ℕ → Option ℕ) (leads_to 
       subst (λ (y : TypedInstruction). (slots_of y ≤ length names) × (action_named names y ≡ store (upper name))) same
       (omega (arith, leads_to.within (upper name) i at), ap store (leads_to.here (upper name) i at))
 
-  combine_is : (operator : Operator) (s : listing.Source) (o : Option typed.Source) (t : TypedInstruction) → source_at places s ≡ o → option_map (λ x. Combine operator x) o ≡ Some t → ActionIs (combine operator s) t
+  combine_is : (connective : Connective) (s : straight.Source) (o : Option typed.Source) (t : TypedInstruction) → source_at places s ≡ o → option_map (λ x. Combine connective x) o ≡ Some t → ActionIs (combine connective s) t
   unfolding ActionIs SourceIs
-  combine_is operator s None t at is = absurd (cc)
-  combine_is operator s (Some x) t at is =
-      let same : Combine operator x ≡ t = cc in
+  combine_is connective s None t at is = absurd (cc)
+  combine_is connective s (Some x) t at is =
+      let same : Combine connective x ≡ t = cc in
       let so = source_is s x at in
-      subst (λ (y : TypedInstruction). (slots_of y ≤ length names) × (action_named names y ≡ combine operator (plain_source s))) same (so.0, ap (combine operator) so.1)
+      subst (λ (y : TypedInstruction). (slots_of y ≤ length names) × (action_named names y ≡ combine connective (plain_source s))) same (so.0, ap (combine connective) so.1)
 
   action_is : (a : Action) (t : TypedInstruction) → instruction_at places a ≡ Some t → ActionIs a t
   action_is (load negated s) t is = load_is negated s (source_at places s) t refl is
   action_is (store name) t is = store_is name (places (upper name)) t refl is
-  action_is (combine operator s) t is = combine_is operator s (source_at places s) t refl is
+  action_is (combine connective s) t is = combine_is connective s (source_at places s) t refl is
 
   entry_within : (e : Entry) (t : TypedInstruction) → entry_at places e ≡ Some t → IsWithin (length names) t
   unfolding ActionIs
   entry_within (action line a) t is = (action_is a t is).0
-  entry_within (block line operator items end) t is = absurd (cc)
+  entry_within (outside line) t is = absurd (cc)
 
-  entry_named : (e : Entry) (t : TypedInstruction) → entry_at places e ≡ Some t → action 0 (action_named names t) ≡ plain_entry e
+  entry_named : (e : Entry) (t : TypedInstruction) → entry_at places e ≡ Some t → Some (action_named names t) ≡ plain_entry e
   unfolding ActionIs
-  entry_named (action line a) t is = ap (action 0) (action_is a t is).1
-  entry_named (block line operator items end) t is = absurd (cc)
+  entry_named (action line a) t is = ap Some (action_is a t is).1
+  entry_named (outside line) t is = absurd (cc)
 
   -- no instruction names another slot
   pub all_within : (es : List Entry) → All (IsWithin (length names)) (filter_map (entry_at places) es)
@@ -235,18 +235,18 @@ module _ (names : List (List ℕ)) (places : List ℕ → Option ℕ) (leads_to 
   has_instruction : (variables : List Variable) (is_set : Bool) (e : Entry) (o : Option TypedInstruction) → entry_faults_at variables is_set e o ≡ [] → (t : TypedInstruction) × (o ≡ Some t)
   has_instruction variables is_set (action line a) None none = absurd (cc)
   has_instruction variables is_set (action line a) (Some t) none = (t, refl)
-  has_instruction variables is_set (block line operator items end) o none = absurd (cc)
+  has_instruction variables is_set (outside line) o none = absurd (cc)
 
   -- without a fault, the instructions are the items
-  pub all_named : (variables : List Variable) (is_set : Bool) (es : List Entry) → entries_faults_at places variables is_set es ≡ [] → items_named names (filter_map (entry_at places) es) ≡ map plain_entry es
+  pub all_named : (variables : List Variable) (is_set : Bool) (es : List Entry) → entries_faults_at places variables is_set es ≡ [] → items_named names (filter_map (entry_at places) es) ≡ filter_map plain_entry es
   all_named variables is_set [] none = refl
   all_named variables is_set (e ∷ es) none =
       let split = append-none (entry_faults_at variables is_set e (entry_at places e)) (entries_faults_at places variables true es) none in
       let found = has_instruction variables is_set e (entry_at places e) split.0 in
       let rest : List TypedInstruction = filter_map (entry_at places) es in
       ap (λ (o : Option TypedInstruction). items_named names (cons_option o rest)) found.1
-      ∙ ap (λ (x : Entry). x ∷ items_named names rest) (entry_named e found.0 found.1)
-      ∙ ap (λ (xs : List Entry). plain_entry e ∷ xs) (all_named variables true es split.1)
+      ∙ ap (λ (o : Option Action). cons_option o (items_named names rest)) (entry_named e found.0 found.1)
+      ∙ ap (λ (xs : List Action). cons_option (plain_entry e) xs) (all_named variables true es split.1)
 
 declared_right : (declared : List Declared) (name : List ℕ) → is_declared declared (upper name) ≡ is_declared declared name
 unfolding same_name
@@ -269,7 +269,8 @@ no_fault false f none = refl
 
 not_declared : (of_bay : List Point) (before : List Declared) (d : Declared) → declaration_faults of_bay before d ≡ [] → is_declared before d.name ≡ false
 not_declared of_bay before d none =
-    let second = append-none _ _ none in
+    let named = append-none _ _ none in
+    let second = append-none _ _ named.1 in
     let third = append-none _ _ second.1 in
     no_fault _ _ third.0
 

@@ -4,8 +4,8 @@ use Rattle.std.proofs.Math.Seq.{drop-cons}
 use Rattle.std.proofs.lemmas.Grind.{common_steps}
 use Rattle.std.specs.List.{filter_map, cons_option}
 use Rattle.std.specs.Option.{option_to_list}
-use Rattle.il_text.specs.Views.{entry_of}
-use Rattle.il_text.specs.Listing.{Entry}
+use Rattle.il_check.specs.Straight.{entry_of}
+use Rattle.il_check.specs.Straight.{Entry}
 use Rattle.il_text.specs.declared.program.Item.{Item}
 use Rattle.il_check.specs.Noted.{noted}
 use Rattle.il_check.specs.Places.{entry_at, entry_faults_at, entries_faults_at}

@@ -17,9 +17,9 @@ pub noted-nil : (found : Option CheckFault) → noted found [] ≡ found
 noted-nil (Some f) = refl
 noted-nil None = refl
 
--- two, and four, tests one after another
-pub noted-two : (found : Option CheckFault) (a b : List CheckFault) → noted found (a ++ b) ≡ noted (noted found a) b
-noted-two = noted-append
+-- tests one after another
+pub noted_two : (found : Option CheckFault) (a b : List CheckFault) → noted found (a ++ b) ≡ noted (noted found a) b
+noted_two = noted-append
 
 pub noted-three : (found : Option CheckFault) (a b c : List CheckFault) → noted found (a ++ (b ++ c)) ≡ noted (noted (noted found a) b) c
 noted-three found a b c = noted-append found a (b ++ c) ∙ noted-append (noted found a) b c

@@ -4,7 +4,7 @@ use Rattle.std.specs.List.{list_any, position_from}
 use Rattle.std.specs.Str.{bytes_eq}
 use Rattle.std.proofs.lemmas.Slice.Eq.{bytes_eq-Decides}
 use Rattle.bay_base.specs.Names.{upper, same_name}
-use Rattle.il_text.specs.Listing.{Declared}
+use Rattle.il_check.specs.Straight.{Declared}
 use Rattle.il_check.specs.Places.{place_in, with_place}
 use Rattle.il_check.specs.WellTyped.{is_declared}
 

@@ -8,8 +8,8 @@ use Rattle.std.specs.BTreeMap.{get_by_text}
 use Rattle.std.specs.Str.{bytes_eq}
 use Rattle.bay_config.specs.declared.bay.Point.{Point}
 use Rattle.bay_base.specs.Names.{upper}
-use Rattle.il_text.specs.Listing.{Declared}
-use Rattle.il_text.specs.Views.{declared_of}
+use Rattle.il_check.specs.Straight.{Declared}
+use Rattle.il_check.specs.Straight.{declared_of}
 use Rattle.il_text.specs.declared.program.Declaration.{Declaration}
 use Rattle.il_check.specs.Noted.{noted, declaration_faults_at}
 use Rattle.il_check.specs.Places.{place_in, with_place}

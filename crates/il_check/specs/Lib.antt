@@ -1,7 +1,10 @@
 pub mod Code
+pub mod Meaning
 pub mod Noted
 pub mod Places
 pub mod Slots
 pub mod Standing
+pub mod Straight
+pub mod StraightViews
 pub mod TypedView
 pub mod WellTyped

@@ -1,7 +1,7 @@
 -- A program on slots, as the program on names that it stands for, whatever the slots are called.
 use Rattle.std.specs.Prelude.{◌≡◌, ℕ, ◌+◌, ◌<◌, ◌≤◌, false, List, [], length, map, slice_index_or}
 use Rattle.bay_base.specs.Names.{same_name}
-use Rattle.il_text.specs.Listing as listing
+use Rattle.il_check.specs.Straight as straight
 use Rattle.il_check.specs.declared.typed.Variable.{Variable}
 use Rattle.il_check.specs.declared.typed.Source.{Source}
 use Rattle.il_check.specs.declared.typed.Source.TheVariants.{Literal, Slot}
@@ -20,18 +20,18 @@ name_at names slot = slice_index_or names slot []
 abbrev pub AreApart : List (List ℕ) → Type 0
 AreApart names = (i j : ℕ) → i < j → j < length names → same_name (name_at names i) (name_at names j) ≡ false
 
-abbrev pub source_named : List (List ℕ) → Source → listing.Source
-source_named names (Literal value) = listing.constant value
-source_named names (Slot slot) = listing.variable (name_at names slot)
+abbrev pub source_named : List (List ℕ) → Source → straight.Source
+source_named names (Literal value) = straight.constant value
+source_named names (Slot slot) = straight.variable (name_at names slot)
 
-abbrev pub action_named : List (List ℕ) → TypedInstruction → listing.Action
-action_named names (Load negated source) = listing.load negated (source_named names source)
-action_named names (Store slot) = listing.store (name_at names slot)
-action_named names (Combine operator source) = listing.combine operator (source_named names source)
+abbrev pub action_named : List (List ℕ) → TypedInstruction → straight.Action
+action_named names (Load negated source) = straight.load negated (source_named names source)
+action_named names (Store slot) = straight.store (name_at names slot)
+action_named names (Combine connective source) = straight.combine connective (source_named names source)
 
--- the items that instructions stand for; lines mean nothing here
-abbrev pub items_named : List (List ℕ) → List TypedInstruction → List listing.Entry
-items_named names instructions = map (λ i. listing.action 0 (action_named names i)) instructions
+-- the instructions on names that instructions on slots stand for
+abbrev pub items_named : List (List ℕ) → List TypedInstruction → List straight.Action
+items_named names instructions = map (action_named names) instructions
 
 -- how many slots there must be for a source, and for an instruction
 abbrev pub slots_of_source : Source → ℕ
@@ -41,7 +41,7 @@ slots_of_source (Slot slot) = slot + 1
 abbrev pub slots_of : TypedInstruction → ℕ
 slots_of (Load negated source) = slots_of_source source
 slots_of (Store slot) = slot + 1
-slots_of (Combine operator source) = slots_of_source source
+slots_of (Combine connective source) = slots_of_source source
 
 -- a source, and an instruction, is about so many slots at most
 abbrev pub IsSourceWithin : ℕ → Source → Type 0

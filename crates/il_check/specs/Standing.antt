@@ -2,7 +2,7 @@
 use Rattle.std.specs.Prelude.{◌≡◌, ℕ, List, map, Option}
 use Rattle.std.specs.BTreeMap.{get_by_text}
 use Rattle.bay_config.specs.declared.bay.Point.{Point}
-use Rattle.il_text.specs.Listing.{Declared}
+use Rattle.il_check.specs.Straight.{Declared}
 use Rattle.il_check.specs.WellTyped.{variable_of}
 use Rattle.il_check.specs.Places.{place_in}
 use Rattle.il_check.specs.declared.declare.Declarations.{Declarations}

@@ -18,8 +18,8 @@ use std::alloc::Global;
 /// Of each declaration: an external's name is a point's (70), no name is declared twice (71), an
 /// external's type is its point's (72), and at most 512 names are declared (79). Of each instruction: its
 /// name is declared (70), the current result is set where it is used (73), and what it stores into is no
-/// point that may only be read (77). An operator with a parenthesis is not checked yet (61). The case of
-/// letters in names isn't significant. The answer is the typed program, or of the first faulty line the
+/// point that may only be read (77). What is checked as yet is straight lines of LD, LDN, ST, AND and OR of BOOL names
+/// and truth values; a line of another form is refused (61). The case of letters in names isn't significant. The answer is the typed program, or of the first faulty line the
 /// fault of the lowest number (IEC 61131-3:2003, 2.4.3 and 3.2).
 pub fn check(alloc: Global, program: &Program<'_>, points: &[Point]) -> Result<Typed, CheckFault>
     // The checked program, or the fault of the first faulty line with the lowest number, unless memory ran out.

@@ -2,14 +2,15 @@
 ghost use Rattle.std.specs.Prelude.{◌≡◌, ℕ, List, [], ◌∷◌, ◌++◌, map, option_map, vec_len, is_some, option_copied, IfOk, OnOk, string_bytes};
 ghost use Rattle.std.specs.BTreeMap.{get_by_text};
 ghost use Rattle.bay_base.specs.Names as names;
-ghost use Rattle.il_text.specs.Views.{declared_of};
-ghost use Rattle.il_check.specs.Noted.{noted, declaration_faults_at};
+ghost use Rattle.il_check.specs.Straight.{declared_of};
+ghost use Rattle.il_check.specs.Noted.{noted, name_faults_at, declaration_faults_at};
 ghost use Rattle.il_check.specs.Places.{with_place};
 ghost use Rattle.il_check.specs.Standing.{StandsFor, places_of};
 ghost use Rattle.il_check.specs.WellTyped as spec;
 
 use crate::fault::CheckFault;
 use crate::note::note_if;
+use crate::straight::{initial_in, may_declare};
 use crate::typed::Variable;
 use bay_base::names::same_name;
 use bay_base::text::Text;
@@ -58,13 +59,13 @@ fn is_external(scope: Scope) -> bool
     }
 }
 
-/// Whether a point, if there is one, has the declared type.
-fn has_kind(declared: ElementaryType, point: Option<&Point>) -> bool
-    ensures { result ≡ spec.has_kind declared (option_copied point.entry) }
+/// Whether a point, if there is one, is a BOOL.
+fn is_boolean(point: Option<&Point>) -> bool
+    ensures { result ≡ spec.is_boolean (option_copied point.entry) }
 {
     match point {
         None => true,
-        Some(point) => declared.is(point.kind),
+        Some(point) => ElementaryType::Bool.is(point.kind),
     }
 }
 
@@ -93,7 +94,7 @@ fn initial_value(declaration: &Declaration<'_>) -> bool
     ensures { result ≡ spec.initial_value (declared_of declaration.now) }
 {
     match declaration.scope {
-        Scope::Local => declaration.initial.unwrap_or(false),
+        Scope::Local => initial_in(declaration.initial).unwrap_or(false),
         Scope::External => false,
     }
 }
@@ -133,22 +134,22 @@ fn variable_of(
     })
 }
 
-/// The fault that is answered after a declaration behind `count` others.
+/// The fault that is answered after what is wrong with the name of a declaration behind `count` others.
 #[tactic(auto, using(crate::proofs::NotedLemmas::note_rules))]
-fn declaration_fault(
+fn name_fault(
     found: Option<CheckFault>,
     points: &[Point],
     is_known: bool,
     count: usize,
     declaration: &Declaration<'_>,
 ) -> Option<CheckFault>
-    ensures { result ≡ noted found (declaration_faults_at points.now is_known count (declared_of declaration.now)) }
+    ensures { result ≡ noted found (name_faults_at points.now is_known count (declared_of declaration.now)) }
 {
     let line = declaration.line;
     let is_external = is_external(declaration.scope);
     let point = point_of(points, declaration.name);
     let is_missing = point.is_none();
-    let is_typed = has_kind(declaration.kind, point);
+    let is_typed = is_boolean(point);
     let found = note_if(
         found,
         is_external && is_missing,
@@ -161,6 +162,23 @@ fn declaration_fault(
         CheckFault::TypeMismatch { line },
     );
     note_if(found, count >= MAX_NAMES, CheckFault::TooMany { line })
+}
+
+/// The fault that is answered after a declaration behind `count` others.
+#[tactic(auto, using(crate::proofs::NotedLemmas::noted_two))]
+fn declaration_fault(
+    found: Option<CheckFault>,
+    points: &[Point],
+    is_known: bool,
+    count: usize,
+    declaration: &Declaration<'_>,
+) -> Option<CheckFault>
+    ensures { result ≡ noted found (declaration_faults_at points.now is_known count (declared_of declaration.now)) }
+{
+    let line = declaration.line;
+    let is_inside = may_declare(declaration.kind, declaration.initial);
+    let found = note_if(found, !is_inside, CheckFault::OutsideSubset { line });
+    name_fault(found, points, is_known, count, declaration)
 }
 
 /// Gives a name its place, unless it has one. Whether it had one.

@@ -7,6 +7,7 @@
 // - `declare`: what is declared, and its faults.
 // - `resolve`: instructions on the places of their names, and their faults.
 // - `note`: the fault that is answered, of all that are found.
+// - `straight`: the part of the language that is checked as yet.
 #![tactic(auto)]
 
 pub mod check;
@@ -14,4 +15,5 @@ mod declare;
 pub mod fault;
 mod note;
 mod resolve;
+mod straight;
 pub mod typed;

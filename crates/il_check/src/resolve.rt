@@ -1,17 +1,19 @@
 // Instructions on the places of their names, and what is wrong with them (IEC 61131-3:2003, 3.2).
-ghost use Rattle.std.specs.Prelude.{◌≡◌, ◌++◌, map, false, IfOk, OnOk, option_to_list};
+ghost use Rattle.std.specs.Prelude.{◌≡◌, ◌++◌, map, false, IfOk, OnOk, option_map, option_to_list};
 ghost use Rattle.il_check.specs.Standing.{places_of};
 ghost use Rattle.std.specs.List.{filter_map};
 ghost use Rattle.bay_base.specs.Names.{upper};
-ghost use Rattle.il_text.specs.Views.{source_of, action_of, entry_of};
+ghost use Rattle.il_check.specs.Straight.{entry_of};
+ghost use Rattle.il_check.specs.StraightViews.{plain_source, plain_action};
 ghost use Rattle.il_check.specs.Noted.{noted};
 ghost use Rattle.il_check.specs.Places as spec;
 
 use crate::declare::{Declarations, upper_case};
 use crate::fault::CheckFault;
 use crate::note::note_if;
+use crate::straight::{Straight, StraightSource, straight_in};
 use crate::typed::{Source, TypedInstruction, Variable};
-use il_text::program::{Instruction, Item, Operand};
+use il_text::program::Item;
 use std::alloc::{AllocError, Global};
 
 /// The instructions of a program, and the fault that is answered, if there is one.
@@ -22,12 +24,12 @@ pub(crate) struct Resolved {
 }
 
 /// Whether an instruction uses the current result.
-fn needs_result(instruction: Instruction<'_>) -> bool
-    ensures { result ≡ spec.needs_result (action_of instruction.entry) }
+fn needs_result(instruction: Straight<'_>) -> bool
+    ensures { result ≡ spec.needs_result (plain_action instruction.entry) }
 {
     match instruction {
-        Instruction::Load { .. } => false,
-        Instruction::Store { .. } | Instruction::Combine { .. } => true,
+        Straight::Load { .. } => false,
+        Straight::Store { .. } | Straight::Combine { .. } => true,
     }
 }
 
@@ -51,10 +53,10 @@ fn instruction_fault(
     variables: &[Variable],
     is_set: bool,
     line: usize,
-    instruction: Instruction<'_>,
+    instruction: Straight<'_>,
     typed: Option<TypedInstruction>,
 ) -> Option<CheckFault>
-    ensures { result ≡ noted found (spec.action_faults_at variables.now is_set line (action_of instruction.entry) typed) }
+    ensures { result ≡ noted found (spec.action_faults_at variables.now is_set line (plain_action instruction.entry) typed) }
 {
     let is_unset = needs_result(instruction) && !is_set;
     let is_read_only = may_not_write(variables, typed);
@@ -63,8 +65,29 @@ fn instruction_fault(
     note_if(found, is_read_only, CheckFault::ReadOnly { line })
 }
 
-/// The fault that is answered after an item.
+/// The line of an item.
 #[tactic(auto, using(crate::proofs::EntryLemmas::entry_rules))]
+fn line_of(item: &Item<'_>) -> usize
+    ensures { result ≡ spec.entry_line (entry_of item.now) }
+{
+    match item {
+        Item::Label { line, .. } | Item::Instruction { line, .. } | Item::Block { line, .. } =>
+            *line,
+    }
+}
+
+/// The instruction of an item, if it is one that is checked.
+#[tactic(auto, using(crate::proofs::EntryLemmas::entry_rules))]
+fn straight_of<'a>(item: &Item<'a>) -> Option<Straight<'a>>
+    ensures { option_map plain_action result ≡ spec.entry_action (entry_of item.now) }
+{
+    match item {
+        Item::Instruction { instruction, .. } => straight_in(*instruction),
+        Item::Label { .. } | Item::Block { .. } => None,
+    }
+}
+
+/// The fault that is answered after an item.
 fn item_fault(
     found: Option<CheckFault>,
     variables: &[Variable],
@@ -74,11 +97,10 @@ fn item_fault(
 ) -> Option<CheckFault>
     ensures { result ≡ noted found (spec.entry_faults_at variables.now is_set (entry_of item.now) typed) }
 {
-    match item {
-        Item::Instruction { line, instruction } => {
-            instruction_fault(found, variables, is_set, *line, *instruction, typed)
-        }
-        Item::Block { line, .. } => note_if(found, true, CheckFault::OutsideSubset { line: *line }),
+    let line = line_of(item);
+    match straight_of(item) {
+        Some(instruction) => instruction_fault(found, variables, is_set, line, instruction, typed),
+        None => note_if(found, true, CheckFault::OutsideSubset { line }),
     }
 }
 
@@ -91,12 +113,16 @@ impl Declarations {
         Ok(self.places.get(name.as_str()).copied())
     }
 
-    fn source(&self, alloc: Global, operand: Operand<'_>) -> Result<Option<Source>, AllocError>
-        ensures { IfOk result (λ source. source ≡ spec.source_at (places_of self.now) (source_of operand.entry)) }
+    fn source(
+        &self,
+        alloc: Global,
+        source: StraightSource<'_>,
+    ) -> Result<Option<Source>, AllocError>
+        ensures { IfOk result (λ found. found ≡ spec.source_at (places_of self.now) (plain_source source.entry)) }
     {
-        match operand {
-            Operand::Literal(value) => Ok(Some(Source::Literal(value))),
-            Operand::Name(name) => match self.place(alloc, name)? {
+        match source {
+            StraightSource::Truth(value) => Ok(Some(Source::Literal(value))),
+            StraightSource::Name(name) => match self.place(alloc, name)? {
                 Some(slot) => Ok(Some(Source::Slot(slot))),
                 None => Ok(None),
             },
@@ -107,33 +133,33 @@ impl Declarations {
     fn instruction(
         &self,
         alloc: Global,
-        instruction: Instruction<'_>,
+        instruction: Straight<'_>,
     ) -> Result<Option<TypedInstruction>, AllocError>
-        ensures { IfOk result (λ typed. typed ≡ spec.instruction_at (places_of self.now) (action_of instruction.entry)) }
+        ensures { IfOk result (λ typed. typed ≡ spec.instruction_at (places_of self.now) (plain_action instruction.entry)) }
     {
         match instruction {
-            Instruction::Load { negated, operand } => match self.source(alloc, operand)? {
+            Straight::Load { negated, source } => match self.source(alloc, source)? {
                 Some(source) => Ok(Some(TypedInstruction::Load { negated, source })),
                 None => Ok(None),
             },
-            Instruction::Store { target } => match self.place(alloc, target)? {
+            Straight::Store { target } => match self.place(alloc, target)? {
                 Some(slot) => Ok(Some(TypedInstruction::Store { slot })),
                 None => Ok(None),
             },
-            Instruction::Combine { operator, operand } => match self.source(alloc, operand)? {
-                Some(source) => Ok(Some(TypedInstruction::Combine { operator, source })),
+            Straight::Combine { connective, source } => match self.source(alloc, source)? {
+                Some(source) => Ok(Some(TypedInstruction::Combine { connective, source })),
                 None => Ok(None),
             },
         }
     }
 
-    #[tactic(auto, using(crate::proofs::EntryLemmas::entry_rules))]
+    /// The instruction of an item on places, if it is one that is checked and its name has a place.
     fn item(&self, alloc: Global, item: &Item<'_>) -> Result<Option<TypedInstruction>, AllocError>
         ensures { IfOk result (λ typed. typed ≡ spec.entry_at (places_of self.now) (entry_of item.now)) }
     {
-        match item {
-            Item::Instruction { instruction, .. } => self.instruction(alloc, *instruction),
-            Item::Block { .. } => Ok(None),
+        match straight_of(item) {
+            Some(instruction) => self.instruction(alloc, instruction),
+            None => Ok(None),
         }
     }
 }

@@ -4,7 +4,13 @@ ghost use Rattle.il_check.specs.Slots.{AreApart, IsWithin, names_of};
 
 use bay_base::text::Text;
 use bay_config::bay::Origin;
-use il_text::program::Operator;
+
+/// An operator of two truth values (IEC 61131-3:2003, table 52).
+#[derive(Clone, Copy, Debug, PartialEq, Eq)]
+pub enum Connective {
+    And,
+    Or,
+}
 
 /// What an instruction reads.
 #[derive(Clone, Copy, Debug, PartialEq, Eq)]
@@ -17,11 +23,19 @@ pub enum Source {
 #[derive(Clone, Copy, Debug, PartialEq, Eq)]
 pub enum TypedInstruction {
     /// The source, or with negation its opposite, becomes the current result.
-    Load { negated: bool, source: Source },
+    Load {
+        negated: bool,
+        source: Source,
+    },
     /// The current result is stored.
-    Store { slot: usize },
+    Store {
+        slot: usize,
+    },
     /// The current result is combined with the source.
-    Combine { operator: Operator, source: Source },
+    Combine {
+        connective: Connective,
+        source: Source,
+    },
 }
 
 /// A variable of a program (IEC 61131-3:2003, 2.4.3), which has a slot.

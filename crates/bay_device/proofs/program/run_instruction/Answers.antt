@@ -16,4 +16,4 @@ pub returns-in-Some-current-clause-acts : goal.returns-in-Some-current-clause-ac
 returns-in-Some-current-clause-acts c = λ names apart same.
     let within = rw c.in-Combine.is at c.requires in
     rw (c.in-Combine.is, c.in-Some-current.is)
-    (acted-Combine names c.args.values.now apart same c.in-Combine.operator c.in-Combine.source c.in-Some-current.left _ _ within c.source_value-in-Some-current.ensures c.combined.ensures)
+    (acted-Combine names c.args.values.now apart same c.in-Combine.connective c.in-Combine.source c.in-Some-current.left _ _ within c.source_value-in-Some-current.ensures c.combined.ensures)

@@ -1,5 +1,5 @@
 use Rattle.std.proofs.Common.{◌≡◌, ℕ, List, length, drop, None}
-use Rattle.il_text.specs.Meaning.{mean_from}
+use Rattle.il_check.specs.Meaning.{mean_from}
 use Rattle.il_check.specs.Slots.{AreApart, items_named}
 use Rattle.bay_device.proofs.SlotLemmas.{at_slots}
 use Rattle.bay_device.proofs.program.run_instructions.Given as goal

@@ -2,6 +2,7 @@ use Rattle.il_check.proofs.StandingLemmas.{so_far-more, so_far-none}
 use Rattle.std.proofs.Common.{None, arith}
 use Rattle.il_text.specs.declared.program.Declaration.{Declaration}
 use Rattle.il_text.specs.declared.program.Scope.TheVariants.{Local}
+use Rattle.il_text.specs.declared.program.DeclaredType.TheVariants.{Elementary}
 use Rattle.bay_base.specs.declared.types.ElementaryType.TheVariants as elementary
 use Rattle.std.proofs.Common.{[]}
 use Rattle.il_check.proofs.declare.declare_all.Goals as goal
@@ -11,7 +12,7 @@ loop-declaration-init c = so_far-none c.args.points.now c.args.declarations.now 
 
 pub loop-declaration-preserved : goal.loop-declaration-preserved
 loop-declaration-preserved c =
-    let at : Declaration = record { line = 0; scope = Local; name = record { ref_ptr = (0, 0); now = [] }; kind = elementary.Bool; initial = None } in
+    let at : Declaration = record { line = 0; scope = Local; name = record { ref_ptr = (0, 0); now = [] }; kind = Elementary elementary.Bool; initial = None } in
     so_far-more c.args.points.now c.args.declarations.now c.loop-declaration.declaration-index at c.loop-declaration.declared c.declare.new.self
     c.loop-declaration.declared.variables.ok.0 (omega arith) c.loop-declaration.invariant
     (record {
