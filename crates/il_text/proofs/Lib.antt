@@ -1,6 +1,9 @@
 pub mod CutLemmas
+pub mod DerivedLemmas
 pub mod DurationLemmas
+pub mod FinishLemmas
 pub mod FormLemmas
+pub mod GrammarLemmas
 pub mod LexemeLemmas
 pub mod ListingLemmas
 pub mod LiteralLemmas
@@ -8,3 +11,5 @@ pub mod PieceLemmas
 pub mod PlaceLemmas
 pub mod ReadLemmas
 pub mod RespellingLemmas
+pub mod TextLemmas
+pub mod UniqueLemmas

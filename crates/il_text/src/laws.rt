@@ -1,5 +1,17 @@
 // Laws of the definition of a text's program, each the contract of a function that does nothing.
+ghost use Rattle.il_text.specs.Grammar.{OneProgram};
 ghost use Rattle.il_text.specs.Respelling.{BlanksMayBeRespelled};
+ghost use Rattle.il_text.specs.Texts.{OneReading};
+
+/// At most one program is derived from the parts of lines (IEC 61131-3:2003, 2.5.3 and annex B).
+pub fn one_program_is_derived()
+    ensures { OneProgram }
+{}
+
+/// A text reads as one program, or has one fault.
+pub fn one_reading()
+    ensures { OneReading }
+{}
 
 /// Blanks and whole comments between two parts of a text, within their line, may be spelled by other
 /// blanks and comments: the text makes the same program, or has the same fault
