@@ -1,3 +1,7 @@
+pub mod CaseCutting
+pub mod CaseForms
+pub mod CaseLemmas
+pub mod CaseReading
 pub mod CutLemmas
 pub mod DerivedLemmas
 pub mod DurationLemmas

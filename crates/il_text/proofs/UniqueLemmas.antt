@@ -1,9 +1,10 @@
 -- A text reads as one thing, and the lines of its program's items never fall.
-use Rattle.std.proofs.Common.{◌≡◌, ℕ, ◌+◌, ◌≤◌, ◌⊎◌, false, inl, inr, List, [], ◌∷◌, ◌++◌, map, Option, Some, None, Result, Ok, Err, refl, sym, ap, subst, ◌∙◌, arith}
+use Rattle.std.proofs.Common.{◌≡◌, ℕ, ◌+◌, ◌≤◌, ◌⊎◌, true, false, inl, inr, List, [], ◌∷◌, ◌++◌, map, Option, Some, None, Result, Ok, Err, refl, sym, ap, subst, ◌∙◌, arith}
 use Rattle.std.specs.List.{flat_map}
+use Rattle.std.proofs.lemmas.Bool.{le-leb}
 use Rattle.std.proofs.lemmas.List.{map-append}
 use Rattle.il_text.specs.Forms.{parts_of}
-use Rattle.il_text.specs.Grammar.{Numbered, block_parts, entry_parts, Derives, Rises, line_of, item_lines}
+use Rattle.il_text.specs.Grammar.{Numbered, block_parts, entry_parts, Derives, rises, line_of, item_lines}
 use Rattle.il_text.specs.Listing.{PlainProgram}
 use Rattle.il_text.specs.Parts.{Part, heading, ending}
 use Rattle.il_text.specs.Places.{last_line}
@@ -81,6 +82,14 @@ abbrev Climbs : ℕ → List ℕ → ℕ → Type 0
 Climbs k [] m = k ≤ m
 Climbs k (x ∷ xs) m = (k ≤ x) × Climbs x xs m
 
+abbrev Rises : ℕ → List ℕ → Type 0
+Rises k [] = Unit {0}
+Rises k (x ∷ xs) = (k ≤ x) × Rises x xs
+
+rises_so : (k : ℕ) (xs : List ℕ) → Rises k xs → rises k xs ≡ true
+rises_so k [] c = refl
+rises_so k (x ∷ xs) c = rw (le-leb k x c.0) (rises_so x xs c.1)
+
 lower : (j k m : ℕ) (xs : List ℕ) → j ≤ k → Climbs k xs m → Climbs j xs m
 lower j k m [] h c = omega (arith, h, c)
 lower j k m (x ∷ xs) h c = (omega (arith, h, c.0), c.1)
@@ -146,7 +155,7 @@ reads_rise last before n (l ∷ ls) p c d =
     (climbs_append 0 n (n + 1) (map line_of (all_parts before)) (map line_of (numbered (n, ps))) c (one_line n ps n (omega arith)))) k) g)
     d
 
-pub items_rise : (text : List ℕ) (p : PlainProgram) → program_of text ≡ Ok p → Rises 0 (item_lines p.items)
+pub items_rise : (text : List ℕ) (p : PlainProgram) → program_of text ≡ Ok p → rises 0 (item_lines p.items) ≡ true
 unfolding ReadsAs
 items_rise text p e =
-    reads_rise (last_line text) [] 1 (lines (cut false text)) p (omega arith) (subst (λ (x : Result PlainProgram TextFault). Reads (last_line text) [] 1 (lines (cut false text)) x) e (text_reads text))
+    rises_so 0 (item_lines p.items) (reads_rise (last_line text) [] 1 (lines (cut false text)) p (omega arith) (subst (λ (x : Result PlainProgram TextFault). Reads (last_line text) [] 1 (lines (cut false text)) x) e (text_reads text)))

@@ -1,6 +1,6 @@
 // Reads a program from a text.
 ghost use Rattle.std.specs.Prelude.{◌≡◌, ◌≢◌, ◌<◌, ◌≤◌, ◌+◌, true, false, drop, length, Ok, Err, OnOk, IfOk, IfErr};
-ghost use Rattle.il_text.specs.Grammar.{Rises, item_lines};
+ghost use Rattle.il_text.specs.Grammar.{rises, item_lines};
 ghost use Rattle.il_text.specs.ListingViews.{reached_of};
 ghost use Rattle.il_text.specs.Pieces.{opens as starts_comment};
 ghost use Rattle.il_text.specs.Reading.{listed, program_of};
@@ -39,7 +39,7 @@ struct Reader<'a> {
 pub fn read_program<'a>(alloc: Global, text: &'a str) -> Result<Program<'a>, TextFault>
     ensures ok { IfOk result (λ program. ReadsAs text.now (Ok (plain_program program))) }
     ensures refused { IfErr result (λ fault. fault ≢ OutOfMemory → ReadsAs text.now (Err fault)) }
-    ensures lines { IfOk result (λ program. Rises 0 (item_lines (plain_program program).items)) }
+    ensures lines { IfOk result (λ program. rises 0 (item_lines (plain_program program).items) ≡ true) }
 {
     let program = read_lines(alloc, text)?;
     Ok(program)

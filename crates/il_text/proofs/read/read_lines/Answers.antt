@@ -1,6 +1,7 @@
 use Rattle.std.proofs.Common.{◌≤◌, length, sym, ◌∙◌, refl}
 use Rattle.std.proofs.lemmas.Result.{err_from_is_err_and}
-use Rattle.il_text.specs.ListingViews.{read_of}
+use Rattle.il_text.specs.ListingViews.{reached_of, read_of}
+use Rattle.il_text.specs.Reading.{listed}
 use Rattle.il_text.specs.TokenViews.{symbols_of}
 use Rattle.il_text.proofs.ReadLemmas.{program_start, text_end}
 use Rattle.il_text.proofs.UniqueLemmas.{items_rise}
@@ -30,3 +31,13 @@ returns-clause-ok c =
     let r = c.loop-reader.reader in
     let end : length r.text.now ≤ r.at = rw c.loop-reader.invariant.same c.loop-reader-test.false in
     sym c.loop-reader.invariant.left ∙ text_end r.last (read_of r.listing) r.line (symbols_of r.tokens.items) r.text.now r.in_comment r.at end ∙ c.in_ok-finish.ensures.ok
+
+pub invariant_of-result : goal.invariant_of-result
+invariant_of-result c =
+    let r = c.loop-reader.reader in
+    let end : length r.text.now ≤ r.at = rw c.loop-reader.invariant.same c.loop-reader-test.false in
+    record {
+      rising =
+          items_rise c.args.text.now (listed (reached_of c.finish.new.self.listing))
+          (sym c.loop-reader.invariant.left ∙ text_end r.last (read_of r.listing) r.line (symbols_of r.tokens.items) r.text.now r.in_comment r.at end ∙ c.in_ok-finish.ensures.ok);
+    }
