@@ -1,6 +1,13 @@
+pub mod CaseCutting
+pub mod CaseForms
+pub mod CaseLemmas
+pub mod CaseReading
 pub mod CutLemmas
+pub mod DerivedLemmas
 pub mod DurationLemmas
+pub mod FinishLemmas
 pub mod FormLemmas
+pub mod GrammarLemmas
 pub mod LexemeLemmas
 pub mod ListingLemmas
 pub mod LiteralLemmas
@@ -8,3 +15,5 @@ pub mod PieceLemmas
 pub mod PlaceLemmas
 pub mod ReadLemmas
 pub mod RespellingLemmas
+pub mod TextLemmas
+pub mod UniqueLemmas

@@ -1,5 +1,5 @@
 -- The grammar of a program, over the parts of its lines (IEC 61131-3:2003, 2.5.3 and annexes B.1.4.3, B.1.5.3 and B.2).
-use Rattle.std.specs.Prelude.{◌≡◌, ℕ, Bool, true, false, ◌&&◌, List, [], ◌∷◌, ◌++◌, map, Option}
+use Rattle.std.specs.Prelude.{◌≡◌, ℕ, Bool, true, false, ◌&&◌, nat_le, List, [], ◌∷◌, ◌++◌, map, Option}
 use Rattle.std.specs.Option.{is_none}
 use Rattle.std.specs.List.{flat_map, list_all}
 use Rattle.il_text.specs.Listing.{Action, load, store, combine, invert, convert, jump, leave, call, Entry, label, action, block, Entries, no_entries, entry, Declared, PlainProgram}
@@ -117,3 +117,19 @@ pub record CanGoOn (ps : List Numbered) : Type 0 where
   pub more : List Numbered
   pub program : PlainProgram
   pub derived : Derives (ps ++ more) program
+
+-- at most one program is derived from the parts of lines
+abbrev pub OneProgram : Type 0
+OneProgram = (ps : List Numbered) (p q : PlainProgram) → Derives ps p → Derives ps q → p ≡ q
+
+abbrev pub line_of : Numbered → ℕ
+line_of p = p.0
+
+-- numbers that never fall, from this one on
+abbrev pub rises : ℕ → List ℕ → Bool
+rises k [] = true
+rises k (x ∷ xs) = nat_le k x && rises x xs
+
+-- the lines of entries, from the first to the last: of a parenthesis that of its operator, those in it, and that of its `)`
+abbrev pub item_lines : List Entry → List ℕ
+item_lines es = map line_of (flat_map entry_parts es)

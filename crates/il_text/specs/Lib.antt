@@ -5,6 +5,8 @@ pub mod Durations
 pub mod FormViews
 pub mod Forms
 pub mod Grammar
+pub mod ItemViews
+pub mod LetterCase
 pub mod Listing
 pub mod ListingViews
 pub mod Literals

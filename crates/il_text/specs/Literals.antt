@@ -97,14 +97,14 @@ abbrev pub truth_of : List ℕ → Option Bool
 truth_of w = if same_name w (codes "TRUE") then Some true else (if same_name w (codes "FALSE") then Some false else None)
 
 -- TRUE and FALSE are literals that no type of numbers holds
-abbrev number_or_truth : List ℕ → Option Bool → Result ℤ LiteralFault
+abbrev pub number_or_truth : List ℕ → Option Bool → Result ℤ LiteralFault
 number_or_truth w (Some b) = Err OutOfRange
 number_or_truth w None = signed (integer w)
 
 unfoldable pub typed_number : List ℕ → Result ℤ LiteralFault
 typed_number w = number_or_truth w (truth_of w)
 
-abbrev bool_or_truth : List ℕ → Option Bool → Result Literal LiteralFault
+abbrev pub bool_or_truth : List ℕ → Option Bool → Result Literal LiteralFault
 bool_or_truth w (Some b) = Ok (Truth b)
 bool_or_truth w None = read_on (signed (integer w)) bool_literal
 

@@ -19,7 +19,7 @@ literal_piece (Ok value) = token (literal value)
 literal_piece (Err Malformed) = bad_token
 literal_piece (Err OutOfRange) = bad_literal
 
-abbrev name_or_reserved : List ℕ → Option Symbol → Piece
+abbrev pub name_or_reserved : List ℕ → Option Symbol → Piece
 name_or_reserved w (Some s) = token s
 name_or_reserved w None = if nat_le (length w) 64 then token (name w) else bad_token
 

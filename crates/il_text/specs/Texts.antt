@@ -81,3 +81,7 @@ Reads last before line (l ∷ ls) r =
 -- what a text reads as
 unfoldable pub ReadsAs : List ℕ → Result PlainProgram TextFault → Type 0
 ReadsAs text r = Reads (last_line text) [] 1 (lines (cut false text)) r
+
+-- a text reads as one program, or has one fault
+abbrev pub OneReading : Type 0
+OneReading = (text : List ℕ) (x y : Result PlainProgram TextFault) → ReadsAs text x → ReadsAs text y → x ≡ y

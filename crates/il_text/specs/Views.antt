@@ -1,58 +1,8 @@
 -- The plain data that a program of the code stands for.
-use Rattle.std.specs.Prelude.{List, [], ◌∷◌, map}
-use Rattle.il_text.specs.Listing.{Place, named, output, Source, constant, variable, Action, load, store, combine, invert, convert, jump, leave, call, Entry, label, action, block, entries_of, Declared, PlainProgram}
-use Rattle.il_text.specs.declared.program.Variable.{Variable}
-use Rattle.il_text.specs.declared.program.Variable.TheVariants as v
-use Rattle.il_text.specs.declared.program.Operand.{Operand}
-use Rattle.il_text.specs.declared.program.Operand.TheVariants as o
-use Rattle.il_text.specs.declared.program.Input.{Input}
-use Rattle.il_text.specs.declared.program.Argument.{Argument}
-use Rattle.il_text.specs.declared.program.Arguments.{Arguments}
-use Rattle.il_text.specs.declared.program.Arguments.TheVariants as a
-use Rattle.il_text.specs.declared.program.Instruction.{Instruction}
-use Rattle.il_text.specs.declared.program.Instruction.TheVariants as i
-use Rattle.il_text.specs.declared.program.Item.{Item, fold-Item}
-use Rattle.il_text.specs.declared.program.Item.TheOpen.{Item-F}
-use Rattle.il_text.specs.declared.program.Declaration.{Declaration}
+use Rattle.std.specs.Prelude.{map}
+pub use Rattle.il_text.specs.ItemViews.{place_of, source_of, argument_of, arguments_of, action_of, entry_of, declared_of}
+use Rattle.il_text.specs.Listing.{PlainProgram}
 use Rattle.il_text.specs.declared.program.Program.{Program}
-
-abbrev pub place_of : Variable → Place
-place_of (v.Name name) = named name.now
-place_of (v.Output timer gives) = output timer.now gives
-
-abbrev pub source_of : Operand → Source
-source_of (o.Literal value) = constant value
-source_of (o.Variable place) = variable (place_of place)
-
-abbrev pub argument_of : Argument → Input × Source
-argument_of given = (given.input, source_of given.operand)
-
-abbrev pub arguments_of : Arguments → List (Input × Source)
-arguments_of a.None = []
-arguments_of (a.One first) = argument_of first ∷ []
-arguments_of (a.Two first second) = argument_of first ∷ argument_of second ∷ []
-
-abbrev pub action_of : Instruction → Action
-action_of (i.Load negated operand) = load negated (source_of operand)
-action_of (i.Store kind target) = store kind (place_of target)
-action_of (i.Combine operator negated operand) = combine operator negated (source_of operand)
-action_of i.Not = invert
-action_of (i.Convert conversion) = convert conversion
-action_of (i.Jump condition to) = jump condition to.now
-action_of (i.Return condition) = leave condition
-action_of (i.Call timer arguments) = call timer.now (arguments_of arguments)
-
--- one level of an item, with each item inside already seen as its entry
-abbrev pub entry_step : Item-F Entry → Entry
-entry_step (Item-F.Label line name) = label line name.now
-entry_step (Item-F.Instruction line instruction) = action line (action_of instruction)
-entry_step (Item-F.Block line operator negated items end) = block line operator negated (entries_of items.items) end
-
-abbrev pub entry_of : Item → Entry
-entry_of = fold-Item Entry entry_step
-
-abbrev pub declared_of : Declaration → Declared
-declared_of d = record { line = d.line; scope = d.scope; name = d.name.now; kind = d.kind; initial = d.initial }
 
 abbrev pub plain_program : Program → PlainProgram
 plain_program p = record { name = p.name.now; declarations = map declared_of p.declarations.items; items = map entry_of p.items.items }

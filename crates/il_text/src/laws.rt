@@ -1,9 +1,28 @@
 // Laws of the definition of a text's program, each the contract of a function that does nothing.
+ghost use Rattle.il_text.specs.Grammar.{OneProgram};
+ghost use Rattle.il_text.specs.LetterCase.{LettersMayBeRespelled};
 ghost use Rattle.il_text.specs.Respelling.{BlanksMayBeRespelled};
+ghost use Rattle.il_text.specs.Texts.{OneReading};
+
+/// At most one program is derived from the parts of lines (IEC 61131-3:2003, 2.5.3 and annex B).
+pub fn one_program_is_derived()
+    ensures { OneProgram }
+{}
+
+/// A text reads as one program, or has one fault.
+pub fn one_reading()
+    ensures { OneReading }
+{}
 
 /// Blanks and whole comments between two parts of a text, within their line, may be spelled by other
 /// blanks and comments: the text makes the same program, or has the same fault
 /// (IEC 61131-3:2003, 2.1.4 and 2.1.5).
 pub fn blanks_may_be_respelled()
     ensures { BlanksMayBeRespelled }
+{}
+
+/// Letters may be spelled in either case: a text in upper case reads as the text does, with its names in
+/// upper case, and has the same fault (IEC 61131-3:2003, 2.1.1).
+pub fn letters_may_be_respelled()
+    ensures { LettersMayBeRespelled }
 {}

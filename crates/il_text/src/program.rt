@@ -1,12 +1,18 @@
 // A program, whose names are slices of its text.
+ghost use Rattle.std.specs.Prelude.{◌≡◌, map, true};
+ghost use Rattle.il_text.specs.Grammar.{rises, item_lines};
+ghost use Rattle.il_text.specs.ItemViews.{entry_of};
+
 use bay_base::types::ElementaryType;
 
-/// A program: its name, what it declares, and its items in the order of the text.
+/// A program: its name, what it declares, and its items in the order of the text. The lines of the
+/// items never fall.
 #[derive(Drop)]
 pub struct Program<'a> {
     pub name: &'a str,
     pub declarations: Vec<Declaration<'a>>,
     pub items: Vec<Item<'a>>,
+    ghost rising: { rises 0 (item_lines (map entry_of items.items)) ≡ true },
 }
 
 /// One declared name, with its line counted from 1.

@@ -1,31 +1,22 @@
-use Rattle.std.proofs.Common.{◌≤◌, length, sym, ◌∙◌, refl}
+use Rattle.std.proofs.Common.{Result, Ok, Err, subst}
 use Rattle.std.proofs.lemmas.Result.{err_from_is_err_and}
-use Rattle.il_text.specs.ListingViews.{read_of}
-use Rattle.il_text.specs.TokenViews.{symbols_of}
-use Rattle.il_text.proofs.ReadLemmas.{program_start, text_end}
+use Rattle.il_text.specs.Listing.{PlainProgram}
+use Rattle.il_text.specs.Reading.{program_of}
+use Rattle.il_text.specs.Texts.{ReadsAs}
+use Rattle.il_text.specs.Views.{plain_program}
+use Rattle.il_text.specs.declared.fault.TextFault.{TextFault}
+use Rattle.il_text.proofs.TextLemmas.{text_reads}
+use Rattle.il_text.proofs.UniqueLemmas.{items_rise}
 use Rattle.il_text.proofs.read.read_program.Goals as goal
 
-pub loop-reader-init : goal.loop-reader-init
-loop-reader-init c = record {
-  same = refl;
-  left = rw c.new.ensures.items (program_start c.args.text.now _ _ c.last_line_of.ensures c.new-2.ensures);
-}
-
-pub returns-in_err-step-clause-refused : goal.returns-in_err-step-clause-refused
-returns-in_err-step-clause-refused c =
+pub returns-in_err-program-clause-refused : goal.returns-in_err-program-clause-refused
+returns-in_err-program-clause-refused c =
     let p = err_from_is_err_and c.from_residual.result c.from_residual.ensures.1 in
-    rw (p.1, p.2) (λ m. sym c.loop-reader.invariant.left ∙ c.in_err-step.ensures.refused m)
-
-pub returns-in_err-finish-clause-refused : goal.returns-in_err-finish-clause-refused
-returns-in_err-finish-clause-refused c =
-    let r = c.loop-reader.reader in
-    let end : length r.text.now ≤ r.at = rw c.loop-reader.invariant.same c.loop-reader-test.false in
-    let p = err_from_is_err_and c.from_residual-in_err-finish.result c.from_residual-in_err-finish.ensures.1 in
     rw (p.1, p.2)
-    (λ m. sym c.loop-reader.invariant.left ∙ text_end r.last (read_of r.listing) r.line (symbols_of r.tokens.items) r.text.now r.in_comment r.at end ∙ c.in_err-finish.ensures.refused m)
+    (λ m. subst (λ (x : Result PlainProgram TextFault). ReadsAs c.args.text.now x) (c.in_err-program.ensures.refused m) (text_reads c.args.text.now))
 
 pub returns-clause-ok : goal.returns-clause-ok
-returns-clause-ok c =
-    let r = c.loop-reader.reader in
-    let end : length r.text.now ≤ r.at = rw c.loop-reader.invariant.same c.loop-reader-test.false in
-    sym c.loop-reader.invariant.left ∙ text_end r.last (read_of r.listing) r.line (symbols_of r.tokens.items) r.text.now r.in_comment r.at end ∙ c.in_ok-finish.ensures.ok
+returns-clause-ok c = subst (λ (x : Result PlainProgram TextFault). ReadsAs c.args.text.now x) c.in_ok-program.ensures.ok (text_reads c.args.text.now)
+
+pub returns-clause-lines : goal.returns-clause-lines
+returns-clause-lines c = items_rise c.args.text.now (plain_program c.in_ok-program.program) c.in_ok-program.ensures.ok

@@ -1,7 +1,7 @@
 use Rattle.std.proofs.Common.{◌≡◌, ◌-◌, length}
 use Rattle.il_text.specs.Reading.{program_of}
 use Rattle.il_text.specs.ReaderViews.{left_of}
-use Rattle.il_text.proofs.read.read_program.Given as goal
+use Rattle.il_text.proofs.read.read_lines.Given as goal
 
 abbrev pub invariant-loop-reader : goal.invariant-loop-reader
 invariant-loop-reader l = record {
