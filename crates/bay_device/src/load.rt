@@ -1,5 +1,5 @@
 // A device from the texts of a bay file and a program.
-ghost use Rattle.std.specs.Prelude.{◌≡◌, IfOk};
+ghost use Rattle.std.specs.Prelude.{◌≡◌, ◌≢◌, Ok, Err, IfOk, IfErr};
 ghost use Rattle.bay_base.specs.Exact.{Gives};
 ghost use Rattle.bay_config.specs.Bay.{bay_of};
 ghost use Rattle.bay_config.specs.Laws.{IsBay};
@@ -7,6 +7,7 @@ ghost use Rattle.il_check.specs.TypedView.{typed_view};
 ghost use Rattle.il_check.specs.WellTyped.{checked_of};
 ghost use Rattle.il_text.specs.Reading.{program_of};
 ghost use Rattle.il_text.specs.Views.{plain_program};
+ghost use Rattle.il_text.specs.declared.fault.TextFault.TheVariants as text_fault;
 ghost use Rattle.bay_device.specs.StateView.{state_view};
 ghost use Rattle.bay_device.specs.Load.{initial_device, of_checked, of_program, of_bay};
 
@@ -21,6 +22,7 @@ use bay_config::read::read_bay;
 use bay_tree::tree::Tree;
 use il_check::check::check;
 use il_check::typed::Typed;
+use il_text::fault::TextFault;
 use il_text::program::Program;
 use il_text::read::read_program;
 use std::alloc::{AllocError, Global};
@@ -76,12 +78,21 @@ fn load_program(alloc: Global, bay: Bay, program: &Program<'_>) -> Result<Device
     Ok(Device::of_state(alloc, state))
 }
 
+/// The program of a text; what a text reads as is one program, or one fault.
+fn program_in<'a>(alloc: Global, logic: &'a str) -> Result<Program<'a>, TextFault>
+    ensures ok { IfOk result (λ program. program_of logic.now ≡ Ok (plain_program program)) }
+    ensures refused { IfErr result (λ fault. fault ≢ text_fault.OutOfMemory → program_of logic.now ≡ Err fault) }
+{
+    let program = read_program(alloc, logic)?;
+    Ok(program)
+}
+
 /// The device of a bay and the text of a program.
 fn load_text(alloc: Global, bay: Bay, logic: &str) -> Result<Device, LoadFault>
     requires { IsBay bay }
     ensures { Gives LoadFault.OutOfMemory (λ device. device) result (of_program bay (program_of logic.now)) }
 {
-    let program = read_program(alloc, logic)?;
+    let program = program_in(alloc, logic)?;
     load_program(alloc, bay, &program)
 }
 
