@@ -1,3 +1,4 @@
 pub mod EffectLemmas
 pub mod JudgeLemmas
+pub mod TableLemmas
 pub mod WithinLemmas
