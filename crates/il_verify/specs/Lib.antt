@@ -1,5 +1,6 @@
 pub mod Binding
 pub mod Codes
+pub mod Frames
 pub mod Judging
 pub mod Refusals
 pub mod Slots

@@ -14,5 +14,7 @@
 
 pub(crate) mod effect;
 pub mod fault;
+pub(crate) mod frame;
+pub(crate) mod plan;
 pub(crate) mod points;
 pub(crate) mod slots;
