@@ -28,7 +28,7 @@ use Rattle.il_image.specs.Tables.{slot_types}
 use Rattle.il_image.specs.Values.{type_of}
 use Rattle.il_image.proofs.KindLemmas.{same_self, within_along}
 use Rattle.il_verify.specs.declared.fault.VerifyFault.{VerifyFault}
-use Rattle.il_verify.specs.declared.fault.VerifyFault.TheVariants.{StackEmpty, StackFull, WrongKind, ZeroDivisor, NoSlot, NoTimer, BadBinding}
+use Rattle.il_verify.specs.declared.fault.VerifyFault.TheVariants.{StackEmpty, StackFull, WrongKind, ZeroDivisor, NoSlot, NoTimer, BadTarget, Unreachable, DepthClash, NoHalt, BadBinding, OutOfMemory}
 use Rattle.il_verify.specs.declared.slots.Slot.{Slot as UsedSlot}
 use Rattle.il_verify.specs.Judging.{◌or_else◌, fault_of, is_full, misfit, missing, operands, undivided, unfit, where_so, writes_read_only}
 use Rattle.il_verify.specs.Slots.{point_slot, slots_of, types_of, variable_slot}
@@ -233,3 +233,64 @@ faultless_fine slots timers i kinds e =
       writes = not_so (writes_read_only slots i) BadBinding d.0;
       room = λ gives is. few (length gives) (subst (λ (o : Option (List Kind)). is_full o ≡ false) is (not_so (is_full (effect (types_of slots) timers i kinds)) StackFull d.1));
     }
+
+-- ---- which faults an instruction has by itself
+
+abbrev pub IsOwn : VerifyFault → Type 0
+IsOwn StackEmpty = Unit {0}
+IsOwn StackFull = Unit {0}
+IsOwn WrongKind = Unit {0}
+IsOwn ZeroDivisor = Unit {0}
+IsOwn NoSlot = Unit {0}
+IsOwn NoTimer = Unit {0}
+IsOwn BadBinding = Unit {0}
+IsOwn BadTarget = ⊥
+IsOwn Unreachable = ⊥
+IsOwn DepthClash = ⊥
+IsOwn NoHalt = ⊥
+IsOwn OutOfMemory = ⊥
+
+-- each fault there is an own one
+abbrev AllOwn : Option VerifyFault → Type 0
+AllOwn None = Unit {0}
+AllOwn (Some f) = IsOwn f
+
+both_own : (a b : Option VerifyFault) → AllOwn a → AllOwn b → AllOwn (a or_else b)
+both_own None b h g = g
+both_own (Some f) b h g = h
+
+so_own : (b : Bool) (f : VerifyFault) → IsOwn f → AllOwn (where_so b f)
+so_own true f h = h
+so_own false f h = tt
+
+unless_own : (b : Bool) (f : VerifyFault) → IsOwn f → AllOwn (cond b None (Some f))
+unless_own true f h = tt
+unless_own false f h = h
+
+unfit_own : (a b : Option (List Kind)) → AllOwn (unfit a b)
+unfit_own None b = tt
+unfit_own (Some x) None = tt
+unfit_own (Some x) (Some y) = tt
+
+missing_own : (slots timers : ℕ) (i : Instr) → AllOwn (missing slots timers i)
+missing_own slots timers (Slot slot_use n) = unless_own (nat_lt n slots) NoSlot tt
+missing_own slots timers (Timer timer_use n) = unless_own (nat_lt n timers) NoTimer tt
+missing_own slots timers Halt = tt
+missing_own slots timers (Push v) = tt
+missing_own slots timers Drop = tt
+missing_own slots timers Not = tt
+missing_own slots timers (Combine c) = tt
+missing_own slots timers (Compute o w) = tt
+missing_own slots timers (Compare c) = tt
+missing_own slots timers (Widen w) = tt
+missing_own slots timers (Jump when distance) = tt
+
+pub own_of : (slots : List UsedSlot) (timers : ℕ) (i : Instr) (kinds : List Kind) (f : VerifyFault) → fault_of slots timers i kinds ≡ Some f → IsOwn f
+unfolding fault_of
+own_of slots timers i kinds f e =
+    let all : AllOwn (fault_of slots timers i kinds) =
+        both_own (missing (length slots) timers i) _ (missing_own (length slots) timers i)
+        (both_own (where_so (nat_lt (length kinds) (operands i)) StackEmpty) _ (so_own _ StackEmpty tt)
+        (both_own (misfit slots timers i kinds) _ (unfit_own _ _)
+        (both_own (where_so (writes_read_only slots i) BadBinding) _ (so_own _ BadBinding tt) (so_own _ StackFull tt)))) in
+    subst AllOwn e all

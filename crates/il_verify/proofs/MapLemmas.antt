@@ -24,10 +24,10 @@ here_is p q e = grind (arith, nat_tests)
 not_here : (p q : ℕ) → (q ≡ p → ⊥) → (q == p) ≡ false
 not_here p q ne = grind (arith, nat_tests)
 
-pub beside_here : (p q : ℕ) (mark : Option Mark) (marks : Marks) → q ≡ p → beside p mark marks q ≡ mark
+pub beside_here : {A : Type 0} (p q : ℕ) (mark : Option A) (marks : ℕ → Option A) → q ≡ p → beside p mark marks q ≡ mark
 beside_here p q mark marks e = ap (λ (b : Bool). cond b mark (marks q)) (here_is p q e)
 
-pub beside_other : (p q : ℕ) (mark : Option Mark) (marks : Marks) → (q ≡ p → ⊥) → beside p mark marks q ≡ marks q
+pub beside_other : {A : Type 0} (p q : ℕ) (mark : Option A) (marks : ℕ → Option A) → (q ≡ p → ⊥) → beside p mark marks q ≡ marks q
 beside_other p q mark marks ne = ap (λ (b : Bool). cond b mark (marks q)) (not_here p q ne)
 
 pub mark_at : (m : BTreeMap ℕ Frame) (place : ℕ) (o : Option Frame) → o ≡ get_by (nat_cmp place) m → marks_of m place ≡ option_map mark_of o

@@ -111,6 +111,19 @@ few_behind image table place i next kinds gives p here known effect_is =
     (faultless_fine (slots_of image) (length image.timers) i kinds (passed_fault image table place i next kinds p here known)).room gives
     (ap (λ (types : List ElementaryType). effect types (length image.timers) i kinds) (types_are image) ∙ effect_is)
 
+-- What comes to a place together has at most 32 kinds.
+pub merge_room : (image : Image) (table : Table) (done : ℕ) → IsFront image table done → (bound to : ℕ) (kinds : List Kind) → IsMerge image table bound to kinds → length kinds ≤ 32
+merge_room image table done front bound to kinds m =
+    let size : length m.some.0 ≡ length kinds = within_length m.some.0 kinds (m.above m.some.0 m.some.1) in
+    elim m.some.1 [
+      | inl e ↦ (let none : length m.some.0 ≡ 0 = ap length e.1 in omega arith)
+      | inr c ↦
+          (let f = c.2 in
+          let o = front.only c.0 f.before f.known in
+          let least : length m.some.0 ≤ 32 = few_behind image table c.0 f.instr f.next f.before m.some.0 (front.passes c.0 o.0 o.1) f.here f.known f.gives in
+          omega arith)
+    ]
+
 module _ (image : Image) (table : Table) (front : IsFront image table (length image.code)) where
   enters_next : (place : ℕ) (p : Passes image table place) (to : ℕ) → LeadsTo p.instr p.next to → Enters table to p.gives
   enters_next place p to way =
@@ -135,17 +148,7 @@ module _ (image : Image) (table : Table) (front : IsFront image table (length im
       }
 
   room_there : (place : ℕ) (kinds : List Kind) → table place ≡ Some kinds → length kinds ≤ 32
-  room_there place kinds is =
-      let m = front.merged place kinds is in
-      let size : length m.some.0 ≡ length kinds = within_length m.some.0 kinds (m.above m.some.0 m.some.1) in
-      elim m.some.1 [
-        | inl e ↦ (let none : length m.some.0 ≡ 0 = ap length e.1 in omega arith)
-        | inr c ↦
-            (let f = c.2 in
-            let o = front.only c.0 f.before f.known in
-            let least : length m.some.0 ≤ 32 = few_behind image table c.0 f.instr f.next f.before m.some.0 (front.passes c.0 o.0 o.1) f.here f.known f.gives in
-            omega arith)
-      ]
+  room_there place kinds is = merge_room image table (length image.code) front place place kinds (front.merged place kinds is)
 
   reached_there : (place : ℕ) → IsPlace image.code place → (place ≡ 0 → ⊥) → (from : ℕ) × IsPlace image.code from × IsSuccessor image.code from place
   reached_there place is ne =
@@ -316,8 +319,8 @@ module _ (image : Image) (table : Table) (done : ℕ) (front : IsFront image tab
 
 -- ---- the longest list
 
-pub is_depth : (image : Image) (table : Table) → IsFront image table (length image.code) → (depth : ℕ) → IsLongest table depth → IsDepth image depth
-is_depth image table front depth l other agrees_so = record {
+longest_so : (image : Image) (table : Table) → IsFront image table (length image.code) → (depth : ℕ) → IsLongest table depth → (other : Table) → Agrees image other → IsLongest other depth
+longest_so image table front depth l other agrees_so = record {
   some =
     (let e = lies_above image table (length image.code) front other agrees_so l.some.0 l.some.1 l.some.2 in
     (l.some.0, e.0, e.1, sym (within_length l.some.1 e.0 e.2) ∙ l.some.3));
@@ -331,6 +334,9 @@ is_depth image table front depth l other agrees_so = record {
     let most : length p.kinds ≤ depth = l.most place p.kinds p.known in
     omega arith;
 }
+
+pub is_depth : (image : Image) (table : Table) → IsFront image table (length image.code) → (depth : ℕ) → IsLongest table depth → IsDepth image depth
+is_depth image table front depth l = record { each = longest_so image table front depth l }
 
 -- ---- a refusal
 

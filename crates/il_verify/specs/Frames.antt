@@ -48,9 +48,9 @@ Marks = ℕ → Option Mark
 unfoldable pub marks_of : BTreeMap ℕ Frame → Marks
 marks_of pending place = option_map mark_of (tree.get nat_cmp pending place)
 
--- the mark at one place beside those of the others
-abbrev pub beside : ℕ → Option Mark → Marks → Marks
-beside place mark marks q = if q == place then mark else marks q
+-- what is known of one place beside what is known of the others
+abbrev pub beside : {A : Type 0} → ℕ → Option A → (ℕ → Option A) → ℕ → Option A
+beside place known others q = if q == place then known else others q
 
 -- Another path comes to a place: the new mark is the least above the old one, if there is one, and this.
 pub record Grows (come : Mark) (old : Option Mark) (new : Mark) : Type 0 where

@@ -30,11 +30,16 @@ pub record IsLongest (table : Table) (depth : ℕ) : Type 0 where
   pub most : (place : ℕ) (kinds : List Kind) → table place ≡ Some kinds → length kinds ≤ depth
 
 -- The length of a longest list of each table that agrees with the code.
-abbrev pub IsDepth : Image → ℕ → Type 0
-IsDepth image depth = (table : Table) → Agrees image table → IsLongest table depth
+pub record IsDepth (image : Image) (depth : ℕ) : Type 0 where
+  pub each : (table : Table) → Agrees image table → IsLongest table depth
 
 -- What a verified image keeps.
 pub record IsMeasured (image : Image) (budget depth : ℕ) : Type 0 where
   pub safe : IsSafe image
   pub longest : IsBudget image.code budget
   pub deepest : IsDepth image depth
+
+-- The image fits the bay, and its code can't go wrong.
+pub record IsVerified (bay : List Point) (image : Image) : Type 0 where
+  pub fits : fits bay image ≡ true
+  pub safe : IsSafe image

@@ -15,6 +15,9 @@
 pub(crate) mod effect;
 pub mod fault;
 pub(crate) mod frame;
+pub(crate) mod pass;
 pub(crate) mod plan;
 pub(crate) mod points;
 pub(crate) mod slots;
+pub mod verify;
+pub(crate) mod visit;
