@@ -1,5 +1,5 @@
 -- An instruction that is allowed on kinds is allowed on kinds within them, and gives kinds within those that it gives there.
-use Rattle.std.proofs.Common.{◌≡◌, ℕ, Bool, true, false, cond, List, [], ◌∷◌, refl, sym, ap, subst, ◌∙◌, Option, Some, None}
+use Rattle.std.proofs.Common.{◌≡◌, ℕ, Bool, true, false, cond, List, [], ◌∷◌, refl, ap, subst, ◌∙◌, Option, Some, None}
 use Rattle.std.specs.Prelude.{nat_lt, slice_get}
 use Rattle.bay_base.specs.declared.types.ElementaryType.{ElementaryType}
 use Rattle.bay_base.specs.declared.types.ElementaryType.TheVariants as elementary
@@ -19,7 +19,6 @@ use Rattle.il_image.specs.Arithmetic.{type_of_width}
 use Rattle.il_image.specs.Effects.{◌>>=◌, are_compared, below, compares, effect, kind_of, looks_at, second_kind, two, type_of_kind, widens, with_timer, with_truth}
 use Rattle.il_image.specs.Kinds.{AreWithin, is_within}
 use Rattle.il_image.proofs.KindLemmas.{within_along, within_self, same_self, same_is}
-use Rattle.il_verify.proofs.WithinLemmas.{all_within_self}
 
 pub some_same : {A : Type 0} (x y : A) → Some x ≡ Some y → x ≡ y
 some_same x y e = cc
@@ -103,7 +102,7 @@ compares_lower c (x ∷ v ∷ xs) (y ∷ u ∷ ys) upper h e =
     let s = bind_some (type_of_kind u) (λ (s : ElementaryType). cond (are_compared c s t.0) (Some (Plain elementary.Bool ∷ ys)) None) upper t.2 in
     let b = if_some (are_compared c s.0 t.0) (Plain elementary.Bool ∷ ys) upper s.2 in
     let made : compares c (x ∷ v ∷ xs) ≡ Some (Plain elementary.Bool ∷ xs) =
-        (rw (shown_lower x y t.0 h.0 t.1) (rw (shown_lower v u s.0 h.1.0 s.1) (rw b.0 refl))) in
+    (rw (shown_lower x y t.0 h.0 t.1) (rw (shown_lower v u s.0 h.1.0 s.1) (rw b.0 refl))) in
     lowers_at (compares c (x ∷ v ∷ xs)) (Plain elementary.Bool ∷ xs) (Plain elementary.Bool ∷ ys) upper made (refl, h.1.1) (ap (λ (k : List Kind). Some k) b.1)
 
 -- what widening makes of a top that is within the two kinds or not

@@ -1,15 +1,15 @@
 -- What comes of a frame where another path comes to its place.
-use Rattle.std.proofs.Common.{◌≡◌, ℕ, ◌+◌, ◌<◌, ◌≤◌, max, true, false, List, [], ◌∷◌, length, refl, sym, ap, subst, ◌∙◌, arith, Option, Some, None, reverse, ◌⊎◌, inl, inr}
+use Rattle.std.proofs.Common.{◌≡◌, ℕ, ◌≤◌, max, List, [], ◌∷◌, length, refl, sym, ap, subst, ◌∙◌, arith, Option, Some, None, reverse, ◌⊎◌, inl, inr}
 use Rattle.std.proofs.lemmas.List.{reverse-reverse, length-reverse}
-use Rattle.std.proofs.lemmas.Bool.{cases_lt, cases_eq}
+use Rattle.std.proofs.lemmas.Bool.{cases_lt}
 use Rattle.std.specs.Prelude.{option_map, Result, Ok, Err, IfErr, IfOk}
 use Rattle.il_image.specs.declared.kind.Kind.{Kind}
 use Rattle.il_image.specs.Kinds.{AreWithin}
 use Rattle.il_image.proofs.KindLemmas.{join_over, join_least}
 use Rattle.il_verify.specs.declared.frame.Frame.{Frame}
-use Rattle.il_verify.specs.Frames.{Clashing, ComesWhere, Grows, Mark, Marks, joins, mark_of}
-use Rattle.il_verify.proofs.EffectLemmas.{not_both, some_same}
-use Rattle.il_verify.proofs.WithinLemmas.{all_within_along, all_within_self, within_length, within_reverse}
+use Rattle.il_verify.specs.Frames.{Clashing, Grows, Mark, joins, mark_of}
+use Rattle.il_verify.proofs.EffectLemmas.{some_same}
+use Rattle.il_verify.proofs.WithinLemmas.{all_within_along, all_within_self, within_reverse}
 
 joins_over : (xs ys : List Kind) → length xs ≡ length ys → AreWithin xs (joins xs ys) × AreWithin ys (joins xs ys)
 joins_over [] [] e = (tt, tt)
@@ -88,7 +88,6 @@ grows_along come old mid new h g = record {
         elim h.from [ inl f ↦ inl (e ∙ f) | inr v ↦ inr (v.0, v.1, e ∙ v.2) ])
   ];
 }
-
 
 -- kinds of another number than those of the place
 pub clash_of : (o : Option Frame) (frame : Frame) (kinds : List Kind) → o ≡ Some frame → (length frame.kinds.items ≡ length kinds → ⊥) → Clashing (option_map mark_of o) (reverse kinds)

@@ -1,6 +1,6 @@
 -- An instruction has no fault of its own exactly where it is allowed on the kinds, writes what it may, and leaves at most 32.
-use Rattle.std.proofs.Common.{◌≡◌, ℕ, zero, suc, ◌<◌, ◌≤◌, Bool, true, false, cond, List, [], ◌∷◌, length, map, refl, sym, ap, subst, ◌∙◌, arith, Option, Some, None, inl, inr}
-use Rattle.std.specs.Prelude.{nat_lt, slice_get, is_none}
+use Rattle.std.proofs.Common.{◌≡◌, ℕ, suc, ◌<◌, ◌≤◌, Bool, true, false, cond, List, [], ◌∷◌, length, map, refl, ap, subst, arith, Option, Some, None, inl, inr}
+use Rattle.std.specs.Prelude.{nat_lt, slice_get}
 use Rattle.std.proofs.lemmas.Bool.{cases_lt, lt-ltb, le-ltb}
 use Rattle.std.proofs.lemmas.List.{length-map, map-append}
 use Rattle.std.proofs.lemmas.Option.{slice_get_within}
@@ -8,8 +8,6 @@ use Rattle.std.proofs.lemmas.Simd.{map-map}
 use Rattle.bay_base.specs.declared.types.ElementaryType.{ElementaryType}
 use Rattle.bay_base.specs.declared.types.ElementaryType.TheVariants as elementary
 use Rattle.bay_base.specs.Types.{same_type}
-use Rattle.il_image.specs.declared.arithmetic.Operation.{Operation}
-use Rattle.il_image.specs.declared.arithmetic.Operation.TheVariants.{Add}
 use Rattle.il_image.specs.declared.arithmetic.Width.{Width}
 use Rattle.il_image.specs.declared.instr.Instr.{Instr}
 use Rattle.il_image.specs.declared.instr.Instr.TheVariants.{Halt, Push, Drop, Slot, Not, Combine, Compute, Compare, Widen, Jump, Timer}
@@ -20,12 +18,11 @@ use Rattle.il_image.specs.declared.opcode.Widening.TheVariants.{IntToDint, DintT
 use Rattle.il_image.specs.declared.opcode.When.TheVariants.{Always, IfTrue, IfFalse}
 use Rattle.il_image.specs.declared.opcode.TimerUse.TheVariants.{SetInput, SetPreset, Run, LoadOutput, LoadElapsed}
 use Rattle.il_image.specs.Arithmetic.{type_of_width}
-use Rattle.il_image.specs.Effects.{◌>>=◌, below, compares, effect, looks_at, second_kind, two, widens, with_timer, with_truth}
+use Rattle.il_image.specs.Effects.{◌>>=◌, below, effect, looks_at, second_kind, two, with_timer, with_truth}
 use Rattle.il_image.specs.Images.{Image}
 use Rattle.il_image.specs.Kinds.{is_within}
 use Rattle.il_image.specs.Machine.{divides}
 use Rattle.il_image.specs.Tables.{slot_types}
-use Rattle.il_image.specs.Values.{type_of}
 use Rattle.il_image.proofs.KindLemmas.{same_self, within_along}
 use Rattle.il_verify.specs.declared.fault.VerifyFault.{VerifyFault}
 use Rattle.il_verify.specs.declared.fault.VerifyFault.TheVariants.{StackEmpty, StackFull, WrongKind, ZeroDivisor, NoSlot, NoTimer, BadTarget, Unreachable, DepthClash, NoHalt, BadBinding, OutOfMemory}
@@ -289,8 +286,8 @@ pub own_of : (slots : List UsedSlot) (timers : ℕ) (i : Instr) (kinds : List Ki
 unfolding fault_of
 own_of slots timers i kinds f e =
     let all : AllOwn (fault_of slots timers i kinds) =
-        both_own (missing (length slots) timers i) _ (missing_own (length slots) timers i)
-        (both_own (where_so (nat_lt (length kinds) (operands i)) StackEmpty) _ (so_own _ StackEmpty tt)
-        (both_own (misfit slots timers i kinds) _ (unfit_own _ _)
-        (both_own (where_so (writes_read_only slots i) BadBinding) _ (so_own _ BadBinding tt) (so_own _ StackFull tt)))) in
+    both_own (missing (length slots) timers i) _ (missing_own (length slots) timers i)
+    (both_own (where_so (nat_lt (length kinds) (operands i)) StackEmpty) _ (so_own _ StackEmpty tt)
+    (both_own (misfit slots timers i kinds) _ (unfit_own _ _)
+    (both_own (where_so (writes_read_only slots i) BadBinding) _ (so_own _ BadBinding tt) (so_own _ StackFull tt)))) in
     subst AllOwn e all

@@ -1,5 +1,5 @@
 -- The longest paths: what holds before a place, and what one visit makes of it.
-use Rattle.std.proofs.Common.{◌≡◌, ℕ, zero, suc, ◌+◌, ◌<◌, ◌≤◌, max, Bool, true, false, List, length, refl, sym, ap, subst, ◌∙◌, arith, add-one, Option, Some, None, ◌⊎◌, inl, inr}
+use Rattle.std.proofs.Common.{◌≡◌, ℕ, zero, suc, ◌+◌, ◌<◌, ◌≤◌, max, Bool, true, false, List, length, refl, sym, ap, subst, ◌∙◌, arith, add-one, Some, None, ◌⊎◌, inl, inr}
 use Rattle.std.specs.Prelude.{IsTrue, ◌↔◌}
 use Rattle.std.proofs.lemmas.Bool.{cases_lt, cases_eq}
 use Rattle.il_image.specs.declared.instr.Instr.{Instr}
@@ -8,7 +8,7 @@ use Rattle.il_image.specs.Images.{Image}
 use Rattle.il_image.specs.Reading.{instr_at}
 use Rattle.il_image.specs.Tables.{Ends, IsHalt, IsPlace, IsSuccessor, LeadsTo, Path, place_of}
 use Rattle.il_image.proofs.PlaceLemmas.{goes_forward}
-use Rattle.il_verify.specs.Frames.{Grows, Mark, Marks, Visits}
+use Rattle.il_verify.specs.Frames.{Mark, Marks, Visits}
 use Rattle.il_verify.specs.Passing.{raised}
 use Rattle.il_verify.specs.Verdicts.{IsBudget}
 use Rattle.il_verify.proofs.EffectLemmas.{not_both, some_same}

@@ -1,19 +1,16 @@
 -- The marks of the map of frames.
-use Rattle.std.proofs.Common.{◌≡◌, ℕ, ◌+◌, ◌<◌, ◌≤◌, Bool, true, false, cond, List, length, reverse, refl, sym, ap, subst, ◌∙◌, arith, Option, Some, None, inl, inr}
+use Rattle.std.proofs.Common.{◌≡◌, ℕ, Bool, true, false, cond, List, sym, ap, subst, ◌∙◌, arith, Option, Some, None, inl, inr}
 use Rattle.std.specs.Prelude.{option_map, ◌==◌}
 use Rattle.std.specs.BTreeMap.{BTreeMap, IsEmpty, Updates, get_by, is_at}
-use Rattle.std.specs.BTreeMap as tree
 use Rattle.std.specs.Map.{lookup}
 use Rattle.std.specs.Ordering.{nat_cmp}
 use Rattle.std.proofs.lemmas.Bool.Decides.{nat_tests}
 use Rattle.std.proofs.lemmas.Bool.{cases_eq}
 use Rattle.il_image.specs.declared.instr.Instr.{Instr}
-use Rattle.il_image.specs.declared.instr.Instr.TheVariants.{Halt, Push, Drop, Slot, Not, Combine, Compute, Compare, Widen, Jump, Timer}
 use Rattle.il_image.specs.declared.kind.Kind.{Kind}
-use Rattle.il_image.specs.Tables.{LeadsTo}
 use Rattle.il_verify.specs.declared.frame.Frame.{Frame}
 use Rattle.il_verify.specs.Refusals.{JumpsTo}
-use Rattle.il_verify.specs.Frames.{Clashing, ComesWhere, Falls, Grows, Jumps, Mark, Marks, Pends, beside, goes_on, mark_of, marks_of}
+use Rattle.il_verify.specs.Frames.{Clashing, Falls, Grows, Jumps, Mark, Marks, Pends, beside, goes_on, mark_of, marks_of}
 
 pub elsewhere : (k q : ℕ) → (q ≡ k → ⊥) → is_at (nat_cmp k) q ≡ false
 elsewhere k q ne = grind (arith, nat_tests)

@@ -1,19 +1,18 @@
 -- The places of the code in their order.
-use Rattle.std.proofs.Common.{◌≡◌, ℕ, zero, suc, ◌+◌, ◌-◌, ◌<◌, ◌≤◌, Bool, true, false, List, [], ◌∷◌, ◌++◌, length, drop, refl, sym, ap, subst, ◌∙◌, arith, Option, Some, None, inl, inr}
-use Rattle.std.specs.Prelude.{Ok, ◌↔◌, option_map, slice_get}
+use Rattle.std.proofs.Common.{◌≡◌, ℕ, zero, suc, ◌+◌, ◌-◌, ◌<◌, ◌≤◌, Bool, true, false, List, [], ◌∷◌, length, drop, refl, sym, ap, subst, ◌∙◌, arith, Option, Some, None, inl, inr}
+use Rattle.std.specs.Prelude.{◌↔◌, option_map, slice_get}
 use Rattle.std.proofs.Math.ListN.{replicate, set}
 use Rattle.std.proofs.Math.Seq.{drop-append_seam, drop-drop}
 use Rattle.std.proofs.lemmas.Bool.{cases_lt, cases_eq}
-use Rattle.std.proofs.lemmas.List.{length-append, length-drop}
-use Rattle.std.proofs.lemmas.Option.{slice_get_within}
+use Rattle.std.proofs.lemmas.List.{length-drop}
 use Rattle.il_image.specs.declared.instr.Instr.{Instr}
 use Rattle.il_image.specs.declared.opcode.Version.TheVariants.{Two}
 use Rattle.il_image.specs.Images.{Each, IsCode, all_spelled}
-use Rattle.il_image.specs.Reading.{instr_at, instr_from, placed}
+use Rattle.il_image.specs.Reading.{instr_at, instr_from}
 use Rattle.il_image.specs.Spelling.{IsInstr, spelling}
 use Rattle.il_image.specs.Tables.{IsPlace, behind_place, place_of}
 use Rattle.il_image.proofs.InstrLemmas.{back_instr}
-use Rattle.il_image.proofs.PlaceLemmas.{Forward, forward, goes_forward, none_past_end}
+use Rattle.il_image.proofs.PlaceLemmas.{Forward, forward, goes_forward}
 use Rattle.il_verify.specs.Frames.{MarksPlaces}
 use Rattle.il_verify.proofs.EffectLemmas.{not_both, some_same}
 
@@ -150,10 +149,10 @@ marks_more code n place starts i next e within size here marks q = elim (cases_e
   | inr ne ↦ (
     (λ h. let old = (marks q).0 (sym (set_elsewhere starts place q true ne) ∙ h) in let less : q < place = old.0 in let f : place < next = (goes_forward code place i next here).0 in (omega arith, old.1)),
     (λ h. let less : q < next = h.0 in
-      elim (cases_lt q place) [
-        | inl before_it ↦ set_elsewhere starts place q true ne ∙ (marks q).1 (before_it, h.1)
-        | inr after_it ↦ absurd (let past : next ≤ q = none_between code n h.1.1.0 place q i next e here h.1.1.1 (omega arith) in omega arith)
-      ]),
+        elim (cases_lt q place) [
+          | inl before_it ↦ set_elsewhere starts place q true ne ∙ (marks q).1 (before_it, h.1)
+          | inr after_it ↦ absurd (let past : next ≤ q = none_between code n h.1.1.0 place q i next e here h.1.1.1 (omega arith) in omega arith)
+        ]),
   )
 ]
 

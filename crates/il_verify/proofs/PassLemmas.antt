@@ -1,5 +1,5 @@
 -- What holds before each place of the pass, and what comes of a place where it stops.
-use Rattle.std.proofs.Common.{◌≡◌, ℕ, suc, ◌+◌, ◌<◌, ◌≤◌, max, Bool, true, false, List, [], length, refl, sym, ap, subst, ◌∙◌, arith, Option, Some, None, ◌⊎◌, inl, inr}
+use Rattle.std.proofs.Common.{◌≡◌, ℕ, suc, ◌+◌, ◌<◌, ◌≤◌, max, Bool, List, [], length, refl, sym, ap, subst, ◌∙◌, arith, Option, Some, None, ◌⊎◌, inl, inr}
 use Rattle.std.specs.Prelude.{IsTrue, ◌↔◌}
 use Rattle.std.proofs.lemmas.Bool.{cases_lt, cases_eq}
 use Rattle.il_image.specs.declared.instr.Instr.{Instr}
@@ -7,15 +7,15 @@ use Rattle.il_image.specs.declared.instr.Instr.TheVariants.{Halt}
 use Rattle.il_image.specs.declared.kind.Kind.{Kind}
 use Rattle.il_image.specs.Images.{Image}
 use Rattle.il_image.specs.Reading.{instr_at}
-use Rattle.il_image.specs.Tables.{IsPlace, LeadsTo, Path, Table, place_of}
+use Rattle.il_image.specs.Tables.{Table, place_of}
 use Rattle.il_image.proofs.PlaceLemmas.{goes_forward}
 use Rattle.il_verify.specs.declared.fault.VerifyFault.{VerifyFault}
 use Rattle.il_verify.specs.declared.fault.VerifyFault.TheVariants.{StackEmpty, StackFull, WrongKind, ZeroDivisor, NoSlot, NoTimer, BadTarget, Unreachable, DepthClash, NoHalt, BadBinding, OutOfMemory}
 use Rattle.il_verify.specs.Frames.{Clashing, Collides, ComesWhere, FailsVisit, GoesOn, Grows, Mark, Marks, MisLeads, Visits, beside}
 use Rattle.il_verify.specs.Passing.{raised}
 use Rattle.il_verify.specs.Refusals.{Arrives, Clashes, FailsAt, HasOwn, IsFaultAt, IsFront, IsMerge, JumpsTo}
-use Rattle.il_verify.specs.Verdicts.{IsLongest, IsMeasured}
-use Rattle.il_verify.proofs.EffectLemmas.{not_both, some_same}
+use Rattle.il_verify.specs.Verdicts.{IsMeasured}
+use Rattle.il_verify.proofs.EffectLemmas.{some_same}
 use Rattle.il_verify.proofs.JudgeLemmas.{IsOwn, own_of, types_are}
 use Rattle.il_verify.proofs.LengthLemmas.{Lengths, is_budget, lengths_first, lengths_more, path_short}
 use Rattle.il_verify.proofs.MapLemmas.{beside_here, beside_other}

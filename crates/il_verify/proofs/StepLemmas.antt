@@ -1,5 +1,5 @@
 -- What holds before each place of the pass, and what one visit makes of it.
-use Rattle.std.proofs.Common.{◌≡◌, ℕ, suc, ◌+◌, ◌<◌, ◌≤◌, Bool, true, false, List, [], length, refl, sym, ap, subst, ◌∙◌, arith, Option, Some, None, ◌⊎◌, inl, inr}
+use Rattle.std.proofs.Common.{◌≡◌, ℕ, suc, ◌+◌, ◌<◌, ◌≤◌, true, false, List, [], length, refl, sym, ap, subst, ◌∙◌, arith, Option, Some, None, ◌⊎◌, inl, inr}
 use Rattle.std.proofs.lemmas.Bool.{cases_lt, cases_eq}
 use Rattle.bay_base.specs.declared.types.ElementaryType.{ElementaryType}
 use Rattle.il_image.specs.declared.instr.Instr.{Instr}
@@ -12,14 +12,14 @@ use Rattle.il_image.specs.Kinds.{AreWithin}
 use Rattle.il_image.specs.Reading.{instr_at}
 use Rattle.il_image.specs.Tables.{IsPlace, LeadsTo, Table, place_of}
 use Rattle.il_image.proofs.PlaceLemmas.{goes_forward}
-use Rattle.il_verify.specs.Frames.{ComesWhere, GoesOn, Grows, LeadsRight, Mark, Marks, Visits, beside, goes_on}
-use Rattle.il_verify.specs.Refusals.{Comes, ComesFrom, IsFront, IsMerge, JumpsTo, Passes, after}
+use Rattle.il_verify.specs.Frames.{ComesWhere, GoesOn, Grows, LeadsRight, Mark, Marks, Visits, beside}
+use Rattle.il_verify.specs.Refusals.{Comes, IsFront, IsMerge, JumpsTo, Passes, after}
 use Rattle.il_verify.proofs.EffectLemmas.{not_both, some_same}
 use Rattle.il_verify.proofs.FrameLemmas.{grows_along}
 use Rattle.il_verify.proofs.JudgeLemmas.{types_are}
 use Rattle.il_verify.proofs.MapLemmas.{beside_here, beside_other}
 use Rattle.il_verify.proofs.OrderLemmas.{none_between, place_behind}
-use Rattle.il_verify.proofs.TableLemmas.{leads_forward, leads_on, same_instr}
+use Rattle.il_verify.proofs.TableLemmas.{leads_forward, same_instr}
 use Rattle.il_verify.proofs.WithinLemmas.{all_within_along, within_length}
 
 -- ---- where an instruction leads
@@ -241,7 +241,15 @@ module _ (image : Image) (place : ℕ) (instr : Instr) (next : ℕ) (come : Mark
       let p = s.front.passes q less is in
       let same : SameBefore q s.table table_more = λ r before. same_so_far r (omega arith) in
       record {
-        instr = p.instr; next = p.next; kinds = p.kinds; gives = p.gives; here = p.here; known = sym (same_so_far q less) ∙ p.known; faultless = p.faultless; effect = p.effect; targets = p.targets;
+        instr = p.instr;
+        next = p.next;
+        kinds = p.kinds;
+        gives = p.gives;
+        here = p.here;
+        known = sym (same_so_far q less) ∙ p.known;
+        faultless = p.faultless;
+        effect = p.effect;
+        targets = p.targets;
         depths = λ to leads others c. p.depths to leads others (comes_keep image q to table_more s.table others (same_back q s.table table_more same) c);
       }
 

@@ -1,7 +1,7 @@
 -- The least table of code whose places have no fault agrees with the code, and a first fault leaves no table that agrees.
-use Rattle.std.proofs.Common.{◌≡◌, ℕ, zero, suc, ◌+◌, ◌<◌, ◌≤◌, Bool, true, false, List, [], ◌∷◌, length, refl, sym, ap, subst, ◌∙◌, arith, Option, Some, None, ◌⊎◌, inl, inr}
+use Rattle.std.proofs.Common.{◌≡◌, ℕ, zero, suc, ◌+◌, ◌<◌, ◌≤◌, true, false, List, [], length, refl, sym, ap, subst, ◌∙◌, arith, Option, Some, None, ◌⊎◌, inl, inr}
 use Rattle.std.specs.Prelude.{IsSome}
-use Rattle.std.proofs.lemmas.Bool.{cases_lt, cases_eq}
+use Rattle.std.proofs.lemmas.Bool.{cases_eq}
 use Rattle.bay_base.specs.declared.types.ElementaryType.{ElementaryType}
 use Rattle.bay_config.specs.declared.bay.Point.{Point}
 use Rattle.il_image.specs.declared.instr.Instr.{Instr}
@@ -18,7 +18,7 @@ use Rattle.il_verify.specs.declared.fault.VerifyFault.{VerifyFault}
 use Rattle.il_verify.specs.declared.fault.VerifyFault.TheVariants.{StackEmpty, StackFull, WrongKind, ZeroDivisor, NoSlot, NoTimer, BadTarget, Unreachable, DepthClash, NoHalt, BadBinding, OutOfMemory}
 use Rattle.il_verify.specs.Binding.{fits}
 use Rattle.il_verify.specs.Judging.{fault_of}
-use Rattle.il_verify.specs.Refusals.{Arrives, Clashes, Comes, ComesFrom, FailsAt, GoesPast, IsFaultAt, IsFront, IsMerge, IsRefusal, JumpsBadly, JumpsTo, Passes, after, own_fault}
+use Rattle.il_verify.specs.Refusals.{Arrives, Clashes, Comes, GoesPast, IsFaultAt, IsFront, IsMerge, IsRefusal, JumpsBadly, JumpsTo, Passes, after, own_fault}
 use Rattle.il_verify.specs.Slots.{slots_of, types_of}
 use Rattle.il_verify.specs.Verdicts.{IsDepth, IsLongest, IsSafe, KeepsReadOnly}
 use Rattle.il_verify.proofs.EffectLemmas.{effect_lower, not_both, some_same}
@@ -239,8 +239,8 @@ module _ (image : Image) (table : Table) (done : ℕ) (front : IsFront image tab
       let l = effect_lower (slot_types image) (length image.timers) b.instr a.kinds e.0 b.after e.2 b.effect in
       let effect_there : after image a.instr a.kinds ≡ Some l.lower = ap (λ (j : Instr). after image j a.kinds) (sym same.0) ∙ l.is in
       let enters_there : (to : ℕ) → LeadsTo a.instr a.next to → Enters other to l.lower = λ to way.
-          let g = b.enters to (subst (λ (n : ℕ). LeadsTo b.instr n to) (sym same.1) (subst (λ (j : Instr). LeadsTo j a.next to) (sym same.0) way)) in
-          (g.0, g.1, all_within_along l.lower b.after g.0 l.within g.2) in
+      let g = b.enters to (subst (λ (n : ℕ). LeadsTo b.instr n to) (sym same.1) (subst (λ (j : Instr). LeadsTo j a.next to) (sym same.0) way)) in
+      (g.0, g.1, all_within_along l.lower b.after g.0 l.within g.2) in
       record {
         gives = l.lower;
         effect_is = effect_there;
@@ -322,17 +322,17 @@ module _ (image : Image) (table : Table) (done : ℕ) (front : IsFront image tab
 longest_so : (image : Image) (table : Table) → IsFront image table (length image.code) → (depth : ℕ) → IsLongest table depth → (other : Table) → Agrees image other → IsLongest other depth
 longest_so image table front depth l other agrees_so = record {
   some =
-    (let e = lies_above image table (length image.code) front other agrees_so l.some.0 l.some.1 l.some.2 in
-    (l.some.0, e.0, e.1, sym (within_length l.some.1 e.0 e.2) ∙ l.some.3));
+      (let e = lies_above image table (length image.code) front other agrees_so l.some.0 l.some.1 l.some.2 in
+      (l.some.0, e.0, e.1, sym (within_length l.some.1 e.0 e.2) ∙ l.some.3));
   most = λ place kinds is.
-    let place_is = (agrees_so.places place).0 (is_some_of (other place) kinds is) in
-    let p = front.passes place place_is.0 place_is in
-    let e = lies_above image table (length image.code) front other agrees_so place p.kinds p.known in
-    let same : e.0 ≡ kinds = some_same e.0 kinds (sym e.1 ∙ is) in
-    let size : length p.kinds ≡ length e.0 = within_length p.kinds e.0 e.2 in
-    let its : length e.0 ≡ length kinds = ap length same in
-    let most : length p.kinds ≤ depth = l.most place p.kinds p.known in
-    omega arith;
+      let place_is = (agrees_so.places place).0 (is_some_of (other place) kinds is) in
+      let p = front.passes place place_is.0 place_is in
+      let e = lies_above image table (length image.code) front other agrees_so place p.kinds p.known in
+      let same : e.0 ≡ kinds = some_same e.0 kinds (sym e.1 ∙ is) in
+      let size : length p.kinds ≡ length e.0 = within_length p.kinds e.0 e.2 in
+      let its : length e.0 ≡ length kinds = ap length same in
+      let most : length p.kinds ≤ depth = l.most place p.kinds p.known in
+      omega arith;
 }
 
 pub is_depth : (image : Image) (table : Table) → IsFront image table (length image.code) → (depth : ℕ) → IsLongest table depth → IsDepth image depth

@@ -1,8 +1,7 @@
 -- What the visit of a place comes to.
-use Rattle.std.proofs.Common.{◌≡◌, ℕ, ◌+◌, ◌<◌, ◌≤◌, Bool, true, false, List, length, refl, sym, ap, subst, ◌∙◌, Option, Some, None, inl, inr}
+use Rattle.std.proofs.Common.{◌≡◌, ℕ, ◌+◌, Bool, true, false, List, length, refl, sym, ap, subst, ◌∙◌, Option, Some, inl, inr}
 use Rattle.std.specs.Prelude.{slice_get, IsTrue, ◌↔◌}
 use Rattle.std.specs.Bool.{OnFalse}
-use Rattle.bay_base.specs.declared.types.ElementaryType.{ElementaryType}
 use Rattle.il_image.specs.declared.instr.Instr.{Instr}
 use Rattle.il_image.specs.declared.instr.Instr.TheVariants.{Jump}
 use Rattle.il_image.specs.declared.kind.Kind.{Kind}

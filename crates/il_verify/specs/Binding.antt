@@ -1,5 +1,5 @@
 -- Whether an image fits a bay.
-use Rattle.std.specs.Prelude.{ℕ, ◌+◌, ◌&&◌, Bool, true, not, List, [], ◌∷◌, length, nat_le}
+use Rattle.std.specs.Prelude.{◌+◌, ◌&&◌, Bool, true, not, List, [], ◌∷◌, length, nat_le}
 use Rattle.std.specs.Bool.{beq}
 use Rattle.std.specs.List.{list_any}
 use Rattle.std.specs.Str.{bytes_eq}

@@ -1,5 +1,5 @@
 -- The faults of one instruction by itself, on the kinds before it, in the format's order.
-use Rattle.std.specs.Prelude.{ℕ, zero, suc, ◌≡◌, ◌&&◌, Bool, true, false, not, List, length, nat_lt, slice_get, Option, Some, None, is_none, is_some, option_map, unwrap_or, if◌then◌else◌}
+use Rattle.std.specs.Prelude.{ℕ, Bool, false, not, List, length, nat_lt, slice_get, Option, Some, None, is_none, option_map, unwrap_or, if◌then◌else◌}
 use Rattle.bay_base.specs.declared.types.ElementaryType.TheVariants as elementary
 use Rattle.il_image.specs.declared.arithmetic.Operation.{Operation}
 use Rattle.il_image.specs.declared.arithmetic.Operation.TheVariants.{Add}

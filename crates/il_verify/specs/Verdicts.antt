@@ -1,5 +1,5 @@
 -- What is known of an image that is accepted.
-use Rattle.std.specs.Prelude.{ℕ, ◌≡◌, ◌≤◌, Bool, true, false, List, length, Option, Some}
+use Rattle.std.specs.Prelude.{ℕ, ◌≡◌, ◌≤◌, true, false, List, length, Some}
 use Rattle.bay_config.specs.declared.bay.Point.{Point}
 use Rattle.il_image.specs.declared.instr.Instr.{Instr}
 use Rattle.il_image.specs.declared.kind.Kind.{Kind}

@@ -174,7 +174,12 @@ fn look_at_truth(slots: &[Slot], number: u16, kinds: &[Kind]) -> Result<(), Veri
 }
 
 // What an instruction does with a slot.
-fn use_slot(slots: &[Slot], slot_use: SlotUse, number: u16, kinds: &mut Vec<Kind>) -> Result<(), VerifyFault>
+fn use_slot(
+    slots: &[Slot],
+    slot_use: SlotUse,
+    number: u16,
+    kinds: &mut Vec<Kind>,
+) -> Result<(), VerifyFault>
     ensures ok { OnOk result (effect (types_of slots.now) 0 (Instr.Slot slot_use number) (reverse kinds.old.items) ≡ Some (reverse kinds.new.items)) }
     ensures err { IfErr result (λ f. f ≢ VerifyFault.OutOfMemory →
         (f ≡ VerifyFault.WrongKind) × (effect (types_of slots.now) 0 (Instr.Slot slot_use number) (reverse kinds.old.items) ≡ None)) }
@@ -208,7 +213,12 @@ fn use_timer(timer_use: TimerUse, kinds: &mut Vec<Kind>) -> Result<(), VerifyFau
 }
 
 // Does to the kinds what an instruction does, where they are of the kinds that it wants.
-fn apply(slots: &[Slot], timers: usize, instr: Instr, kinds: &mut Vec<Kind>) -> Result<(), VerifyFault>
+fn apply(
+    slots: &[Slot],
+    timers: usize,
+    instr: Instr,
+    kinds: &mut Vec<Kind>,
+) -> Result<(), VerifyFault>
     requires { missing (length slots.now) timers instr ≡ None }
     ensures ok { OnOk result (effect (types_of slots.now) timers instr (reverse kinds.old.items) ≡ Some (reverse kinds.new.items)) }
     ensures err { IfErr result (λ f. f ≢ VerifyFault.OutOfMemory → misfit slots.now timers instr (reverse kinds.old.items) ≡ Some f) }
@@ -275,7 +285,12 @@ fn writes_read_only(slots: &[Slot], instr: Instr) -> bool
 
 /// Does to the kinds what an instruction does, or tells its first fault.
 #[tactic(auto, unfolding(crate::specs::Judging::fault_of))]
-pub(crate) fn judge(slots: &[Slot], timers: usize, instr: Instr, kinds: &mut Vec<Kind>) -> Result<(), VerifyFault>
+pub(crate) fn judge(
+    slots: &[Slot],
+    timers: usize,
+    instr: Instr,
+    kinds: &mut Vec<Kind>,
+) -> Result<(), VerifyFault>
     ensures ok { OnOk result (effect (types_of slots.now) timers instr (reverse kinds.old.items) ≡ Some (reverse kinds.new.items)) }
     ensures faultless { OnOk result (fault_of slots.now timers instr (reverse kinds.old.items) ≡ None) }
     ensures err { IfErr result (λ f. f ≢ VerifyFault.OutOfMemory → fault_of slots.now timers instr (reverse kinds.old.items) ≡ Some f) }

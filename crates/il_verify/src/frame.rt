@@ -53,7 +53,12 @@ fn joined(frame: Frame, kinds: &[Kind], longest: u32) -> Result<Frame, VerifyFau
 }
 
 // The frame of a place after another path has come to it.
-fn framed(alloc: Global, old: Option<Frame>, kinds: &[Kind], longest: u32) -> Result<Frame, VerifyFault>
+fn framed(
+    alloc: Global,
+    old: Option<Frame>,
+    kinds: &[Kind],
+    longest: u32,
+) -> Result<Frame, VerifyFault>
     ensures ok { IfOk result (λ new. Grows (record { kinds = reverse kinds.now; longest = longest }) (option_map mark_of old) (mark_of new)) }
     ensures err { IfErr result (λ f. f ≢ VerifyFault.OutOfMemory → (f ≡ VerifyFault.DepthClash) × Clashing (option_map mark_of old) (reverse kinds.now)) }
 {

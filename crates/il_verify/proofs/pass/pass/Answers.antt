@@ -1,13 +1,11 @@
 use Rattle.std.proofs.Common.{◌≡◌, ◌≢◌, ℕ, ◌+◌, ◌<◌, ◌≤◌, max, List, length, reverse, refl, sym, ap, subst, ◌∙◌, arith, Option, Some, None}
 use Rattle.std.specs.Prelude.{option_map}
 use Rattle.std.proofs.lemmas.List.{length-reverse}
-use Rattle.il_image.specs.declared.instr.Instr.{Instr}
 use Rattle.il_image.specs.Reading.{instr_at}
-use Rattle.il_image.specs.Tables.{place_of}
 use Rattle.il_verify.specs.declared.fault.VerifyFault.{VerifyFault}
 use Rattle.il_verify.specs.declared.fault.VerifyFault.TheVariants.{OutOfMemory, Unreachable}
 use Rattle.il_verify.specs.declared.frame.Frame.{Frame}
-use Rattle.il_verify.specs.Frames.{Mark, beside, mark_of, marks_of}
+use Rattle.il_verify.specs.Frames.{beside, mark_of, marks_of}
 use Rattle.il_verify.specs.Passing.{raised}
 use Rattle.il_verify.specs.Refusals.{FailsAt}
 use Rattle.il_verify.proofs.MapLemmas.{beside_here, no_marks}

@@ -1,6 +1,5 @@
-use Rattle.std.proofs.Common.{rules, ◌≡◌, ◌∙◌, false, length, List, refl, sym, subst, suc, arith, Some}
+use Rattle.std.proofs.Common.{rules, ◌≡◌, ◌∙◌, false, length, refl, sym, subst, suc, arith}
 use Rattle.std.proofs.Math.ListN.{replicate}
-use Rattle.std.specs.Prelude.{Bool}
 use Rattle.il_verify.proofs.OrderLemmas.{MarksBelow, always_there, marks_all, marks_more, marks_none, place_behind}
 use Rattle.il_verify.proofs.plan.starts_of.Goals as goal
 

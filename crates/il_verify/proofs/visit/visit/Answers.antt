@@ -1,4 +1,4 @@
-use Rattle.std.proofs.Common.{ℕ, List, ◌+◌, reverse, refl, subst, sym, ◌∙◌, None, Some, inl, inr}
+use Rattle.std.proofs.Common.{ℕ, List, ◌+◌, reverse, refl, subst, ◌∙◌, None, Some, inr}
 use Rattle.il_image.specs.declared.kind.Kind.{Kind}
 use Rattle.il_verify.specs.Frames.{Jumps, LeadsRight, Mark, marks_of}
 use Rattle.il_verify.proofs.VisitLemmas.{clash_before, effect_so, fault_there}
