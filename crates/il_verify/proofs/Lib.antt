@@ -1,0 +1,11 @@
+pub mod EffectLemmas
+pub mod FrameLemmas
+pub mod JudgeLemmas
+pub mod LengthLemmas
+pub mod MapLemmas
+pub mod OrderLemmas
+pub mod PassLemmas
+pub mod StepLemmas
+pub mod TableLemmas
+pub mod VisitLemmas
+pub mod WithinLemmas

@@ -1,0 +1,22 @@
+-- Whether an image fits a bay.
+use Rattle.std.specs.Prelude.{◌+◌, ◌&&◌, Bool, true, not, List, [], ◌∷◌, length, nat_le}
+use Rattle.std.specs.Bool.{beq}
+use Rattle.std.specs.List.{list_any}
+use Rattle.std.specs.Str.{bytes_eq}
+use Rattle.bay_base.specs.Types.{same_type}
+use Rattle.bay_config.specs.declared.bay.Point.{Point}
+use Rattle.il_image.specs.declared.image.ImagePoint.{ImagePoint}
+use Rattle.il_image.specs.Images.{Image}
+
+-- An image's point and a point of the bay have one name, one type and one writability.
+abbrev pub is_point : ImagePoint → Point → Bool
+is_point p b = bytes_eq p.name b.name && (same_type p.elementary b.kind && beq p.writable b.writable)
+
+-- Each point is one of the bay's, and none stands twice.
+abbrev pub are_points : List Point → List ImagePoint → Bool
+are_points bay [] = true
+are_points bay (p ∷ points) = (list_any (λ b. is_point p b) bay && not (list_any (λ q. bytes_eq q.name p.name) points)) && are_points bay points
+
+-- There are at most 512 slots and 64 timers, and the points are the bay's.
+unfoldable pub fits : List Point → Image → Bool
+fits bay image = (nat_le (length image.points + length image.variables) 512 && nat_le (length image.timers) 64) && are_points bay image.points

@@ -1,0 +1,126 @@
+-- The faults of one instruction by itself, on the kinds before it, in the format's order.
+use Rattle.std.specs.Prelude.{ℕ, Bool, false, not, List, length, nat_lt, slice_get, Option, Some, None, is_none, option_map, unwrap_or, if◌then◌else◌}
+use Rattle.bay_base.specs.declared.types.ElementaryType.TheVariants as elementary
+use Rattle.il_image.specs.declared.arithmetic.Operation.{Operation}
+use Rattle.il_image.specs.declared.arithmetic.Operation.TheVariants.{Add}
+use Rattle.il_image.specs.declared.arithmetic.Width.{Width}
+use Rattle.il_image.specs.declared.instr.Instr.{Instr}
+use Rattle.il_image.specs.declared.instr.Instr.TheVariants.{Halt, Push, Drop, Slot, Not, Combine, Compute, Compare, Widen, Jump, Timer}
+use Rattle.il_image.specs.declared.kind.Kind.{Kind}
+use Rattle.il_image.specs.declared.kind.Kind.TheVariants.{Plain}
+use Rattle.il_image.specs.declared.opcode.SlotUse.TheVariants.{Load, Store, SetIf, ResetIf}
+use Rattle.il_image.specs.declared.opcode.When.TheVariants.{Always, IfTrue, IfFalse}
+use Rattle.il_image.specs.declared.opcode.TimerUse.TheVariants.{SetInput, SetPreset, Run, LoadOutput, LoadElapsed}
+use Rattle.il_image.specs.Arithmetic.{type_of_width}
+use Rattle.il_image.specs.Effects.{effect, second_kind, two}
+use Rattle.il_verify.specs.declared.fault.VerifyFault.{VerifyFault}
+use Rattle.il_verify.specs.declared.fault.VerifyFault.TheVariants.{StackEmpty, StackFull, WrongKind, ZeroDivisor, NoSlot, NoTimer, BadBinding}
+use Rattle.il_verify.specs.declared.slots.Slot.{Slot as UsedSlot}
+use Rattle.il_verify.specs.Slots.{types_of}
+
+-- the slot or the timer that an instruction names is missing, where there are so many slots and timers
+abbrev pub missing : ℕ → ℕ → Instr → Option VerifyFault
+missing slots timers (Slot slot_use n) = if nat_lt n slots then None else Some NoSlot
+missing slots timers (Timer timer_use n) = if nat_lt n timers then None else Some NoTimer
+missing slots timers Halt = None
+missing slots timers (Push v) = None
+missing slots timers Drop = None
+missing slots timers Not = None
+missing slots timers (Combine c) = None
+missing slots timers (Compute o w) = None
+missing slots timers (Compare c) = None
+missing slots timers (Widen w) = None
+missing slots timers (Jump when distance) = None
+
+-- the number of values that an instruction takes or looks at
+abbrev pub operands : Instr → ℕ
+operands Halt = 0
+operands (Push v) = 0
+operands Drop = 1
+operands (Slot Load n) = 0
+operands (Slot Store n) = 1
+operands (Slot SetIf n) = 1
+operands (Slot ResetIf n) = 1
+operands Not = 1
+operands (Combine c) = 2
+operands (Compute o w) = 2
+operands (Compare c) = 2
+operands (Widen w) = 1
+operands (Jump Always distance) = 0
+operands (Jump IfTrue distance) = 1
+operands (Jump IfFalse distance) = 1
+operands (Timer SetInput n) = 1
+operands (Timer SetPreset n) = 1
+operands (Timer Run n) = 0
+operands (Timer LoadOutput n) = 0
+operands (Timer LoadElapsed n) = 0
+
+-- the instruction that takes the same, but any divisor
+abbrev pub undivided : Instr → Instr
+undivided (Compute o w) = Compute Add w
+undivided Halt = Halt
+undivided (Push v) = Push v
+undivided Drop = Drop
+undivided (Slot slot_use n) = Slot slot_use n
+undivided Not = Not
+undivided (Combine c) = Combine c
+undivided (Compare c) = Compare c
+undivided (Widen w) = Widen w
+undivided (Jump when distance) = Jump when distance
+undivided (Timer timer_use n) = Timer timer_use n
+
+-- a value is of a wrong kind where the instruction is not allowed with any divisor, and else only the divisor may be zero
+abbrev pub unfit : Option (List Kind) → Option (List Kind) → Option VerifyFault
+unfit with_any actual = if is_none with_any then Some WrongKind else (if is_none actual then Some ZeroDivisor else None)
+
+abbrev pub misfit : List UsedSlot → ℕ → Instr → List Kind → Option VerifyFault
+misfit slots timers i kinds = unfit (effect (types_of slots) timers (undivided i) kinds) (effect (types_of slots) timers i kinds)
+
+-- what the contracts of the code's parts cite: a BOOL, and an operation of two numbers
+abbrev pub truth : Kind
+truth = Plain elementary.Bool
+
+abbrev pub computes : Operation → Width → List Kind → Option (List Kind)
+computes o w kinds = two (second_kind o w) (Plain (type_of_width w)) (Plain (type_of_width w)) kinds
+
+-- the slot that an instruction writes may only be read
+abbrev pub is_read_only : List UsedSlot → ℕ → Bool
+is_read_only slots n = unwrap_or (option_map (λ s. not s.writable) (slice_get slots n)) false
+
+abbrev pub writes_read_only : List UsedSlot → Instr → Bool
+writes_read_only slots (Slot Load n) = false
+writes_read_only slots (Slot Store n) = is_read_only slots n
+writes_read_only slots (Slot SetIf n) = is_read_only slots n
+writes_read_only slots (Slot ResetIf n) = is_read_only slots n
+writes_read_only slots Halt = false
+writes_read_only slots (Push v) = false
+writes_read_only slots Drop = false
+writes_read_only slots Not = false
+writes_read_only slots (Combine c) = false
+writes_read_only slots (Compute o w) = false
+writes_read_only slots (Compare c) = false
+writes_read_only slots (Widen w) = false
+writes_read_only slots (Jump when distance) = false
+writes_read_only slots (Timer timer_use n) = false
+
+-- more than 32 values lie on the stack behind the instruction
+abbrev pub is_full : Option (List Kind) → Bool
+is_full None = false
+is_full (Some kinds) = nat_lt 32 (length kinds)
+
+infixr 5 ◌or_else◌
+abbrev pub ◌or_else◌ : Option VerifyFault → Option VerifyFault → Option VerifyFault
+None or_else other = other
+(Some fault) or_else other = Some fault
+
+abbrev pub where_so : Bool → VerifyFault → Option VerifyFault
+where_so b fault = if b then Some fault else None
+
+-- the first fault of an instruction on these kinds
+unfoldable pub fault_of : List UsedSlot → ℕ → Instr → List Kind → Option VerifyFault
+fault_of slots timers i kinds =
+    missing (length slots) timers i
+    or_else where_so (nat_lt (length kinds) (operands i)) StackEmpty
+    or_else misfit slots timers i kinds
+    or_else where_so (writes_read_only slots i) BadBinding
+    or_else where_so (is_full (effect (types_of slots) timers i kinds)) StackFull

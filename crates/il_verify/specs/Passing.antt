@@ -1,0 +1,6 @@
+-- What the pass over the places keeps count of.
+use Rattle.std.specs.Prelude.{ℕ, Bool, max, cond}
+
+-- the budget after a place, which may be a HALT
+abbrev pub raised : Bool → ℕ → ℕ → ℕ
+raised halts longest budget = cond halts (max longest budget) budget

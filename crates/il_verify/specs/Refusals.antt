@@ -1,0 +1,154 @@
+-- What is known before each place of code, and why code is refused at a place.
+use Rattle.std.specs.Prelude.{ℕ, ◌≡◌, ◌+◌, ◌<◌, ◌⊎◌, true, false, List, [], length, Option, Some, None}
+use Rattle.bay_config.specs.declared.bay.Point.{Point}
+use Rattle.il_image.specs.declared.instr.Instr.{Instr}
+use Rattle.il_image.specs.declared.instr.Instr.TheVariants.{Halt, Push, Drop, Slot, Not, Combine, Compute, Compare, Widen, Jump, Timer}
+use Rattle.il_image.specs.declared.kind.Kind.{Kind}
+use Rattle.il_image.specs.Effects.{effect}
+use Rattle.il_image.specs.Images.{Image}
+use Rattle.il_image.specs.Kinds.{AreWithin}
+use Rattle.il_image.specs.Reading.{instr_at}
+use Rattle.il_image.specs.Tables.{IsPlace, LeadsTo, Table, slot_types}
+use Rattle.il_verify.specs.declared.fault.VerifyFault.{VerifyFault}
+use Rattle.il_verify.specs.declared.fault.VerifyFault.TheVariants.{StackEmpty, StackFull, WrongKind, ZeroDivisor, NoSlot, NoTimer, BadTarget, Unreachable, DepthClash, NoHalt, BadBinding, OutOfMemory}
+use Rattle.il_verify.specs.Binding.{fits}
+use Rattle.il_verify.specs.Judging.{fault_of}
+use Rattle.il_verify.specs.Slots.{slots_of}
+
+-- ---- the kinds before a place
+
+-- the kinds behind an instruction of the image
+abbrev pub after : Image → Instr → List Kind → Option (List Kind)
+after image instr kinds = effect (slot_types image) (length image.timers) instr kinds
+
+-- The table has kinds before the instruction at a place, which leads to the other place, and gives these.
+pub record ComesFrom (image : Image) (table : Table) (from to : ℕ) (kinds : List Kind) : Type 0 where
+  pub instr : Instr
+  pub next : ℕ
+  pub before : List Kind
+  pub here : instr_at image.code from ≡ Some (instr, next)
+  pub known : table from ≡ Some before
+  pub gives : after image instr before ≡ Some kinds
+  pub leads : LeadsTo instr next to
+
+-- These kinds come to the place: none at the start of the code, and what an instruction before `done` gives that leads there.
+abbrev pub Comes : Image → Table → ℕ → ℕ → List Kind → Type 0
+Comes image table done to kinds = ((to ≡ 0) × (kinds ≡ [])) ⊎ ((from : ℕ) × (from < done) × ComesFrom image table from to kinds)
+
+-- Something comes to the place, and these are the least kinds above all that comes.
+pub record IsMerge (image : Image) (table : Table) (done to : ℕ) (kinds : List Kind) : Type 0 where
+  pub some : (first : List Kind) × Comes image table done to first
+  pub above : (others : List Kind) → Comes image table done to others → AreWithin others kinds
+  pub least : (top : List Kind) → ((others : List Kind) → Comes image table done to others → AreWithin others top) → AreWithin kinds top
+
+-- The place has no fault: its instruction has none on the kinds there, leads to instructions alone, and gives as many kinds as
+-- come there from places before it.
+pub record Passes (image : Image) (table : Table) (place : ℕ) : Type 0 where
+  pub instr : Instr
+  pub next : ℕ
+  pub kinds : List Kind
+  pub gives : List Kind
+  pub here : instr_at image.code place ≡ Some (instr, next)
+  pub known : table place ≡ Some kinds
+  pub faultless : fault_of (slots_of image) (length image.timers) instr kinds ≡ None
+  pub effect : after image instr kinds ≡ Some gives
+  pub targets : (to : ℕ) → LeadsTo instr next to → IsPlace image.code to
+  pub depths : (to : ℕ) → LeadsTo instr next to → (others : List Kind) → Comes image table place to others → length others ≡ length gives
+
+-- The table has the least kinds at each place below `done`, and nothing elsewhere; and none of these places has a fault.
+pub record IsFront (image : Image) (table : Table) (done : ℕ) : Type 0 where
+  pub only : (place : ℕ) (kinds : List Kind) → table place ≡ Some kinds → (place < done) × IsPlace image.code place
+  pub merged : (place : ℕ) (kinds : List Kind) → table place ≡ Some kinds → IsMerge image table place place kinds
+  pub passes : (place : ℕ) → place < done → IsPlace image.code place → Passes image table place
+
+-- ---- the faults of a place, of which at most one is its first
+
+-- the instruction at a place, and the least kinds before it
+pub record Arrives (image : Image) (table : Table) (place : ℕ) : Type 0 where
+  pub instr : Instr
+  pub next : ℕ
+  pub kinds : List Kind
+  pub here : instr_at image.code place ≡ Some (instr, next)
+  pub merged : IsMerge image table place place kinds
+
+abbrev pub own_fault : {image : Image} {table : Table} {place : ℕ} → Arrives image table place → Option VerifyFault
+own_fault {image} a = fault_of (slots_of image) (length image.timers) a.instr a.kinds
+
+abbrev pub JumpsTo : Instr → ℕ → ℕ → Type 0
+JumpsTo (Jump when distance) next to = to ≡ next + distance
+JumpsTo Halt next to = ⊥
+JumpsTo (Push v) next to = ⊥
+JumpsTo Drop next to = ⊥
+JumpsTo (Slot slot_use n) next to = ⊥
+JumpsTo Not next to = ⊥
+JumpsTo (Combine c) next to = ⊥
+JumpsTo (Compute o w) next to = ⊥
+JumpsTo (Compare c) next to = ⊥
+JumpsTo (Widen w) next to = ⊥
+JumpsTo (Timer timer_use n) next to = ⊥
+
+-- An instruction without a fault of its own jumps to no instruction.
+pub record JumpsBadly (image : Image) (table : Table) (place : ℕ) : Type 0 where
+  pub at : Arrives image table place
+  pub faultless : own_fault at ≡ None
+  pub to : ℕ
+  pub jumps : JumpsTo at.instr at.next to
+  pub bad : IsPlace image.code to → ⊥
+
+-- One that jumps to instructions alone goes on behind the code.
+pub record GoesPast (image : Image) (table : Table) (place : ℕ) : Type 0 where
+  pub at : Arrives image table place
+  pub faultless : own_fault at ≡ None
+  pub jumps : (to : ℕ) → JumpsTo at.instr at.next to → IsPlace image.code to
+  pub leads : LeadsTo at.instr at.next at.next
+  pub past : at.next ≡ length image.code
+
+-- One that leads to instructions alone gives another number of kinds than comes to one of them from a place before it.
+pub record Clashes (image : Image) (table : Table) (place : ℕ) : Type 0 where
+  pub at : Arrives image table place
+  pub gives : List Kind
+  pub faultless : own_fault at ≡ None
+  pub effect : after image at.instr at.kinds ≡ Some gives
+  pub targets : (to : ℕ) → LeadsTo at.instr at.next to → IsPlace image.code to
+  pub to : ℕ
+  pub leads : LeadsTo at.instr at.next to
+  pub others : List Kind
+  pub comes : Comes image table place to others
+  pub unequal : length others ≡ length gives → ⊥
+
+-- The instruction's own fault comes first.
+abbrev pub HasOwn : Image → Table → ℕ → VerifyFault → Type 0
+HasOwn image table place fault = (a : Arrives image table place) × (own_fault a ≡ Some fault)
+
+abbrev pub IsFaultAt : Image → Table → ℕ → VerifyFault → Type 0
+IsFaultAt image table place Unreachable = (kinds : List Kind) → Comes image table place place kinds → ⊥
+IsFaultAt image table place BadTarget = JumpsBadly image table place
+IsFaultAt image table place NoHalt = GoesPast image table place
+IsFaultAt image table place DepthClash = Clashes image table place
+IsFaultAt image table place OutOfMemory = ⊥
+IsFaultAt image table place StackEmpty = HasOwn image table place StackEmpty
+IsFaultAt image table place StackFull = HasOwn image table place StackFull
+IsFaultAt image table place WrongKind = HasOwn image table place WrongKind
+IsFaultAt image table place ZeroDivisor = HasOwn image table place ZeroDivisor
+IsFaultAt image table place NoSlot = HasOwn image table place NoSlot
+IsFaultAt image table place NoTimer = HasOwn image table place NoTimer
+IsFaultAt image table place BadBinding = HasOwn image table place BadBinding
+
+-- ---- the refusal of an image
+
+-- The image does not fit the bay.
+abbrev pub DoesNotFit : List Point → Image → VerifyFault → ℕ → Type 0
+DoesNotFit bay image fault place = (fits bay image ≡ false) × (fault ≡ BadBinding) × (place ≡ 0)
+
+-- It has no code.
+abbrev pub IsWithoutCode : Image → VerifyFault → ℕ → Type 0
+IsWithoutCode image fault place = (image.code ≡ []) × (fault ≡ NoHalt) × (place ≡ 0)
+
+-- The first place with a fault is this one.
+abbrev pub FailsAt : Image → VerifyFault → ℕ → Type 0
+FailsAt image fault place = (table : Table) × IsFront image table place × IsPlace image.code place × IsFaultAt image table place fault
+
+-- This is the image's first fault, and the place of it.
+abbrev pub IsRefusal : List Point → Image → VerifyFault → ℕ → Type 0
+IsRefusal bay image fault place =
+    DoesNotFit bay image fault place ⊎ ((fits bay image ≡ true) × (IsWithoutCode image fault place ⊎ FailsAt image fault place))

@@ -1,0 +1,22 @@
+-- The slots that code uses: the points, and then the variables.
+use Rattle.std.specs.Prelude.{true, List, ◌++◌, map}
+use Rattle.bay_base.specs.declared.types.ElementaryType.{ElementaryType}
+use Rattle.il_image.specs.declared.image.ImagePoint.{ImagePoint}
+use Rattle.il_image.specs.declared.value.Value.{Value}
+use Rattle.il_image.specs.Images.{Image}
+use Rattle.il_image.specs.Values.{type_of}
+use Rattle.il_verify.specs.declared.slots.Slot.{Slot}
+
+-- the code may write a point where the point says so
+abbrev pub point_slot : ImagePoint → Slot
+point_slot p = record { elementary = p.elementary; writable = p.writable }
+
+-- and each variable
+abbrev pub variable_slot : Value → Slot
+variable_slot v = record { elementary = type_of v; writable = true }
+
+unfoldable pub slots_of : Image → List Slot
+slots_of i = map point_slot i.points ++ map variable_slot i.variables
+
+abbrev pub types_of : List Slot → List ElementaryType
+types_of slots = map (λ s. s.elementary) slots

@@ -1,0 +1,45 @@
+-- What is known of an image that is accepted.
+use Rattle.std.specs.Prelude.{ℕ, ◌≡◌, ◌≤◌, true, false, List, length, Some}
+use Rattle.bay_config.specs.declared.bay.Point.{Point}
+use Rattle.il_image.specs.declared.instr.Instr.{Instr}
+use Rattle.il_image.specs.declared.kind.Kind.{Kind}
+use Rattle.il_image.specs.Images.{Image}
+use Rattle.il_image.specs.Reading.{instr_at}
+use Rattle.il_image.specs.Tables.{Agrees, Ends, HasTable, IsPlace, Table}
+use Rattle.il_verify.specs.Binding.{fits}
+use Rattle.il_verify.specs.Judging.{writes_read_only}
+use Rattle.il_verify.specs.Slots.{slots_of}
+
+-- No instruction of the code writes a point that may only be read.
+abbrev pub KeepsReadOnly : Image → Type 0
+KeepsReadOnly image = (place : ℕ) (instr : Instr) (next : ℕ) → IsPlace image.code place → instr_at image.code place ≡ Some (instr, next) → writes_read_only (slots_of image) instr ≡ false
+
+-- A table agrees with the code, and it writes what it may.
+pub record IsSafe (image : Image) : Type 0 where
+  pub table : HasTable image
+  pub writes : KeepsReadOnly image
+
+-- The number of places of a path that ends at a HALT, and than which none is longer.
+pub record IsBudget (code : List ℕ) (budget : ℕ) : Type 0 where
+  pub some : Ends code budget
+  pub most : (n : ℕ) → Ends code n → n ≤ budget
+
+-- the length of a longest list of the table
+pub record IsLongest (table : Table) (depth : ℕ) : Type 0 where
+  pub some : (place : ℕ) × (kinds : List Kind) × (table place ≡ Some kinds) × (length kinds ≡ depth)
+  pub most : (place : ℕ) (kinds : List Kind) → table place ≡ Some kinds → length kinds ≤ depth
+
+-- The length of a longest list of each table that agrees with the code.
+pub record IsDepth (image : Image) (depth : ℕ) : Type 0 where
+  pub each : (table : Table) → Agrees image table → IsLongest table depth
+
+-- What a verified image keeps.
+pub record IsMeasured (image : Image) (budget depth : ℕ) : Type 0 where
+  pub safe : IsSafe image
+  pub longest : IsBudget image.code budget
+  pub deepest : IsDepth image depth
+
+-- The image fits the bay, and its code can't go wrong.
+pub record IsVerified (bay : List Point) (image : Image) : Type 0 where
+  pub fits : fits bay image ≡ true
+  pub safe : IsSafe image

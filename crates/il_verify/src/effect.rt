@@ -1,0 +1,310 @@
+// What an instruction does to the kinds on the stack, and the faults that it has by itself. The top is the last element.
+ghost use Rattle.std.specs.Prelude.{◌≡◌, ◌≢◌, Some, None, reverse, length, OnOk, OnErr, IfErr, IfSome, IfNone, IsTrue, MatchResult, [], ◌∷◌, ◌⊎◌, ℕ, List};
+ghost use Rattle.il_image.specs.Machine.{divides};
+ghost use Rattle.il_image.specs.Effects.{are_compared, below, compares, effect, kind_of, looks_at, second_kind, two, type_of_kind, widens, with_truth};
+ghost use Rattle.il_image.specs.declared.kind.Kind.{Kind};
+ghost use Rattle.il_verify.specs.Judging.{computes, truth, unfit};
+ghost use Rattle.il_verify.specs.Judging.{fault_of, is_read_only, misfit, missing, operands, writes_read_only};
+ghost use Rattle.il_verify.specs.Slots.{types_of};
+
+use crate::fault::VerifyFault;
+use crate::slots::Slot;
+use bay_base::types::ElementaryType;
+use il_image::arithmetic::{Comparison, Operation, Width};
+use il_image::instr::Instr;
+use il_image::kind::{Kind, is_within};
+use il_image::opcode::{SlotUse, TimerUse, When, Widening};
+use il_image::value::Value;
+
+fn put(kinds: &mut Vec<Kind>, kind: Kind) -> Result<(), VerifyFault>
+    ensures ok { OnOk result (reverse kinds.new.items ≡ kind ∷ reverse kinds.old.items) }
+    ensures err { IfErr result (λ f. f ≡ VerifyFault.OutOfMemory) }
+{
+    kinds.push(kind)?;
+    Ok(())
+}
+
+// Takes the top, where it is within the wanted kind.
+fn take(kinds: &mut Vec<Kind>, wanted: Kind) -> Result<(), VerifyFault>
+    ensures ok { OnOk result (below wanted (reverse kinds.old.items) ≡ Some (reverse kinds.new.items)) }
+    ensures err { IfErr result (λ f. (f ≡ VerifyFault.WrongKind) × (below wanted (reverse kinds.old.items) ≡ None)) }
+{
+    match kinds.pop() {
+        Some(top) if is_within(top, wanted) => Ok(()),
+        _ => Err(VerifyFault::WrongKind),
+    }
+}
+
+// Looks at the top, and leaves it.
+fn look(kinds: &[Kind], wanted: Kind) -> Result<(), VerifyFault>
+    ensures ok { OnOk result (looks_at wanted (reverse kinds.now) ≡ Some (reverse kinds.now)) }
+    ensures err { IfErr result (λ f. (f ≡ VerifyFault.WrongKind) × (looks_at wanted (reverse kinds.now) ≡ None)) }
+{
+    match kinds.last() {
+        Some(top) if is_within(*top, wanted) => Ok(()),
+        _ => Err(VerifyFault::WrongKind),
+    }
+}
+
+// What is known of a value.
+fn kind_of(value: Value) -> Kind
+    ensures { result ≡ kind_of value }
+{
+    match value {
+        Value::Short(number) if number != 0 => Kind::NotZero(Width::Int),
+        Value::Long(number) if number != 0 => Kind::NotZero(Width::Dint),
+        Value::Wide(number) if number != 0 => Kind::NotZero(Width::Lint),
+        _ => Kind::Plain(value.type_of()),
+    }
+}
+
+// The two values on top, the first of them the topmost.
+fn take_two(kinds: &mut Vec<Kind>) -> Option<(Kind, Kind)>
+    ensures some { IfSome result (λ r. reverse kinds.old.items ≡ r.0 ∷ r.1 ∷ reverse kinds.new.items) }
+    ensures none { IfNone result ((reverse kinds.old.items ≡ []) ⊎ ((k : Kind) × (reverse kinds.old.items ≡ k ∷ []))) }
+{
+    let top = kinds.pop()?;
+    let second = kinds.pop()?;
+    Some((top, second))
+}
+
+fn divides(operation: Operation) -> bool
+    ensures { result ≡ divides operation }
+{
+    match operation {
+        Operation::Div | Operation::Mod => true,
+        _ => false,
+    }
+}
+
+// Two numbers of a width become one. A divisor has to be not zero.
+fn compute(kinds: &mut Vec<Kind>, operation: Operation, width: Width) -> Result<(), VerifyFault>
+    ensures ok { OnOk result (computes operation width (reverse kinds.old.items) ≡ Some (reverse kinds.new.items)) }
+    ensures err { IfErr result (λ f. f ≢ VerifyFault.OutOfMemory →
+        unfit (computes Operation.Add width (reverse kinds.old.items)) (computes operation width (reverse kinds.old.items)) ≡ Some f) }
+{
+    let number = Kind::Plain(width.elementary());
+    match take_two(kinds) {
+        Some((top, second)) if is_within(top, number) && is_within(second, number) => {
+            if divides(operation) && !is_within(top, Kind::NotZero(width)) {
+                return Err(VerifyFault::ZeroDivisor);
+            }
+            put(kinds, number)
+        }
+        _ => Err(VerifyFault::WrongKind),
+    }
+}
+
+// Two BOOLs become one.
+fn combine(kinds: &mut Vec<Kind>) -> Result<(), VerifyFault>
+    ensures ok { OnOk result (two truth truth truth (reverse kinds.old.items) ≡ Some (reverse kinds.new.items)) }
+    ensures err { IfErr result (λ f. f ≢ VerifyFault.OutOfMemory → (f ≡ VerifyFault.WrongKind) × (two truth truth truth (reverse kinds.old.items) ≡ None)) }
+{
+    let truth = Kind::Plain(ElementaryType::Bool);
+    match take_two(kinds) {
+        Some((top, second)) if is_within(top, truth) && is_within(second, truth) => {
+            put(kinds, truth)
+        }
+        _ => Err(VerifyFault::WrongKind),
+    }
+}
+
+// The type that a kind shows.
+fn type_of(kind: Kind) -> Option<ElementaryType>
+    ensures { result ≡ type_of_kind kind }
+{
+    match kind {
+        Kind::Any => None,
+        Kind::Plain(elementary) => Some(elementary),
+        Kind::NotZero(width) => Some(width.elementary()),
+    }
+}
+
+fn are_compared(comparison: Comparison, first: ElementaryType, second: ElementaryType) -> bool
+    ensures { result ≡ are_compared comparison first second }
+{
+    let equality = match comparison {
+        Comparison::Eq | Comparison::Ne => true,
+        _ => false,
+    };
+    first == second && (first != ElementaryType::Bool || equality)
+}
+
+// Two values that show one type become a BOOL.
+fn compare(kinds: &mut Vec<Kind>, comparison: Comparison) -> Result<(), VerifyFault>
+    ensures ok { OnOk result (compares comparison (reverse kinds.old.items) ≡ Some (reverse kinds.new.items)) }
+    ensures err { IfErr result (λ f. f ≢ VerifyFault.OutOfMemory → (f ≡ VerifyFault.WrongKind) × (compares comparison (reverse kinds.old.items) ≡ None)) }
+{
+    let Some((top, second)) = take_two(kinds) else {
+        return Err(VerifyFault::WrongKind);
+    };
+    match (type_of(top), type_of(second)) {
+        (Some(last), Some(first)) if are_compared(comparison, first, last) => {
+            put(kinds, Kind::Plain(ElementaryType::Bool))
+        }
+        _ => Err(VerifyFault::WrongKind),
+    }
+}
+
+// The top becomes one of a wider type, and stays not zero.
+fn widen(kinds: &mut Vec<Kind>, from: Width, to: Width) -> Result<(), VerifyFault>
+    ensures ok { OnOk result (widens from to (reverse kinds.old.items) ≡ Some (reverse kinds.new.items)) }
+    ensures err { IfErr result (λ f. f ≢ VerifyFault.OutOfMemory → (f ≡ VerifyFault.WrongKind) × (widens from to (reverse kinds.old.items) ≡ None)) }
+{
+    match kinds.pop() {
+        Some(top) if is_within(top, Kind::NotZero(from)) => put(kinds, Kind::NotZero(to)),
+        Some(top) if is_within(top, Kind::Plain(from.elementary())) => {
+            put(kinds, Kind::Plain(to.elementary()))
+        }
+        _ => Err(VerifyFault::WrongKind),
+    }
+}
+
+// A BOOL on top is set or reset into a slot, which has to be a BOOL.
+fn look_at_truth(slots: &[Slot], number: u16, kinds: &[Kind]) -> Result<(), VerifyFault>
+    ensures ok { OnOk result (with_truth (types_of slots.now) number (reverse kinds.now) ≡ Some (reverse kinds.now)) }
+    ensures err { IfErr result (λ f. (f ≡ VerifyFault.WrongKind) × (with_truth (types_of slots.now) number (reverse kinds.now) ≡ None)) }
+{
+    match slots.get(usize::from(number)) {
+        Some(slot) if slot.elementary == ElementaryType::Bool => {
+            look(kinds, Kind::Plain(ElementaryType::Bool))
+        }
+        _ => Err(VerifyFault::WrongKind),
+    }
+}
+
+// What an instruction does with a slot.
+fn use_slot(
+    slots: &[Slot],
+    slot_use: SlotUse,
+    number: u16,
+    kinds: &mut Vec<Kind>,
+) -> Result<(), VerifyFault>
+    ensures ok { OnOk result (effect (types_of slots.now) 0 (Instr.Slot slot_use number) (reverse kinds.old.items) ≡ Some (reverse kinds.new.items)) }
+    ensures err { IfErr result (λ f. f ≢ VerifyFault.OutOfMemory →
+        (f ≡ VerifyFault.WrongKind) × (effect (types_of slots.now) 0 (Instr.Slot slot_use number) (reverse kinds.old.items) ≡ None)) }
+{
+    match slot_use {
+        SlotUse::Load => match slots.get(usize::from(number)) {
+            Some(slot) => put(kinds, Kind::Plain(slot.elementary)),
+            None => Err(VerifyFault::WrongKind),
+        },
+        SlotUse::Store => match slots.get(usize::from(number)) {
+            Some(slot) => look(kinds, Kind::Plain(slot.elementary)),
+            None => Err(VerifyFault::WrongKind),
+        },
+        SlotUse::SetIf | SlotUse::ResetIf => look_at_truth(slots, number, kinds),
+    }
+}
+
+// What an instruction does with a timer that is there.
+fn use_timer(timer_use: TimerUse, kinds: &mut Vec<Kind>) -> Result<(), VerifyFault>
+    ensures ok { OnOk result (effect [] 1 (Instr.Timer timer_use 0) (reverse kinds.old.items) ≡ Some (reverse kinds.new.items)) }
+    ensures err { IfErr result (λ f. f ≢ VerifyFault.OutOfMemory →
+        (f ≡ VerifyFault.WrongKind) × (effect [] 1 (Instr.Timer timer_use 0) (reverse kinds.old.items) ≡ None)) }
+{
+    match timer_use {
+        TimerUse::SetInput => take(kinds, Kind::Plain(ElementaryType::Bool)),
+        TimerUse::SetPreset => take(kinds, Kind::Plain(ElementaryType::Time)),
+        TimerUse::Run => Ok(()),
+        TimerUse::LoadOutput => put(kinds, Kind::Plain(ElementaryType::Bool)),
+        TimerUse::LoadElapsed => put(kinds, Kind::Plain(ElementaryType::Time)),
+    }
+}
+
+// Does to the kinds what an instruction does, where they are of the kinds that it wants.
+fn apply(
+    slots: &[Slot],
+    timers: usize,
+    instr: Instr,
+    kinds: &mut Vec<Kind>,
+) -> Result<(), VerifyFault>
+    requires { missing (length slots.now) timers instr ≡ None }
+    ensures ok { OnOk result (effect (types_of slots.now) timers instr (reverse kinds.old.items) ≡ Some (reverse kinds.new.items)) }
+    ensures err { IfErr result (λ f. f ≢ VerifyFault.OutOfMemory → misfit slots.now timers instr (reverse kinds.old.items) ≡ Some f) }
+{
+    match instr {
+        Instr::Halt | Instr::Jump(When::Always, _) => Ok(()),
+        Instr::Push(value) => put(kinds, kind_of(value)),
+        Instr::Drop => take(kinds, Kind::Any),
+        Instr::Slot(slot_use, number) => use_slot(slots, slot_use, number, kinds),
+        Instr::Not => {
+            take(kinds, Kind::Plain(ElementaryType::Bool))?;
+            put(kinds, Kind::Plain(ElementaryType::Bool))
+        }
+        Instr::Combine(_) => combine(kinds),
+        Instr::Compute(operation, width) => compute(kinds, operation, width),
+        Instr::Compare(comparison) => compare(kinds, comparison),
+        Instr::Widen(Widening::IntToDint) => widen(kinds, Width::Int, Width::Dint),
+        Instr::Widen(Widening::DintToLint) => widen(kinds, Width::Dint, Width::Lint),
+        Instr::Jump(_, _) => look(kinds, Kind::Plain(ElementaryType::Bool)),
+        Instr::Timer(timer_use, _) => use_timer(timer_use, kinds),
+    }
+}
+
+// Whether the slot or the timer that an instruction names is there.
+fn find_named(slots: usize, timers: usize, instr: Instr) -> Result<(), VerifyFault>
+    ensures { MatchResult result (λ _. missing slots timers instr ≡ None) (λ f. missing slots timers instr ≡ Some f) }
+{
+    match instr {
+        Instr::Slot(_, number) if usize::from(number) >= slots => Err(VerifyFault::NoSlot),
+        Instr::Timer(_, number) if usize::from(number) >= timers => Err(VerifyFault::NoTimer),
+        _ => Ok(()),
+    }
+}
+
+// The number of values that an instruction takes or looks at.
+fn operands(instr: Instr) -> usize
+    ensures { result ≡ operands instr }
+{
+    match instr {
+        Instr::Combine(_) | Instr::Compute(_, _) | Instr::Compare(_) => 2,
+        Instr::Halt
+        | Instr::Push(_)
+        | Instr::Slot(SlotUse::Load, _)
+        | Instr::Jump(When::Always, _)
+        | Instr::Timer(TimerUse::Run | TimerUse::LoadOutput | TimerUse::LoadElapsed, _) => 0,
+        _ => 1,
+    }
+}
+
+// Whether an instruction writes a slot that may only be read.
+fn writes_read_only(slots: &[Slot], instr: Instr) -> bool
+    ensures { result ≡ writes_read_only slots.now instr }
+{
+    match instr {
+        Instr::Slot(SlotUse::Store | SlotUse::SetIf | SlotUse::ResetIf, number) => {
+            match slots.get(usize::from(number)) {
+                Some(slot) => !slot.writable,
+                None => false,
+            }
+        }
+        _ => false,
+    }
+}
+
+/// Does to the kinds what an instruction does, or tells its first fault.
+#[tactic(auto, unfolding(crate::specs::Judging::fault_of))]
+pub(crate) fn judge(
+    slots: &[Slot],
+    timers: usize,
+    instr: Instr,
+    kinds: &mut Vec<Kind>,
+) -> Result<(), VerifyFault>
+    ensures ok { OnOk result (effect (types_of slots.now) timers instr (reverse kinds.old.items) ≡ Some (reverse kinds.new.items)) }
+    ensures faultless { OnOk result (fault_of slots.now timers instr (reverse kinds.old.items) ≡ None) }
+    ensures err { IfErr result (λ f. f ≢ VerifyFault.OutOfMemory → fault_of slots.now timers instr (reverse kinds.old.items) ≡ Some f) }
+{
+    find_named(slots.len(), timers, instr)?;
+    if kinds.len() < operands(instr) {
+        return Err(VerifyFault::StackEmpty);
+    }
+    apply(slots, timers, instr, kinds)?;
+    if writes_read_only(slots, instr) {
+        return Err(VerifyFault::BadBinding);
+    }
+    if kinds.len() > 32 {
+        return Err(VerifyFault::StackFull);
+    }
+    Ok(())
+}

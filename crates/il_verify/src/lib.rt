@@ -1,0 +1,23 @@
+// The verifier of code images: it accepts exactly the code that can't go wrong, from whatever hand it comes.
+//
+// - `fault`: why an image is refused.
+// - `points`: whether an image's points are points of the bay.
+// - `slots`: the slots that the code uses.
+// - `places`: the places at which instructions begin.
+// - `effect`: what an instruction does to the kinds on the stack, and its own faults.
+// - `frame`: the frames of the places that are still to come.
+// - `visit`: one place of the code.
+// - `pass`: the pass over all places.
+// - `verify`: `verify`, and the verified image that it gives.
+// - `laws`: laws of the definitions.
+#![tactic(auto)]
+
+pub(crate) mod effect;
+pub mod fault;
+pub(crate) mod frame;
+pub(crate) mod pass;
+pub(crate) mod plan;
+pub(crate) mod points;
+pub(crate) mod slots;
+pub mod verify;
+pub(crate) mod visit;

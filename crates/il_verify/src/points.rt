@@ -1,0 +1,55 @@
+// Whether an image fits a bay.
+ghost use Rattle.std.specs.Prelude.{◌≡◌};
+ghost use Rattle.std.specs.List.{list_any};
+ghost use Rattle.std.specs.Str.{bytes_eq};
+ghost use Rattle.il_verify.specs.Binding.{are_points, fits, is_point};
+
+use bay_config::bay::Point;
+use il_image::image::{Image, ImagePoint};
+
+// Whether an image's point is this point of the bay.
+fn is_point(point: &ImagePoint, other: &Point) -> bool
+    ensures { result ≡ is_point point.now other.now }
+{
+    point.name.as_str() == other.name.as_str()
+        && point.elementary == other.kind
+        && point.writable == other.writable
+}
+
+// Whether the point is one of the bay's.
+fn is_of_bay(bay: &[Point], point: &ImagePoint) -> bool
+    ensures { result ≡ list_any (λ b. is_point point.now b) bay.now }
+{
+    bay.iter().any(|other| is_point(point, other))
+}
+
+// Whether one of the points has the name.
+fn has_name(points: &[ImagePoint], name: &str) -> bool
+    ensures { result ≡ list_any (λ q. bytes_eq q.name name.now) points.now }
+{
+    points.iter().any(|point| point.name.as_str() == name)
+}
+
+// Whether each point is one of the bay's, and none stands twice.
+fn are_points(bay: &[Point], points: &[ImagePoint]) -> bool
+    ensures { result ≡ are_points bay.now points.now }
+{
+    let mut rest = points;
+    while let [point, others @ ..] = rest {
+        if !is_of_bay(bay, point) || has_name(others, point.name.as_str()) {
+            return false;
+        }
+        rest = others;
+    }
+    true
+}
+
+/// Whether the image's points are the bay's, and its slots and timers are not too many.
+#[tactic(auto, unfolding(crate::specs::Binding::fits))]
+pub(crate) fn fits(bay: &[Point], image: &Image) -> bool
+    ensures { result ≡ fits bay.now image.now }
+{
+    image.points().len() + image.variables().len() <= 512
+        && image.timers().len() <= 64
+        && are_points(bay, image.points())
+}

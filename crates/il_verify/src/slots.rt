@@ -1,0 +1,50 @@
+// The slots that the code uses.
+ghost use Rattle.std.specs.Prelude.{◌≡◌, ◌++◌, IfOk, OnOk, map};
+ghost use Rattle.il_verify.specs.Slots.{point_slot, slots_of, variable_slot};
+
+use bay_base::types::ElementaryType;
+use il_image::image::{Image, ImagePoint};
+use il_image::value::Value;
+use std::alloc::{AllocError, Global};
+
+/// A slot: its type, and whether the code may write it.
+#[derive(Clone, Copy, Debug, PartialEq, Eq)]
+pub(crate) struct Slot {
+    pub elementary: ElementaryType,
+    pub writable: bool,
+}
+
+fn push_points(slots: &mut Vec<Slot>, points: &[ImagePoint]) -> Result<(), AllocError>
+    ensures { OnOk result (slots.new.items ≡ slots.old.items ++ map point_slot points.now) }
+{
+    for point in points {
+        slots.push(Slot {
+            elementary: point.elementary,
+            writable: point.writable,
+        })?;
+    }
+    Ok(())
+}
+
+fn push_variables(slots: &mut Vec<Slot>, variables: &[Value]) -> Result<(), AllocError>
+    ensures { OnOk result (slots.new.items ≡ slots.old.items ++ map variable_slot variables.now) }
+{
+    for variable in variables {
+        slots.push(Slot {
+            elementary: variable.type_of(),
+            writable: true,
+        })?;
+    }
+    Ok(())
+}
+
+/// The points' slots, and then the variables'.
+#[tactic(auto, unfolding(crate::specs::Slots::slots_of))]
+pub(crate) fn slots_of(alloc: Global, image: &Image) -> Result<Vec<Slot>, AllocError>
+    ensures { IfOk result (λ slots. slots.items ≡ slots_of image.now) }
+{
+    let mut slots = Vec::new(alloc);
+    push_points(&mut slots, image.points())?;
+    push_variables(&mut slots, image.variables())?;
+    Ok(slots)
+}

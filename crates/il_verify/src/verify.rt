@@ -1,0 +1,130 @@
+// `verify`, and the verified image that it gives.
+ghost use Rattle.std.specs.Prelude.{◌≡◌, ◌≢◌, ◌<◌, IfErr, IfOk, length, true};
+ghost use Rattle.il_verify.specs.Binding.{fits};
+ghost use Rattle.il_verify.specs.Refusals.{IsRefusal};
+ghost use Rattle.il_verify.specs.Verdicts.{IsMeasured, IsSafe, IsVerified};
+
+use crate::fault::VerifyFault;
+use crate::pass::{Measures, Stop, pass};
+use crate::plan::plan_of;
+use crate::points::fits;
+use bay_config::bay::Point;
+use il_image::image::Image;
+use std::alloc::Global;
+use std::marker::Model;
+
+/// An image whose code can't go wrong: a table of kinds agrees with it, and it writes no point that may only be read.
+#[derive(Drop)]
+pub struct Verified {
+    image: Image,
+    budget: u32,
+    depth: u32,
+}
+
+impl Model for Verified {
+    ghost use Rattle.il_image.specs.Images.{Image};
+    ghost use Rattle.il_verify.specs.Verdicts.{IsMeasured};
+
+    ghost Value = { Image };
+
+    ghost view = { λ v. v.image };
+
+    ghost invariant = { λ v. IsMeasured v.image v.budget v.depth };
+}
+
+impl Verified {
+    ghost use Rattle.il_image.specs.Images.{IsImage};
+    ghost use Rattle.il_verify.specs.Verdicts.{IsBudget, IsDepth, IsSafe};
+
+    /// The image that was verified.
+    pub fn image(&self) -> &Image
+        ensures value { result.now ≡ self.now }
+        ensures safe { IsSafe self.now }
+    {
+        &self.image
+    }
+
+    /// The most instructions that a run can take: those of a longest path to a HALT, HALT counted.
+    pub fn budget(&self) -> u32
+        ensures { IsBudget self.now.code result }
+    {
+        self.budget
+    }
+
+    /// The most values that lie on the stack before an instruction: the length of a longest list of an agreeing table, 0 to 32.
+    pub fn depth(&self) -> u32
+        ensures { IsDepth self.now result }
+    {
+        self.depth
+    }
+}
+
+/// An image that is refused, with its first fault and the place of it: the octet of the code at which the instruction begins, counted
+/// from 0. It is 0 where the image does not fit the bay, and for want of memory.
+#[derive(Drop)]
+pub struct Refused {
+    pub image: Image,
+    pub fault: VerifyFault,
+    pub place: usize,
+}
+
+// What `verify` does, on an image that stays where it is.
+fn check(alloc: Global, image: &Image, points: &[Point]) -> Result<Measures, Stop>
+    ensures fits { IfOk result (λ m. fits points.now image.now ≡ true) }
+    ensures ok { IfOk result (λ m. IsMeasured image.now m.budget m.depth) }
+    ensures err { IfErr result (λ s. s.fault ≢ VerifyFault.OutOfMemory → IsRefusal points.now image.now s.fault s.place) }
+    ensures memory { IfErr result (λ s. s.fault ≡ VerifyFault.OutOfMemory → s.place ≡ 0) }
+{
+    if !fits(points, image) {
+        return Err(Stop {
+            fault: VerifyFault::BadBinding,
+            place: 0,
+        });
+    }
+    if image.code().len() == 0 {
+        return Err(Stop {
+            fault: VerifyFault::NoHalt,
+            place: 0,
+        });
+    }
+    let plan = match plan_of(alloc, image) {
+        Ok(plan) => plan,
+        Err(_) => {
+            return Err(Stop {
+                fault: VerifyFault::OutOfMemory,
+                place: 0,
+            });
+        }
+    };
+    match pass(alloc, image, &plan) {
+        Ok(measures) => Ok(measures),
+        Err(stop) => return Err(stop),
+    }
+}
+
+/// Accepts an image exactly where it fits the bay with these points, a table of kinds agrees with its code, and no instruction writes a
+/// point that may only be read; want of memory aside. Another is refused with its first fault in the format's order: what does not fit the
+/// bay, or else that there is no code, or else the first fault of the first place that has one. A refused image comes back as it was. It
+/// takes time in proportion to the code, times the logarithm of the places that jumps name and that aren't reached yet.
+pub fn verify(alloc: Global, image: Image, points: &[Point]) -> Result<Verified, Refused>
+    ensures same { IfOk result (λ v. v ≡ image) }
+    ensures accepted { IfOk result (λ v. IsVerified points.now image) }
+
+    ensures back { IfErr result (λ r. r.image ≡ image) }
+    ensures refused { IfErr result (λ r. r.fault ≢ VerifyFault.OutOfMemory → IsRefusal points.now image r.fault r.place) }
+    ensures exact { IfErr result (λ r. r.fault ≢ VerifyFault.OutOfMemory → IsVerified points.now image → ⊥) }
+    ensures memory { IfErr result (λ r. r.fault ≡ VerifyFault.OutOfMemory → r.place ≡ 0) }
+{
+    match check(alloc, &image, points) {
+        Ok(Measures { budget, depth }) => Ok(Verified {
+            image,
+            budget,
+            depth,
+        }),
+        Err(stop) => Err(Refused {
+            image,
+            fault: stop.fault,
+            place: stop.place,
+        }),
+    }
+}

@@ -1,0 +1,82 @@
+// One instruction at its place: what it does there, and what comes of it at the places to which it leads.
+ghost use Rattle.std.specs.Prelude.{◌≡◌, ◌≢◌, ◌<◌, ◌-◌, ◌^◌, ℕ, IfErr, IfOk, OnOk, option_map};
+ghost use Rattle.std.specs.Bool.{OnFalse, OnTrue};
+ghost use Rattle.il_image.specs.Tables.{IsPlace};
+ghost use Rattle.il_verify.specs.Frames.{FailsVisit, IsPlan, JumpsWrong, LeadsRight, LeadsWrong, MarksPlaces, Visits, beside, mark_of, marks_of};
+ghost use Rattle.il_verify.specs.Refusals.{JumpsTo};
+
+use crate::effect::judge;
+use crate::fault::VerifyFault;
+use crate::frame::{Frame, fall, goes_on, jump};
+use crate::plan::{Plan, is_place};
+use il_image::image::Image;
+use il_image::instr::Instr;
+use std::alloc::Global;
+use std::collections::BTreeMap;
+
+// Whether an instruction jumps to a place, if it jumps.
+fn jumps_right(code: &[u8], starts: &[bool], instr: Instr, next: usize) -> bool
+    requires marks { MarksPlaces code.now starts.now }
+    requires fits { next < 2 ^ 63 }
+    ensures right { OnTrue result ((to : ℕ) → JumpsTo instr next to → IsPlace code.now to) }
+    ensures wrong { OnFalse result (JumpsWrong code.now instr next) }
+{
+    match instr {
+        Instr::Jump(_, distance) => is_place(starts, next + usize::from(distance)),
+        _ => true,
+    }
+}
+
+// Whether an instruction leads to places alone.
+fn check_targets(code: &[u8], starts: &[bool], instr: Instr, next: usize) -> Result<(), VerifyFault>
+    requires marks { MarksPlaces code.now starts.now }
+    requires fits { next < 2 ^ 63 }
+    ensures ok { OnOk result (LeadsRight code.now instr next) }
+    ensures err { IfErr result (λ f. LeadsWrong code.now instr next f) }
+{
+    if !jumps_right(code, starts, instr, next) {
+        return Err(VerifyFault::BadTarget);
+    }
+    if goes_on(instr) && next >= code.len() {
+        return Err(VerifyFault::NoHalt);
+    }
+    Ok(())
+}
+
+/// Does the instruction of a place, and gives the frame of the next place, if a path leads there.
+pub(crate) fn visit(
+    alloc: Global,
+    image: &Image,
+    plan: &Plan,
+    instr: Instr,
+    next: usize,
+    frame: Frame,
+    pending: &mut BTreeMap<usize, Frame>,
+) -> Result<Option<Frame>, VerifyFault>
+    requires plan { IsPlan image.now plan.now }
+    requires fits { next < 2 ^ 63 }
+    requires short { frame.longest < 2 ^ 32 - 1 }
+    ensures ok { IfOk result (λ behind. Visits image.now instr next (mark_of frame) (marks_of pending.old)
+        (beside next (option_map mark_of behind) (marks_of pending.new))) }
+    ensures err { IfErr result (λ f. f ≢ VerifyFault.OutOfMemory → FailsVisit image.now instr next (mark_of frame) (marks_of pending.old) f) }
+{
+    let Frame { kinds, longest } = frame;
+    let mut kinds = kinds;
+    match judge(plan.slots.as_slice(), plan.timers, instr, &mut kinds) {
+        Ok(()) => {}
+        Err(fault) => return Err(fault),
+    }
+    match check_targets(image.code(), plan.starts.as_slice(), instr, next) {
+        Ok(()) => {}
+        Err(fault) => return Err(fault),
+    }
+    let longest = longest + 1;
+    match jump(alloc, instr, next, kinds.as_slice(), longest, pending) {
+        Ok(()) => {}
+        Err(fault) => return Err(fault),
+    }
+    match fall(instr, next, Frame { kinds, longest }, pending) {
+        Ok(behind) => Ok(behind),
+        Err(fault) => return Err(fault),
+    }
+}
