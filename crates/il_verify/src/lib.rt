@@ -3,13 +3,12 @@
 // - `fault`: why an image is refused.
 // - `points`: whether an image's points are points of the bay.
 // - `slots`: the slots that the code uses.
-// - `places`: the places at which instructions begin.
+// - `plan`: the places at which instructions begin.
 // - `effect`: what an instruction does to the kinds on the stack, and its own faults.
 // - `frame`: the frames of the places that are still to come.
 // - `visit`: one place of the code.
 // - `pass`: the pass over all places.
 // - `verify`: `verify`, and the verified image that it gives.
-// - `laws`: laws of the definitions.
 #![tactic(auto)]
 
 pub(crate) mod effect;
