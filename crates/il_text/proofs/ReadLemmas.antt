@@ -110,7 +110,7 @@ pub alone-space : Alone 32
 unfolding linked
 alone-space y = simp and-false refl
 
-alone-line_end : Alone 10
+pub alone-line_end : Alone 10
 unfolding linked
 alone-line_end y = simp and-false refl
 
