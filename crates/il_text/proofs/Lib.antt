@@ -9,6 +9,7 @@ pub mod FinishLemmas
 pub mod FormLemmas
 pub mod GrammarLemmas
 pub mod LexemeLemmas
+pub mod LineEndLemmas
 pub mod ListingLemmas
 pub mod LiteralLemmas
 pub mod PieceLemmas

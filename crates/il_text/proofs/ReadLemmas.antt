@@ -1,18 +1,21 @@
 -- One piece, or one character of a comment.
-use Rattle.std.proofs.Common.{◌≡◌, ◌≢◌, ℕ, ◌+◌, ◌<◌, ◌≤◌, Bool, true, false, List, [], ◌∷◌, ◌++◌, Ok, Err, Result, map, length, drop, slice_index, slice_range, eqb, refl, sym, ap, subst, ◌∙◌, arith, append-nil}
-use Rattle.std.proofs.lemmas.Bool.{eqb-true, ne_eqb}
+use Rattle.std.proofs.Common.{◌≡◌, ◌≢◌, ℕ, ◌+◌, ◌<◌, ◌≤◌, Bool, true, false, List, [], ◌∷◌, ◌++◌, None, Ok, Err, Result, map, length, drop, slice_index, slice_range, eqb, refl, sym, ap, subst, ◌∙◌, arith, append-nil}
+use Rattle.std.proofs.lemmas.Bool.{false≢true, eqb-true, ne_eqb}
 use Rattle.std.proofs.lemmas.List.{map-append}
 use Rattle.std.proofs.Math.Bool.{and-false}
 use Rattle.il_text.specs.Characters.{linked}
+use Rattle.il_text.specs.Forms.{marked, is_hopeless, parts_of}
+use Rattle.il_text.specs.Listing.{PlainProgram}
+use Rattle.il_text.specs.declared.token.Mark.TheVariants as mark
 use Rattle.il_text.specs.Pieces.{opens, ends, closes, blanked, pieces}
 use Rattle.il_text.specs.Reading.{Read, reading, lines, onto, tokens_of, then_on, after_line, whole, none_yet, program_of}
 use Rattle.il_text.specs.Places.{last_line}
 use Rattle.il_text.specs.ReaderViews.{read_on}
 use Rattle.il_text.specs.Runs.{IsPiece}
 use Rattle.il_text.specs.Symbols.{piece, cut, mark_of}
-use Rattle.il_text.specs.Tokens.{Symbol, Piece, blank, line_end, token, bad_token, bad_literal}
+use Rattle.il_text.specs.Tokens.{Symbol, name, frame_word, type_word, literal, mnemonic_word, mark_symbol, Piece, blank, line_end, token, bad_token, bad_literal}
 use Rattle.il_text.specs.declared.fault.TextFault.{TextFault}
-use Rattle.il_text.specs.declared.fault.TextFault.TheVariants.{BadToken, BadLiteral}
+use Rattle.il_text.specs.declared.fault.TextFault.TheVariants.{BadToken, BadLine, BadLiteral}
 use Rattle.bay_base.proofs.ListLemmas.{front_of, none_left}
 use Rattle.il_text.proofs.PieceLemmas.{index-drop}
 use Rattle.il_text.proofs.CutLemmas.{join_alone, not_N, within_of, and_right}
@@ -110,7 +113,7 @@ pub alone-space : Alone 32
 unfolding linked
 alone-space y = simp and-false refl
 
-alone-line_end : Alone 10
+pub alone-line_end : Alone 10
 unfolding linked
 alone-line_end y = simp and-false refl
 
@@ -223,6 +226,95 @@ pub step_token : (last : ℕ) (r : Read) (n : ℕ) (ss : List Symbol) (bs : List
     → read_on last r n ss (cut false (drop s bs)) ≡ read_on last r n (ss ++ t ∷ []) (cut false (drop e bs))
 step_token last r n ss bs s e t h k = rw (cut_piece bs s e h, k) (read_token last r n ss t _)
 
+-- tokens with which no line begins make no line, whatever follows
+hopeless_parts : (ss more : List Symbol) → is_hopeless ss ≡ true → parts_of (ss ++ more) ≡ None
+unfolding parts_of marked
+hopeless_parts [] more h = absurd (false≢true h)
+hopeless_parts (s ∷ []) more h = absurd (false≢true h)
+hopeless_parts (name n ∷ t ∷ ss) more h = absurd (false≢true h)
+hopeless_parts (frame_word w ∷ t ∷ ss) more h = absurd (false≢true h)
+hopeless_parts (mnemonic_word m ∷ t ∷ ss) more h = absurd (false≢true h)
+hopeless_parts (type_word k ∷ t ∷ ss) more h = refl
+hopeless_parts (literal v ∷ t ∷ ss) more h = refl
+hopeless_parts (mark_symbol mark.Colon ∷ t ∷ ss) more h = refl
+hopeless_parts (mark_symbol mark.Assign ∷ t ∷ ss) more h = refl
+hopeless_parts (mark_symbol mark.Comma ∷ t ∷ ss) more h = refl
+hopeless_parts (mark_symbol mark.Semicolon ∷ t ∷ ss) more h = refl
+hopeless_parts (mark_symbol mark.Dot ∷ t ∷ ss) more h = refl
+hopeless_parts (mark_symbol mark.Open ∷ t ∷ ss) more h = refl
+hopeless_parts (mark_symbol mark.Close ∷ t ∷ ss) more h = refl
+
+hopeless_line : (last : ℕ) (r : Read) (n : ℕ) (ss more : List Symbol) → is_hopeless ss ≡ true → after_line n last r (ss ++ more) ≡ Err (BadLine n)
+unfolding after_line
+hopeless_line last r n ss more h = rw (hopeless_parts ss more h) refl
+
+abbrev with_front : List Symbol → Result (List Symbol) TextFault → Result (List Symbol) TextFault
+with_front ss t = then_on t (λ ts. Ok (ss ++ ts))
+
+front_then : (s : Symbol) (ss : List Symbol) (t : Result (List Symbol) TextFault) → then_on (with_front ss t) (λ ts. Ok (s ∷ ts)) ≡ with_front (s ∷ ss) t
+front_then s ss (Ok ts) = refl
+front_then s ss (Err e) = refl
+
+front_none : (t : Result (List Symbol) TextFault) → t ≡ with_front [] t
+front_none (Ok ts) = refl
+front_none (Err e) = refl
+
+tokens_front : (n : ℕ) (ss : List Symbol) (l : List Piece) → tokens_of n (map token ss ++ l) ≡ with_front ss (tokens_of n l)
+unfolding tokens_of
+tokens_front n [] l = front_none (unfold tokens_of in tokens_of n l)
+tokens_front n (s ∷ ss) l = ap (λ (t : Result (List Symbol) TextFault). then_on t (λ ts. Ok (s ∷ ts))) (unfold tokens_of in tokens_front n ss l) ∙ front_then s ss (unfold tokens_of in tokens_of n l)
+
+-- what a line comes to that begins with such tokens
+abbrev hopeless_end : ℕ → Result (List Symbol) TextFault → Result PlainProgram TextFault
+hopeless_end n (Ok ts) = Err (BadLine n)
+hopeless_end n (Err e) = Err e
+
+hopeless_by : (last : ℕ) (r : Read) (n : ℕ) (ss : List Symbol) (ls : List (List Piece)) (t : Result (List Symbol) TextFault) → is_hopeless ss ≡ true
+    → then_on (with_front ss t) (λ ts. then_on (after_line n last r ts) (λ s. reading last s (n + 1) ls)) ≡ hopeless_end n t
+hopeless_by last r n ss ls (Err e) h = refl
+hopeless_by last r n ss ls (Ok ts) h = ap (λ (x : Result Read TextFault). then_on x (λ s. reading last s (n + 1) ls)) (hopeless_line last r n ss ts h)
+
+hopeless_reads : (last : ℕ) (r : Read) (n : ℕ) (ss : List Symbol) (l : List Piece) (ls : List (List Piece)) → is_hopeless ss ≡ true
+    → reading last r n ((map token ss ++ l) ∷ ls) ≡ hopeless_end n (tokens_of n l)
+unfolding reading
+hopeless_reads last r n ss l ls h =
+    ap (λ (t : Result (List Symbol) TextFault). then_on t (λ ts. then_on (after_line n last r ts) (λ s. reading last s (n + 1) ls))) (tokens_front n ss l)
+    ∙ (unfold reading in hopeless_by last r n ss ls (tokens_of n l) h)
+
+hopeless_more : (ss : List Symbol) (s : Symbol) → is_hopeless ss ≡ true → is_hopeless (ss ++ s ∷ []) ≡ true
+hopeless_more [] s h = absurd (false≢true h)
+hopeless_more (a ∷ []) s h = absurd (false≢true h)
+hopeless_more (a ∷ b ∷ ss) s h = h
+
+onto_none : (s : Symbol) (ss : List Symbol) → onto_all (s ∷ ss) [] ≡ map token (s ∷ ss) ∷ []
+onto_none s [] = refl
+onto_none s (t ∷ ss) = ap (onto (token s)) (onto_none t ss)
+
+hopeless_empty : (last : ℕ) (r : Read) (n : ℕ) (ss : List Symbol) (s : Symbol) → is_hopeless ss ≡ true → reading last r n (onto_all (ss ++ s ∷ []) []) ≡ reading last r n (onto_all ss [])
+hopeless_empty last r n [] s h = absurd (false≢true h)
+hopeless_empty last r n (a ∷ ss) s h =
+    ap (reading last r n) (onto_none a (ss ++ s ∷ []) ∙ ap (λ (l : List Piece). l ∷ []) (sym (append-nil (map token (a ∷ (ss ++ s ∷ []))))))
+    ∙ hopeless_reads last r n (a ∷ (ss ++ s ∷ [])) [] [] (hopeless_more (a ∷ ss) s h)
+    ∙ sym (hopeless_reads last r n (a ∷ ss) [] [] h)
+    ∙ ap (reading last r n) (sym (onto_none a ss ∙ ap (λ (l : List Piece). l ∷ []) (sym (append-nil (map token (a ∷ ss))))))
+
+hopeless_lines : (last : ℕ) (r : Read) (n : ℕ) (ss : List Symbol) (s : Symbol) (ls : List (List Piece)) → is_hopeless ss ≡ true
+    → reading last r n (onto_all (ss ++ s ∷ []) ls) ≡ reading last r n (onto_all ss ls)
+hopeless_lines last r n ss s [] h = hopeless_empty last r n ss s h
+hopeless_lines last r n ss s (l ∷ ls) h =
+    ap (reading last r n) (onto_line (ss ++ s ∷ []) l ls) ∙ hopeless_reads last r n (ss ++ s ∷ []) l ls (hopeless_more ss s h)
+    ∙ sym (hopeless_reads last r n ss l ls h) ∙ ap (reading last r n) (sym (onto_line ss l ls))
+
+-- a token behind such tokens makes no difference
+read_dropped : (last : ℕ) (r : Read) (n : ℕ) (ss : List Symbol) (s : Symbol) (ps : List Piece) → is_hopeless ss ≡ true → read_on last r n ss (token s ∷ ps) ≡ read_on last r n ss ps
+unfolding read_on
+read_dropped last r n ss s ps h =
+    (unfold read_on in read_token last r n ss s ps) ∙ ap (reading last r n) (lines_onto (ss ++ s ∷ []) ps) ∙ hopeless_lines last r n ss s (lines ps) h ∙ sym (ap (reading last r n) (lines_onto ss ps))
+
+pub step_dropped : (last : ℕ) (r : Read) (n : ℕ) (ss : List Symbol) (bs : List ℕ) (s e : ℕ) (t : Symbol) → is_hopeless ss ≡ true → IsPiece bs s e → piece (slice_range bs s e) ≡ token t
+    → read_on last r n ss (cut false (drop s bs)) ≡ read_on last r n ss (cut false (drop e bs))
+step_dropped last r n ss bs s e t d h k = rw (cut_piece bs s e h, k) (read_dropped last r n ss t _ d)
+
 pub step_bad : (last : ℕ) (r : Read) (n : ℕ) (ss : List Symbol) (bs : List ℕ) (s e : ℕ) → IsPiece bs s e → piece (slice_range bs s e) ≡ bad_token
     → read_on last r n ss (cut false (drop s bs)) ≡ Err (BadToken n)
 step_bad last r n ss bs s e h k = rw (cut_piece bs s e h, k) (read_bad last r n ss _)
@@ -257,7 +349,7 @@ step_inside_end last r n ss bs s w h e = rw (cut_inside_end bs s w h e) (read_li
 
 pub ruleset step_rules = (front_of)
 
-pub ruleset piece_rules = (step_blank, step_token, step_bad, step_bad_literal, step_line_end, map-append)
+pub ruleset piece_rules = (step_blank, step_token, step_dropped, step_bad, step_bad_literal, step_line_end, map-append)
 
 pub ruleset opening_rules = (step_opening, step_unclosed, opens_within)
 

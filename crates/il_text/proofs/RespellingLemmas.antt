@@ -1,5 +1,5 @@
 -- Blanks between two parts of a text.
-use Rattle.std.proofs.Common.{◌≡◌, ◌≢◌, ℕ, ◌+◌, ◌<◌, ◌&&◌, ◌||◌, not, Bool, true, false, cond, List, [], ◌∷◌, ◌++◌, map, length, slice_index, eqb, refl, sym, ap, subst, ◌∙◌, arith, length-append, inl, inr, ◌⊎◌, ⊎_elim}
+use Rattle.std.proofs.Common.{◌≡◌, ◌≢◌, ℕ, ◌+◌, ◌<◌, ◌&&◌, ◌||◌, not, Bool, true, false, cond, List, [], ◌∷◌, ◌++◌, map, length, slice_index, eqb, refl, sym, ap, subst, ◌∙◌, arith, length-append, Result, inl, inr, ◌⊎◌, ⊎_elim}
 use Rattle.std.specs.List.{list_all}
 use Rattle.std.proofs.lemmas.Bool.{false≢true, eqb-true, ne_eqb, lt-ltb}
 use Rattle.std.proofs.lemmas.List.{map-append}
@@ -13,6 +13,11 @@ use Rattle.il_text.specs.Respelling.{ends_inside, AreBlanks, BlanksMayBeRespelle
 use Rattle.il_text.specs.Symbols.{piece, cut}
 use Rattle.il_text.specs.Tokens.{Piece, blank, line_end, token, bad_token, bad_literal}
 use Rattle.il_text.proofs.CutLemmas.{and_left, and_right, Stands, blanked_first, blanked_plain}
+use Rattle.il_text.specs.Listing.{PlainProgram}
+use Rattle.il_text.specs.Texts.{ReadsAs}
+use Rattle.il_text.specs.declared.fault.TextFault.{TextFault}
+use Rattle.il_text.proofs.TextLemmas.{text_reads}
+use Rattle.il_text.proofs.UniqueLemmas.{one_reading}
 use Rattle.il_text.proofs.ReadLemmas.{Alone, alone-space, pieces_alone, space_piece}
 
 or_cases : (a b : Bool) → a || b ≡ true → (a ≡ true) ⊎ (b ≡ true)
@@ -63,7 +68,7 @@ outside_step x y xs t true o h f g =
 outside_step x y xs t false o h f g = rw o (ap (λ (l : List ℕ). x ∷ l) (g o (rw o at h)))
 
 -- two parts of a text, of which the first ends outside of a comment
-blanked_parts : (b : Bool) (u t : List ℕ) → ends_inside b u ≡ false → slice_index t 0 ≢ 42
+pub blanked_parts : (b : Bool) (u t : List ℕ) → ends_inside b u ≡ false → slice_index t 0 ≢ 42
     → blanked b (u ++ t) ≡ blanked b u ++ blanked false t
 unfolding ends_inside blanked
 blanked_parts true [] t h n = absurd (false≢true (sym h))
@@ -105,7 +110,7 @@ joins-blank : (x c : ℕ) → is_blank c ≡ true → joins x (c ∷ []) ≡ fal
 unfolding joins linked same_name
 joins-blank x c h = ⊎_elim (λ (e : c ≡ 32). rw e (and-false (eqb x 38))) (λ (e : c ≡ 9). rw e (and-false (eqb x 38))) (blank-cases c h)
 
-cond_parts : (b : Bool) (x : ℕ) (p : List ℕ) (ps ys : List (List ℕ)) → cond b ((x ∷ p) ∷ (ps ++ ys)) ((x ∷ []) ∷ p ∷ (ps ++ ys)) ≡ cond b ((x ∷ p) ∷ ps) ((x ∷ []) ∷ p ∷ ps) ++ ys
+pub cond_parts : (b : Bool) (x : ℕ) (p : List ℕ) (ps ys : List (List ℕ)) → cond b ((x ∷ p) ∷ (ps ++ ys)) ((x ∷ []) ∷ p ∷ (ps ++ ys)) ≡ cond b ((x ∷ p) ∷ ps) ((x ∷ []) ∷ p ∷ ps) ++ ys
 cond_parts true x p ps ys = refl
 cond_parts false x p ps ys = refl
 
@@ -231,7 +236,7 @@ last_line_blanks [] t a = refl
 last_line_blanks (x ∷ w) t a =
     rw (not_true (eqb x 10) (and_left (no_end x) _ a)) (unfold last_line in last_line_blanks w t (and_right (no_end x) _ a))
 
-last_line_parts : (u t s : List ℕ) → 0 < length t → 0 < length s → last_line t ≡ last_line s → last_line (u ++ t) ≡ last_line (u ++ s)
+pub last_line_parts : (u t s : List ℕ) → 0 < length t → 0 < length s → last_line t ≡ last_line s → last_line (u ++ t) ≡ last_line (u ++ s)
 unfolding last_line
 last_line_parts [] t s n m e = e
 last_line_parts (x ∷ u) t s n m e =
@@ -277,8 +282,16 @@ last_line_of u w s v a b =
     last_line_parts u (w ++ v) (s ++ v) (simp length-append (omega arith)) (simp length-append (omega arith))
     (last_line_blanks w v (no_ends_inside false w a.blank) ∙ sym (last_line_blanks s v (no_ends_inside false s b.blank)))
 
-pub respelled : BlanksMayBeRespelled
+same_reading : (before blanks others after : List ℕ) → ends_inside false before ≡ false → AreBlanks blanks → AreBlanks others
+    → program_of (before ++ (blanks ++ after)) ≡ program_of (before ++ (others ++ after))
 unfolding program_of
-respelled u w s v h a b =
+same_reading u w s v h a b =
     ap (λ (n : ℕ). reading n none_yet 1 (lines (cut false (u ++ (w ++ v))))) (last_line_of u w s v a b)
     ∙ ap (reading (last_line (u ++ (s ++ v))) none_yet 1) (lines_of u w v h a ∙ sym (lines_of u s v h b))
+
+-- texts that make the same program read as the same
+pub moved : (a b : List ℕ) (read : Result PlainProgram TextFault) → program_of a ≡ program_of b → ReadsAs a read → ReadsAs b read
+moved a b read e x = subst (λ (r : Result PlainProgram TextFault). ReadsAs b r) (sym (one_reading a read (program_of a) x (text_reads a) ∙ e)) (text_reads b)
+
+pub respelled : BlanksMayBeRespelled
+respelled before blanks others after read h b o x = moved _ _ read (same_reading before blanks others after h b o) x

@@ -281,3 +281,16 @@ by_first (mark_symbol m) rest ss = marked m rest
 unfoldable pub parts_of : List Symbol → Option (List Part)
 parts_of [] = Some []
 parts_of (s ∷ ss) = by_first s ss (s ∷ ss)
+
+-- a token with which a line begins that has no other
+abbrev pub is_single : Symbol → Bool
+is_single (type_word kind) = true
+is_single (literal value) = true
+is_single (mark_symbol m) = true
+is_single other = false
+
+-- tokens with which no line begins
+abbrev pub is_hopeless : List Symbol → Bool
+is_hopeless [] = false
+is_hopeless (s ∷ []) = false
+is_hopeless (s ∷ t ∷ ss) = is_single s

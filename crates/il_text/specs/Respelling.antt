@@ -1,9 +1,11 @@
 -- Blanks and comments within their lines may be spelled otherwise.
-use Rattle.std.specs.Prelude.{◌≡◌, ℕ, ◌<◌, Bool, true, false, if◌then◌else◌, List, [], ◌∷◌, ◌++◌, length}
+use Rattle.std.specs.Prelude.{◌≡◌, ℕ, ◌<◌, ◌==◌, Bool, true, false, if◌then◌else◌, List, [], ◌∷◌, ◌++◌, length, Result}
 use Rattle.std.specs.List.{list_all}
 use Rattle.il_text.specs.Characters.{is_blank}
 use Rattle.il_text.specs.Pieces.{opens, ends, blanked}
-use Rattle.il_text.specs.Reading.{program_of}
+use Rattle.il_text.specs.Listing.{PlainProgram}
+use Rattle.il_text.specs.Texts.{ReadsAs}
+use Rattle.il_text.specs.declared.fault.TextFault.{TextFault}
 
 -- whether a text ends within a comment, where it begins within one or not
 unfoldable pub ends_inside : Bool → List ℕ → Bool
@@ -19,8 +21,22 @@ pub record AreBlanks (w : List ℕ) : Type 0 where
   pub closed : ends_inside false w ≡ false
   pub blank : list_all is_blank (blanked false w) ≡ true
 
--- one spelling of blanks between two parts of a text makes the same program as another
+-- a text with one spelling of blanks between two parts reads as that with another
 abbrev pub BlanksMayBeRespelled : Type 0
 BlanksMayBeRespelled =
-    (before blanks others after : List ℕ) → ends_inside false before ≡ false → AreBlanks blanks → AreBlanks others
-    → program_of (before ++ (blanks ++ after)) ≡ program_of (before ++ (others ++ after))
+    (before blanks others after : List ℕ) (read : Result PlainProgram TextFault)
+    → ends_inside false before ≡ false → AreBlanks blanks → AreBlanks others
+    → ReadsAs (before ++ (blanks ++ after)) read → ReadsAs (before ++ (others ++ after)) read
+
+-- whether a text ends with a CR
+abbrev pub ends_with_cr : List ℕ → Bool
+ends_with_cr [] = false
+ends_with_cr (x ∷ []) = x == 13
+ends_with_cr (x ∷ y ∷ xs) = ends_with_cr (y ∷ xs)
+
+-- a text reads as that with CR LF in the place of a LF, which stands outside of comments and not behind a CR
+abbrev pub LineEndsMayBeRespelled : Type 0
+LineEndsMayBeRespelled =
+    (before after : List ℕ) (read : Result PlainProgram TextFault)
+    → ends_inside false before ≡ false → ends_with_cr (blanked false before) ≡ false
+    → ReadsAs (before ++ (10 ∷ after)) read → ReadsAs (before ++ (13 ∷ 10 ∷ after)) read

@@ -560,3 +560,19 @@ pub(crate) fn line_of<'t, 'a>(tokens: &'t [Token<'a>]) -> Option<Line<'t, 'a>>
         Token::Type(_) | Token::Literal(_) => None,
     }
 }
+
+fn is_single(token: Token<'_>) -> bool
+    ensures { result ≡ spec.is_single (symbol_of token.entry) }
+{
+    matches!(token, Token::Type(_) | Token::Literal(_) | Token::Mark(_))
+}
+
+/// Whether no line begins with these tokens, so that the others of their line need not be kept.
+pub(crate) fn is_hopeless(tokens: &[Token<'_>]) -> bool
+    ensures { result ≡ spec.is_hopeless (symbols_of tokens.now) }
+{
+    match tokens {
+        [first, _, ..] => is_single(*first),
+        _ => false,
+    }
+}

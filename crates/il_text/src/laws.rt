@@ -1,7 +1,7 @@
 // Laws of the definition of a text's program, each the contract of a function that does nothing.
 ghost use Rattle.il_text.specs.Grammar.{OneProgram};
 ghost use Rattle.il_text.specs.LetterCase.{LettersMayBeRespelled};
-ghost use Rattle.il_text.specs.Respelling.{BlanksMayBeRespelled};
+ghost use Rattle.il_text.specs.Respelling.{BlanksMayBeRespelled, LineEndsMayBeRespelled};
 ghost use Rattle.il_text.specs.Texts.{OneReading};
 
 /// At most one program is derived from the parts of lines (IEC 61131-3:2003, 2.5.3 and annex B).
@@ -19,6 +19,11 @@ pub fn one_reading()
 /// (IEC 61131-3:2003, 2.1.4 and 2.1.5).
 pub fn blanks_may_be_respelled()
     ensures { BlanksMayBeRespelled }
+{}
+
+/// A line may end in CR LF in the place of LF: the text reads as it did.
+pub fn line_ends_may_be_respelled()
+    ensures { LineEndsMayBeRespelled }
 {}
 
 /// Letters may be spelled in either case: a text in upper case reads as the text does, with its names in

@@ -10,6 +10,7 @@ ghost use Rattle.il_text.specs.declared.fault.TextFault.TheVariants.{OutOfMemory
 ghost use Rattle.il_text.specs.Places.{last_line};
 
 use crate::fault::TextFault;
+use crate::form::is_hopeless;
 use crate::lexeme::{Lexeme, lexeme_at};
 use crate::listing::{Draft, Position, Stage};
 use crate::piece::{closes, ends, opens, piece_end};
@@ -25,7 +26,7 @@ struct Reader<'a> {
     line: usize,
     last: usize,
     in_comment: bool,
-    /// The tokens of the line so far.
+    /// The tokens of the line so far, up to where no line begins with them.
     tokens: Vec<Token<'a>>,
     listing: Draft<'a>,
     ghost within: { at ≤ length text.now },
@@ -144,7 +145,9 @@ impl<'a> Reader<'a> {
                 Err(fault) => Err(fault),
             },
             Lexeme::Token(token) => {
-                self.tokens.push(token)?;
+                if !is_hopeless(self.tokens.as_slice()) {
+                    self.tokens.push(token)?;
+                }
                 Ok(())
             }
             Lexeme::BadToken => Err(TextFault::BadToken { line: self.line }),
