@@ -7,7 +7,7 @@ use Rattle.il_text.specs.Parts.{Part, heading, opening, declaring, closing, labe
 use Rattle.il_text.specs.Tokens.{Symbol, name, frame_word, type_word, literal, mnemonic_word, mark_symbol}
 use Rattle.il_text.specs.declared.form.Tail.{Tail}
 use Rattle.il_text.specs.declared.program.DeclaredType.{DeclaredType}
-use Rattle.il_text.specs.declared.program.DeclaredType.TheVariants.{Elementary, Timer}
+use Rattle.il_text.specs.declared.program.DeclaredType.TheVariants.{Elementary}
 use Rattle.il_text.specs.declared.program.Input.{Input}
 use Rattle.il_text.specs.declared.program.Input.TheVariants as input
 use Rattle.il_text.specs.declared.program.Literal.{Literal}
