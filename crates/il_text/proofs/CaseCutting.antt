@@ -5,7 +5,6 @@ use Rattle.std.specs.Str.{bytes_eq}
 use Rattle.std.proofs.lemmas.Bool.{ltb-true}
 use Rattle.il_text.proofs.CutLemmas.{and_left, and_right}
 use Rattle.il_text.specs.Characters.{is_blank, is_sign, is_word, begins_word, begins_name, linked}
-use Rattle.bay_base.specs.Names.{same_name}
 use Rattle.il_text.specs.Literals.{halves, prefixed, decimal, untyped}
 use Rattle.bay_base.proofs.WordLemmas.{reserved-upper}
 use Rattle.il_text.specs.Words.{symbol_of_word, reserved_symbol}

@@ -1,11 +1,10 @@
 -- Letters in upper case: the forms of lines.
-use Rattle.std.proofs.Common.{◌≡◌, ℕ, ◌+◌, ◌&&◌, Bool, true, false, cond, List, [], ◌∷◌, Option, Some, None, option_map, option_and_then, map, take, drop, codes, refl, sym, ap, ◌∙◌}
+use Rattle.std.proofs.Common.{◌≡◌, ℕ, ◌&&◌, Bool, true, false, cond, List, [], ◌∷◌, Option, Some, None, option_map, option_and_then, map, take, drop, codes, refl, ap, ◌∙◌}
 use Rattle.std.proofs.lemmas.List.{drop-map, take-map}
 use Rattle.std.specs.List.{position_or_len}
-use Rattle.bay_base.specs.Names.{same_name}
 use Rattle.il_text.specs.Forms as form
 use Rattle.il_text.specs.LetterCase.{upper_place, upper_source, upper_argument, upper_action}
-use Rattle.il_text.specs.Listing.{Place, named, output, Source, constant, variable, Action, load, store, combine, invert, convert, jump, leave, call}
+use Rattle.il_text.specs.Listing.{Place, named, output, Source, Action, load, store, combine, invert, convert, jump, leave, call}
 use Rattle.il_text.specs.Parts.{Part, heading, opening, declaring, closing, labelling, acting, entering, leaving, ending}
 use Rattle.il_text.specs.Tokens.{Symbol, name, frame_word, type_word, literal, mnemonic_word, mark_symbol}
 use Rattle.il_text.specs.declared.form.Tail.{Tail}

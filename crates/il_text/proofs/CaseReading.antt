@@ -1,19 +1,19 @@
 -- Letters in upper case: lines and the program.
-use Rattle.std.proofs.Common.{◌≡◌, ℕ, ◌+◌, ◌&&◌, ◌||◌, Bool, true, false, cond, List, [], ◌∷◌, ◌++◌, Option, Some, None, Ok, Err, Result, option_map, option_and_then, map, length, leb, ltb, refl, sym, ap, subst, ◌∙◌}
+use Rattle.std.proofs.Common.{◌≡◌, ℕ, ◌+◌, Bool, true, false, cond, List, [], ◌∷◌, ◌++◌, Option, Some, None, Ok, Err, Result, option_map, option_and_then, map, length, leb, ltb, refl, sym, ap, subst, ◌∙◌}
 use Rattle.std.proofs.lemmas.List.{length-map, map-append}
 use Rattle.il_text.specs.Forms.{parts_of}
 use Rattle.il_text.specs.Grammar.{is_plain}
-use Rattle.il_text.specs.LetterCase.{upper_action, upper_entry, upper_entries, upper_declared, upper_listing, upper_program, LettersMayBeRespelled}
+use Rattle.il_text.specs.LetterCase.{upper_action, upper_entry, upper_entries, upper_declared, upper_program, LettersMayBeRespelled}
 use Rattle.il_text.specs.Listing.{Action, load, store, combine, invert, convert, jump, leave, call, Entry, label, action, block, entry, entries_of, Declared, PlainProgram}
 use Rattle.il_text.specs.Parts.{Part, heading, opening, declaring, closing, labelling, acting, entering, leaving, ending}
 use Rattle.il_text.specs.Places.{last_line}
-use Rattle.il_text.specs.Reading.{onto, lines, then_on, tokens_of, Read, is_instruction, has_instruction, past_limit, counted, bounded, limited, stepped, after_parts, after_line, listed, whole_at, whole, reading, none_yet, program_of}
-use Rattle.il_text.specs.Steps.{Opened, Reached, at_place, with_name, declared_in, with_declarations, with_item, with_opened, with_closed, is_start, is_between, block_scope, is_body, is_outside, is_some, is_load, may_begin_with, declared_here, closed_block, left_here, may_stand, may_act, may_enter, may_leave, step, steps}
+use Rattle.il_text.specs.Reading.{onto, lines, then_on, tokens_of, Read, is_instruction, has_instruction, past_limit, counted, bounded, limited, stepped, after_parts, after_line, whole_at, reading, none_yet, program_of}
+use Rattle.il_text.specs.Steps.{Opened, Reached, at_place, with_name, declared_in, with_declarations, with_item, with_opened, is_start, is_between, block_scope, is_outside, is_some, is_load, may_begin_with, declared_here, closed_block, left_here, may_stand, may_act, may_enter, may_leave, step, steps}
 use Rattle.il_text.specs.Symbols.{cut}
 use Rattle.il_text.specs.Texts.{ReadsAs}
 use Rattle.il_text.specs.Tokens.{Symbol, Piece, blank, line_end, token, bad_token, bad_literal}
 use Rattle.il_text.specs.declared.fault.TextFault.{TextFault}
-use Rattle.il_text.specs.declared.fault.TextFault.TheVariants.{BadLine, TooDeep, TooLong}
+use Rattle.il_text.specs.declared.fault.TextFault.TheVariants.{TooDeep, TooLong}
 use Rattle.il_text.specs.declared.listing.Stage.{Stage}
 use Rattle.il_text.specs.declared.listing.Stage.TheVariants as place
 use Rattle.il_text.specs.declared.program.DeclaredType.{DeclaredType}

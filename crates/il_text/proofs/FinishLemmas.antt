@@ -1,16 +1,15 @@
 -- What is reached can be gone on to a program, and what is refused can't.
-use Rattle.std.proofs.Common.{◌≡◌, ℕ, Bool, true, false, List, [], ◌∷◌, ◌++◌, Option, Some, None, option_and_then, refl, sym, ap, subst, ◌∙◌}
-use Rattle.std.proofs.lemmas.Bool.{false≢true}
+use Rattle.std.proofs.Common.{◌≡◌, ℕ, true, false, List, [], ◌∷◌, ◌++◌, Some, None, option_and_then, refl, sym, ap, subst, ◌∙◌}
 use Rattle.il_text.specs.Grammar.{Numbered, Derives, CanGoOn}
 use Rattle.il_text.specs.Listing.{load, Entry, action, block, entries_of, Declared, PlainProgram, constant}
 use Rattle.il_text.specs.Parts.{heading, closing, acting, leaving, ending}
 use Rattle.il_text.specs.Reading.{listed}
-use Rattle.il_text.specs.Steps.{Opened, Reached, nothing_read, with_name, is_body, is_some, may_act, may_leave, step}
+use Rattle.il_text.specs.Steps.{Opened, Reached, nothing_read, is_body, is_some, may_act, may_leave, step}
 use Rattle.il_text.specs.declared.listing.Stage.{Stage}
 use Rattle.il_text.specs.declared.listing.Stage.TheVariants as place
 use Rattle.il_text.specs.declared.program.Literal.TheVariants.{Truth}
 use Rattle.il_text.specs.declared.program.Scope.{Scope}
-use Rattle.il_text.proofs.GrammarLemmas.{run, run_append, run_reaches, start_reaches, then_some, AtStart, Between, InBlock, InBody, ReachesAt, Reaches}
+use Rattle.il_text.proofs.GrammarLemmas.{run, run_append, run_reaches, start_reaches, ReachesAt, Reaches}
 use Rattle.il_text.proofs.DerivedLemmas.{state, run_step, some_more, ending_step, close_step, derived_runs}
 
 -- parts that end a program after what is reached

@@ -1,14 +1,14 @@
 -- LF and CR LF end a line alike.
-use Rattle.std.proofs.Common.{◌≡◌, ◌≢◌, ℕ, ◌+◌, ◌<◌, Bool, true, false, cond, List, [], ◌∷◌, ◌++◌, map, length, eqb, refl, sym, ap, ◌∙◌, arith}
+use Rattle.std.proofs.Common.{◌≡◌, ℕ, Bool, true, false, cond, List, [], ◌∷◌, ◌++◌, map, eqb, refl, sym, ap, ◌∙◌, arith}
 use Rattle.std.proofs.lemmas.List.{map-append}
 use Rattle.std.proofs.Math.Bool.{and-false}
 use Rattle.il_text.specs.Characters.{linked}
 use Rattle.bay_base.specs.Names.{same_name}
-use Rattle.il_text.specs.Pieces.{opens, blanked, joins, join, pieces}
+use Rattle.il_text.specs.Pieces.{blanked, joins, join, pieces}
 use Rattle.il_text.specs.Places.{last_line}
 use Rattle.il_text.specs.Reading.{lines, reading, none_yet, program_of}
 use Rattle.il_text.specs.Respelling.{ends_inside, ends_with_cr, LineEndsMayBeRespelled}
-use Rattle.il_text.specs.Symbols.{mark_of, piece, cut}
+use Rattle.il_text.specs.Symbols.{piece, cut}
 use Rattle.il_text.specs.Tokens.{Piece, line_end}
 use Rattle.il_text.proofs.CutLemmas.{blanked_plain}
 use Rattle.il_text.proofs.ReadLemmas.{alone-line_end, pieces_alone}

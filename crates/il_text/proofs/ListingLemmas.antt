@@ -1,18 +1,17 @@
 -- What a line does to the draft.
-use Rattle.std.proofs.Common.{◌≡◌, ℕ, ◌+◌, ◌<◌, ◌≤◌, suc, Bool, true, false, cond, Ok, Err, List, [], ◌∷◌, ◌++◌, Option, Some, None, option_map, option_and_then, map, reverse, length, get_or, take, drop, refl, sym, ap, ◌∙◌, rules, arith, add-one, drop-cons, append-nil, append_assoc, Vec, Global, Bor}
+use Rattle.std.proofs.Common.{◌≡◌, ℕ, ◌+◌, ◌<◌, ◌≤◌, suc, Bool, true, false, cond, Ok, Err, List, [], ◌∷◌, ◌++◌, Option, Some, None, option_map, option_and_then, map, reverse, length, get_or, drop, refl, sym, ap, ◌∙◌, rules, arith, add-one, drop-cons, append-nil, append_assoc, Vec, Global, Bor}
 use Rattle.std.proofs.lemmas.Grind.{common_steps}
 use Rattle.std.proofs.lemmas.List.{length-map, length-reverse, map-append, reverse-append}
-use Rattle.il_text.specs.FormViews.{opened_parts, statement_parts}
 use Rattle.il_text.specs.Forms.{name_of, is_comma, names_from, declared_names, parts_of}
-use Rattle.il_text.specs.Listing.{Action, Entry, label, action, block, entries_of, Declared}
-use Rattle.il_text.specs.ListingViews.{opened_of, reached_of}
+use Rattle.il_text.specs.Listing.{label, action, block, entries_of, Declared}
+use Rattle.il_text.specs.ListingViews.{opened_of}
 use Rattle.il_text.specs.Parts.{Part, declaring}
 use Rattle.il_text.specs.Steps.{Opened, Reached, block_scope, declared_in, is_outside, is_some, may_begin_with, step, steps}
 use Rattle.il_text.specs.Declaring.{declared_from}
 use Rattle.il_text.specs.Reading.{Read, has_instruction, bounded, after_parts, after_line}
 use Rattle.il_text.specs.declared.fault.TextFault.TheVariants.{BadLine}
 use Rattle.il_text.specs.Tokens.{Symbol}
-use Rattle.il_text.specs.TokenViews.{symbol_of, symbols_of}
+use Rattle.il_text.specs.TokenViews.{symbols_of}
 use Rattle.il_text.specs.Views.{action_of, entry_of}
 use Rattle.il_text.specs.declared.form.Tail.{Tail}
 use Rattle.il_text.specs.declared.listing.Open.{Open}

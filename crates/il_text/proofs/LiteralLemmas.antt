@@ -1,5 +1,5 @@
 -- Numbers, digit by digit.
-use Rattle.std.proofs.Common.{◌≡◌, ◌≢◌, ℕ, ◌+◌, ◌-◌, ◌*◌, ◌^◌, ◌<◌, ◌≤◌, not, Bool, true, false, cond, List, [], ◌∷◌, Option, Some, None, length, drop, slice_index, filter, min, eqb, ltb, leb, MatchOption, option_map, Bor, Result, Ok, Err, lit<, refl, sym, arith, ap, ◌∙◌, ⊎_elim}
+use Rattle.std.proofs.Common.{◌≡◌, ◌≢◌, ℕ, ◌+◌, ◌-◌, ◌*◌, ◌^◌, ◌<◌, ◌≤◌, not, Bool, true, false, cond, List, [], ◌∷◌, Option, Some, None, length, drop, slice_index, filter, min, eqb, ltb, leb, MatchOption, option_map, Bor, refl, sym, arith, ap, ◌∙◌, ⊎_elim}
 use Rattle.std.specs.Char.{digit_value}
 use Rattle.std.specs.Str.Parse.{digits_value, digits_value_after}
 use Rattle.std.proofs.lemmas.Bool.{lt-ltb, le-ltb, ne_eqb, cases_lt}
@@ -7,7 +7,7 @@ use Rattle.std.proofs.lemmas.Bool.Decides.{nat_tests}
 use Rattle.std.specs.List.{position_or_len, before_first, after_first}
 use Rattle.std.proofs.Math.Bool.{and-false}
 use Rattle.std.proofs.Math.Nat.{mul-le-mul_left, mul-le-mul_right}
-use Rattle.il_text.specs.Literals.{is_underscore, is_hash, is_integer, number, halves, decimal, based, integer, read_on, signed, untyped, Signed}
+use Rattle.il_text.specs.Literals.{is_underscore, is_hash, is_integer, number, halves, decimal, based, integer, signed, untyped, Signed}
 use Rattle.il_text.specs.Runs.{capped, capped_signed}
 use Rattle.bay_base.proofs.ListLemmas.{front_of, none_left}
 

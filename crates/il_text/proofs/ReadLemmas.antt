@@ -1,10 +1,12 @@
 -- One piece, or one character of a comment.
-use Rattle.std.proofs.Common.{◌≡◌, ◌≢◌, ℕ, ◌+◌, ◌<◌, ◌≤◌, Bool, true, false, List, [], ◌∷◌, ◌++◌, None, Ok, Err, Result, map, length, drop, slice_index, slice_range, eqb, refl, sym, ap, subst, ◌∙◌, arith, append-nil}
+use Rattle.std.proofs.Common.{◌≡◌, ◌≢◌, ℕ, ◌+◌, ◌<◌, ◌≤◌, suc, not, ◌||◌, Bool, true, false, Option, Some, option_and_then, take, List, [], ◌∷◌, ◌++◌, None, Ok, Err, Result, map, length, drop, slice_index, slice_range, eqb, refl, sym, ap, subst, ◌∙◌, arith, append-nil}
 use Rattle.std.proofs.lemmas.Bool.{false≢true, eqb-true, ne_eqb}
 use Rattle.std.proofs.lemmas.List.{map-append}
 use Rattle.std.proofs.Math.Bool.{and-false}
 use Rattle.il_text.specs.Characters.{linked}
-use Rattle.il_text.specs.Forms.{marked, is_hopeless, parts_of}
+use Rattle.il_text.specs.Forms.{names_from, declared_names, declared_by, after_front, parts_at, tail, declaration, is_colon, is_comma, label_rest, label_or, named_line, marked, is_hopeless, parts_of}
+use Rattle.std.specs.List.{position_or_len}
+use Rattle.il_text.specs.declared.form.Tail.{Tail}
 use Rattle.il_text.specs.Listing.{PlainProgram}
 use Rattle.il_text.specs.declared.token.Mark.TheVariants as mark
 use Rattle.il_text.specs.Pieces.{opens, ends, closes, blanked, pieces}
@@ -226,12 +228,52 @@ pub step_token : (last : ℕ) (r : Read) (n : ℕ) (ss : List Symbol) (bs : List
     → read_on last r n ss (cut false (drop s bs)) ≡ read_on last r n (ss ++ t ∷ []) (cut false (drop e bs))
 step_token last r n ss bs s e t h k = rw (cut_piece bs s e h, k) (read_token last r n ss t _)
 
+-- a name that neither a colon nor a comma follows begins no declaration
+tailed_names : (n : List ℕ) (c : Symbol) (xs : List Symbol) (t : Option Tail) → is_comma c ≡ false → option_and_then (λ k. declared_names k (name n ∷ c ∷ xs)) t ≡ None
+unfolding names_from
+tailed_names n c xs None h = refl
+tailed_names n c xs (Some k) h = rw h refl
+
+fronted_names : (n : List ℕ) (c : Symbol) (xs back : List Symbol) → is_comma c ≡ false → declared_by (after_front (name n ∷ c ∷ xs) back) ≡ None
+fronted_names n c xs [] h = refl
+fronted_names n c xs (s ∷ rest) h = tailed_names n c xs (tail rest) h
+
+parted_names : (n : List ℕ) (c : Symbol) (more : List Symbol) (k : ℕ) → is_comma c ≡ false → declared_by (parts_at (suc (suc k)) (name n ∷ c ∷ more)) ≡ None
+unfolding parts_at
+parted_names n c more k h = fronted_names n c (take k more) (drop k more) h
+
+two_more : (k : ℕ) → 1 + (1 + k) ≡ suc (suc k)
+two_more k = omega arith
+
+position_names : (n : List ℕ) (c : Symbol) (more : List Symbol) → is_colon c ≡ false → position_or_len is_colon (name n ∷ c ∷ more) ≡ suc (suc (position_or_len is_colon more))
+position_names n c more h = rw h (two_more (position_or_len is_colon more))
+
+neither : (a b : Bool) → not (a || b) ≡ true → (a ≡ false) × (b ≡ false)
+neither true b h = absurd (false≢true h)
+neither false true h = absurd (false≢true h)
+neither false false h = (refl, refl)
+
+no_declaration : (n : List ℕ) (c : Symbol) (more : List Symbol) → is_colon c ≡ false → is_comma c ≡ false → declaration (name n ∷ c ∷ more) ≡ None
+unfolding declaration
+no_declaration n c more h k =
+    ap (λ (m : ℕ). declared_by (parts_at m (name n ∷ c ∷ more))) (position_names n c more h) ∙ parted_names n c more (position_or_len is_colon more) k
+
+no_label : (c : Symbol) (more : List Symbol) → is_colon c ≡ false → label_rest (c ∷ more) ≡ None
+unfolding label_rest
+no_label c more h = rw h refl
+
+named_nothing : (n : List ℕ) (c : Symbol) (more : List Symbol) → not (is_colon c || is_comma c) ≡ true → named_line n (c ∷ more) (name n ∷ c ∷ more) ≡ None
+unfolding named_line
+named_nothing n c more h =
+    let k = neither (is_colon c) (is_comma c) h in
+    ap (label_or n (name n ∷ c ∷ more)) (no_label c more k.0) ∙ no_declaration n c more k.0 k.1
+
 -- tokens with which no line begins make no line, whatever follows
 hopeless_parts : (ss more : List Symbol) → is_hopeless ss ≡ true → parts_of (ss ++ more) ≡ None
 unfolding parts_of marked
 hopeless_parts [] more h = absurd (false≢true h)
 hopeless_parts (s ∷ []) more h = absurd (false≢true h)
-hopeless_parts (name n ∷ t ∷ ss) more h = absurd (false≢true h)
+hopeless_parts (name n ∷ t ∷ ss) more h = named_nothing n t (ss ++ more) h
 hopeless_parts (frame_word w ∷ t ∷ ss) more h = absurd (false≢true h)
 hopeless_parts (mnemonic_word m ∷ t ∷ ss) more h = absurd (false≢true h)
 hopeless_parts (type_word k ∷ t ∷ ss) more h = refl

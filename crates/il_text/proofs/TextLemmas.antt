@@ -1,26 +1,25 @@
 -- What the lines of a text reach is what the text reads as.
-use Rattle.std.proofs.Common.{◌≡◌, ◌≢◌, ℕ, ◌+◌, ◌<◌, ◌≤◌, ◌⊎◌, inl, inr, ◌||◌, Bool, true, false, cond, List, [], ◌∷◌, ◌++◌, map, length, Option, Some, None, option_and_then, Result, Ok, Err, refl, sym, ap, subst, ◌∙◌, arith, leb, ltb, zero-add}
-use Rattle.std.specs.List.{flat_map, count_by}
+use Rattle.std.proofs.Common.{◌≡◌, ℕ, ◌+◌, ◌<◌, ◌≤◌, ◌⊎◌, inl, inr, ◌||◌, Bool, true, false, cond, List, [], ◌∷◌, ◌++◌, map, length, Option, Some, None, option_and_then, Result, Ok, Err, refl, sym, ap, ◌∙◌, arith, leb, ltb, zero-add}
+use Rattle.std.specs.List.{count_by}
 use Rattle.std.proofs.lemmas.Bool.{false≢true, ltb-true, ltb-false, leb-true, leb-false}
 use Rattle.std.proofs.lemmas.List.Recursion.{is_count_by}
 use Rattle.il_text.specs.Forms.{parts_of}
-use Rattle.il_text.specs.Grammar.{Numbered, Derives, CanGoOn}
+use Rattle.il_text.specs.Grammar.{Numbered, Derives}
 use Rattle.il_text.specs.Listing.{label, action, PlainProgram}
 use Rattle.il_text.specs.Parts.{Part, heading, opening, declaring, closing, labelling, acting, entering, leaving, ending}
 use Rattle.il_text.specs.Places.{last_line}
-use Rattle.il_text.specs.Reading.{Read, then_on, tokens_of, is_instruction, has_instruction, past_limit, counted, bounded, limited, stepped, after_parts, after_line, listed, whole_at, whole, reading, none_yet, program_of, lines}
-use Rattle.il_text.specs.Steps.{Opened, Reached, nothing_read, at_place, with_name, with_item, with_opened, with_closed, with_declarations, declared_in, declared_here, closed_block, left_here, block_scope, is_start, is_between, may_begin_with, may_stand, may_act, may_enter, may_leave, step, steps}
+use Rattle.il_text.specs.Reading.{Read, then_on, tokens_of, is_instruction, has_instruction, past_limit, counted, bounded, stepped, after_parts, after_line, whole_at, reading, none_yet, program_of, lines}
+use Rattle.il_text.specs.Steps.{Reached, nothing_read, at_place, with_name, with_item, with_opened, with_declarations, declared_in, left_here, block_scope, is_start, is_between, may_stand, may_act, may_enter, may_leave, step, steps}
 use Rattle.il_text.specs.Symbols.{cut}
-use Rattle.il_text.specs.Texts.{Line, numbered, all_parts, is_entering, is_leaving, IsDeep, IsLong, Allowed, LineFault, no_program, too_deep, too_long, Refused, Ends, OnParts, OnTokens, Reads, ReadsAs}
+use Rattle.il_text.specs.Texts.{Line, numbered, all_parts, is_entering, is_leaving, IsDeep, Allowed, no_program, too_deep, too_long, Refused, Ends, OnParts, OnTokens, Reads, ReadsAs}
 use Rattle.il_text.specs.Tokens.{Symbol, Piece}
 use Rattle.il_text.specs.declared.fault.TextFault.{TextFault}
-use Rattle.il_text.specs.declared.fault.TextFault.TheVariants.{BadLine, TooDeep, TooLong}
+use Rattle.il_text.specs.declared.fault.TextFault.TheVariants.{TooDeep, TooLong}
 use Rattle.il_text.specs.declared.listing.Stage.{Stage}
 use Rattle.il_text.specs.declared.listing.Stage.TheVariants as place
-use Rattle.il_text.specs.declared.program.Scope.{Scope}
 use Rattle.il_text.proofs.GrammarLemmas.{run, run_append, and_then_same, then_some, cond_some, cond_left, declared_some, closed_some, left_some, flat_one}
 use Rattle.il_text.proofs.DerivedLemmas.{state, derived_runs}
-use Rattle.il_text.proofs.FinishLemmas.{goes_on, stops, ended_derives, one_derived}
+use Rattle.il_text.proofs.FinishLemmas.{goes_on, stops, ended_derives}
 
 -- how many parentheses are open
 abbrev depth : Reached → ℕ

@@ -1,5 +1,5 @@
 -- The forms of lines, over the tokens of a line (IEC 61131-3:2003, annexes B.1.4.3, B.1.5.3 and B.2).
-use Rattle.std.specs.Prelude.{ℕ, Bool, true, false, ◌&&◌, if◌then◌else◌, List, [], ◌∷◌, take, drop, codes, Option, Some, None, option_map, option_and_then}
+use Rattle.std.specs.Prelude.{ℕ, Bool, true, false, not, ◌&&◌, ◌||◌, if◌then◌else◌, List, [], ◌∷◌, take, drop, codes, Option, Some, None, option_map, option_and_then}
 use Rattle.std.specs.List.{position_or_len}
 use Rattle.bay_base.specs.Names.{same_name}
 use Rattle.il_text.specs.Listing.{Place, named, output, Source, constant, variable, Action, load, store, combine, invert, convert, jump, leave, call}
@@ -7,7 +7,7 @@ use Rattle.il_text.specs.Parts.{Part, heading, opening, declaring, closing, labe
 use Rattle.il_text.specs.Tokens.{Symbol, name, frame_word, type_word, literal, mnemonic_word, mark_symbol}
 use Rattle.il_text.specs.declared.form.Tail.{Tail}
 use Rattle.il_text.specs.declared.program.DeclaredType.{DeclaredType}
-use Rattle.il_text.specs.declared.program.DeclaredType.TheVariants.{Elementary, Timer}
+use Rattle.il_text.specs.declared.program.DeclaredType.TheVariants.{Elementary}
 use Rattle.il_text.specs.declared.program.Input.{Input}
 use Rattle.il_text.specs.declared.program.Input.TheVariants as input
 use Rattle.il_text.specs.declared.program.Literal.{Literal}
@@ -289,8 +289,17 @@ is_single (literal value) = true
 is_single (mark_symbol m) = true
 is_single other = false
 
+-- what may stand behind a name with which a line begins
+abbrev pub follows_name : Symbol → Bool
+follows_name s = is_colon s || is_comma s
+
+-- a token with which a line begins, and one that can't be behind it
+abbrev pub is_misplaced : Symbol → Symbol → Bool
+is_misplaced (name n) t = not (follows_name t)
+is_misplaced s t = is_single s
+
 -- tokens with which no line begins
 abbrev pub is_hopeless : List Symbol → Bool
 is_hopeless [] = false
 is_hopeless (s ∷ []) = false
-is_hopeless (s ∷ t ∷ ss) = is_single s
+is_hopeless (s ∷ t ∷ ss) = is_misplaced s t

@@ -1,5 +1,5 @@
 -- The plain data that declarations and items of the code stand for.
-use Rattle.std.specs.Prelude.{List, [], ◌∷◌, map}
+use Rattle.std.specs.Prelude.{List, [], ◌∷◌}
 use Rattle.il_text.specs.Listing.{Place, named, output, Source, constant, variable, Action, load, store, combine, invert, convert, jump, leave, call, Entry, label, action, block, entries_of, Declared}
 use Rattle.il_text.specs.declared.program.Variable.{Variable}
 use Rattle.il_text.specs.declared.program.Variable.TheVariants as v

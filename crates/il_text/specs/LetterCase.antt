@@ -1,5 +1,5 @@
 -- A program with its names in upper case.
-use Rattle.std.specs.Prelude.{◌≡◌, ℕ, List, map, Result, Ok, Err}
+use Rattle.std.specs.Prelude.{ℕ, List, map, Result, Ok, Err}
 use Rattle.bay_base.specs.Names.{upper}
 use Rattle.il_text.specs.Listing.{Place, named, output, Source, constant, variable, Action, load, store, combine, invert, convert, jump, leave, call, Entry, label, action, block, Entries, no_entries, entry, Declared, PlainProgram}
 use Rattle.il_text.specs.Texts.{ReadsAs}

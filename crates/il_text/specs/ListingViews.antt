@@ -1,5 +1,5 @@
 -- What the lines so far stand for in the code.
-use Rattle.std.specs.Prelude.{List, map, reverse}
+use Rattle.std.specs.Prelude.{map, reverse}
 use Rattle.il_text.specs.Reading.{Read}
 use Rattle.il_text.specs.Steps.{Opened, Reached}
 use Rattle.il_text.specs.Views.{declared_of, entry_of}

@@ -2,7 +2,6 @@
 use Rattle.std.specs.Prelude.{ℕ, Bool, true, false, ◌||◌, ◌==◌, nat_le, if◌then◌else◌, List, [], ◌∷◌, length, slice_index, codes, map, Option, Some, None, Result, Ok, Err}
 use Rattle.std.specs.Str.{byte, bytes_eq}
 use Rattle.il_text.specs.Characters.{is_blank, begins_word, begins_name}
-use Rattle.bay_base.specs.Names.{same_name}
 use Rattle.il_text.specs.Literals.{halves, prefixed, decimal, untyped}
 use Rattle.il_text.specs.Pieces.{pieces, blanked}
 use Rattle.il_text.specs.Tokens.{Symbol, name, literal, mnemonic_word, mark_symbol, Piece, blank, line_end, token, bad_token, bad_literal}

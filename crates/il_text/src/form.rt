@@ -567,12 +567,21 @@ fn is_single(token: Token<'_>) -> bool
     matches!(token, Token::Type(_) | Token::Literal(_) | Token::Mark(_))
 }
 
+fn is_misplaced(first: Token<'_>, second: Token<'_>) -> bool
+    ensures { result ≡ spec.is_misplaced (symbol_of first.entry) (symbol_of second.entry) }
+{
+    match first {
+        Token::Name(_) => !(is_colon(second) || is_comma(second)),
+        _ => is_single(first),
+    }
+}
+
 /// Whether no line begins with these tokens, so that the others of their line need not be kept.
 pub(crate) fn is_hopeless(tokens: &[Token<'_>]) -> bool
     ensures { result ≡ spec.is_hopeless (symbols_of tokens.now) }
 {
     match tokens {
-        [first, _, ..] => is_single(*first),
+        [first, second, ..] => is_misplaced(*first, *second),
         _ => false,
     }
 }

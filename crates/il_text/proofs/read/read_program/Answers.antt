@@ -1,7 +1,6 @@
-use Rattle.std.proofs.Common.{Result, Ok, Err, subst}
+use Rattle.std.proofs.Common.{Result, subst}
 use Rattle.std.proofs.lemmas.Result.{err_from_is_err_and}
 use Rattle.il_text.specs.Listing.{PlainProgram}
-use Rattle.il_text.specs.Reading.{program_of}
 use Rattle.il_text.specs.Texts.{ReadsAs}
 use Rattle.il_text.specs.Views.{plain_program}
 use Rattle.il_text.specs.declared.fault.TextFault.{TextFault}

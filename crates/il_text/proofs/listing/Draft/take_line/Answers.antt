@@ -1,10 +1,8 @@
-use Rattle.std.proofs.Common.{ℕ, Ok, Err, Result, sym, ◌∙◌, ap, refl, None}
+use Rattle.std.proofs.Common.{Err, sym, ◌∙◌, ap, refl, None}
 use Rattle.std.proofs.lemmas.Result.{err_from_is_err_and}
 use Rattle.il_text.specs.FormViews.{line_parts}
 use Rattle.il_text.specs.ListingViews.{reached_of, read_of}
-use Rattle.il_text.specs.Reading.{Read}
 use Rattle.il_text.specs.TokenViews.{symbols_of}
-use Rattle.il_text.specs.declared.fault.TextFault.{TextFault}
 use Rattle.il_text.proofs.ListingLemmas.{line_taken, line_refused}
 use Rattle.il_text.proofs.listing.Draft.take_line.Goals as goal
 

@@ -1,4 +1,4 @@
-use Rattle.std.proofs.Common.{sym, ◌∙◌}
+use Rattle.std.proofs.Common.{◌∙◌}
 use Rattle.std.proofs.lemmas.Result.{err_from_is_err_and}
 use Rattle.il_text.proofs.ListingLemmas.{steps_one, steps_more}
 use Rattle.il_text.proofs.listing.Draft.take_loaded.Goals as goal
