@@ -122,10 +122,7 @@ fn signed(number: Option<(bool, u64)>) -> Result<i64, LiteralFault>
 pub(crate) fn untyped(number: Option<(bool, u64)>) -> Result<Literal, LiteralFault>
     ensures { result ≡ spec.untyped number }
 {
-    match signed(number) {
-        Ok(value) => Ok(Literal::Number(value)),
-        Err(fault) => Err(fault),
-    }
+    Ok(Literal::Number(signed(number)?))
 }
 
 fn bool_literal(value: i64) -> Result<Literal, LiteralFault>
@@ -188,40 +185,28 @@ fn typed_bool(word: &str) -> Result<Literal, LiteralFault>
     if let Some(value) = truth_of(word) {
         return Ok(Literal::Truth(value));
     }
-    match signed(integer(word)) {
-        Ok(value) => bool_literal(value),
-        Err(fault) => Err(fault),
-    }
+    bool_literal(signed(integer(word))?)
 }
 
 #[tactic(auto, unfolding(crate::specs::Literals::typed_int))]
 fn typed_int(word: &str) -> Result<Literal, LiteralFault>
     ensures { result ≡ spec.typed_int word.now }
 {
-    match typed_number(word) {
-        Ok(value) => int_literal(value),
-        Err(fault) => Err(fault),
-    }
+    int_literal(typed_number(word)?)
 }
 
 #[tactic(auto, unfolding(crate::specs::Literals::typed_dint))]
 fn typed_dint(word: &str) -> Result<Literal, LiteralFault>
     ensures { result ≡ spec.typed_dint word.now }
 {
-    match typed_number(word) {
-        Ok(value) => dint_literal(value),
-        Err(fault) => Err(fault),
-    }
+    dint_literal(typed_number(word)?)
 }
 
 #[tactic(auto, unfolding(crate::specs::Literals::typed_lint))]
 fn typed_lint(word: &str) -> Result<Literal, LiteralFault>
     ensures { result ≡ spec.typed_lint word.now }
 {
-    match typed_number(word) {
-        Ok(value) => Ok(Literal::Lint(value)),
-        Err(fault) => Err(fault),
-    }
+    Ok(Literal::Lint(typed_number(word)?))
 }
 
 /// Reads a literal with something before its first `#`.

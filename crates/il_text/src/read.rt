@@ -140,10 +140,7 @@ impl<'a> Reader<'a> {
         self.at = end;
         match lexeme {
             Lexeme::Blank => Ok(()),
-            Lexeme::LineEnd => match self.end_line() {
-                Ok(()) => Ok(()),
-                Err(fault) => Err(fault),
-            },
+            Lexeme::LineEnd => self.end_line(),
             Lexeme::Token(token) => {
                 if !is_hopeless(self.tokens.as_slice()) {
                     self.tokens.push(token)?;
@@ -193,10 +190,7 @@ impl<'a> Reader<'a> {
         if byte != b'\n' {
             return Ok(());
         }
-        match self.end_line() {
-            Ok(()) => Ok(()),
-            Err(fault) => Err(fault),
-        }
+        self.end_line()
     }
 
     /// Takes the tokens of a line that ends here.

@@ -1,7 +1,6 @@
-// Tests of the code's verifier and its machine, by their public calls.
+// Tests of the machine's crates, by their public calls: `verify` of il_verify. Images that are data, with what is said
+// of them, stand in machine_cases.
 #![tactic(auto)]
 
-#[cfg(test)]
-mod rows;
 #[cfg(test)]
 mod verify;

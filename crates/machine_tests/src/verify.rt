@@ -1,340 +1,82 @@
-// Rows for `verify`: the octets of code, and what is said of it.
-use crate::rows::Outcome::{Accepted, Refused};
-use crate::rows::{
-    AN_INT, MIXED, NOTHING, Outcome, READ_ONLY, THREE_BOOLS, bay, octets_of, verdict_of,
-    verdict_of_counts,
-};
+// The depth of the stack, how many slots and timers there may be, and what comes back of a refused image.
+use bay_config::bay::Point;
 use il_image::decode::decode;
 use il_image::encode::encode;
+use il_verify::fault::VerifyFault;
 use il_verify::verify::verify;
+use std::alloc::Global;
 use std::test::Fail;
 
-// An image's front, its code, and what is said of it.
-type Row = (&'static [u8], &'static [u8], Outcome);
-
-// Paths that meet: the row's stacks of two depths, kinds that are joined, and the longest path.
-const JOINS: [Row; 8] = [
-    (
-        NOTHING,
-        &[0x02, 0x00, 0x1C, 0x00, 0x03, 0x03, 0x00, 0x05, 0x01],
-        Refused(98, 5),
-    ),
-    (
-        AN_INT,
-        &[
-            0x03, 0x00, 0x09, 0x03, 0x00, 0x07, 0x02, 0x01, 0x1C, 0x00, 0x07, 0x06, 0x06, 0x07,
-            0x00, 0x00, 0x02, 0x00, 0x06, 0x12, 0x02, 0x01,
-        ],
-        Refused(93, 19),
-    ),
-    (
-        AN_INT,
-        &[
-            0x03, 0x00, 0x09, 0x03, 0x00, 0x07, 0x02, 0x01, 0x1C, 0x00, 0x07, 0x06, 0x06, 0x03,
-            0x00, 0x03, 0x02, 0x00, 0x06, 0x12, 0x02, 0x01,
-        ],
-        Accepted(3, 11),
-    ),
-    (
-        NOTHING,
-        &[
-            0x02, 0x00, 0x02, 0x01, 0x1C, 0x00, 0x07, 0x06, 0x06, 0x03, 0x00, 0x05, 0x02, 0x01,
-            0x06, 0x0B, 0x01,
-        ],
-        Refused(92, 15),
-    ),
-    (
-        NOTHING,
-        &[
-            0x02, 0x00, 0x02, 0x01, 0x1C, 0x00, 0x07, 0x06, 0x06, 0x03, 0x00, 0x05, 0x02, 0x01,
-            0x06, 0x06, 0x01,
-        ],
-        Accepted(2, 10),
-    ),
-    (
-        NOTHING,
-        &[
-            0x02, 0x01, 0x1C, 0x00, 0x04, 0x0B, 0x1B, 0x00, 0x02, 0x0B, 0x0B, 0x01,
-        ],
-        Accepted(1, 5),
-    ),
-    (
-        NOTHING,
-        &[
-            0x03, 0x00, 0x05, 0x02, 0x01, 0x1C, 0x00, 0x06, 0x06, 0x06, 0x02, 0x00, 0x02, 0x01,
-            0x06, 0x0B, 0x01,
-        ],
-        Refused(92, 15),
-    ),
-    (
-        AN_INT,
-        &[
-            0x03, 0x00, 0x09, 0x07, 0x00, 0x00, 0x02, 0x01, 0x1C, 0x00, 0x07, 0x06, 0x06, 0x03,
-            0x00, 0x03, 0x02, 0x00, 0x06, 0x12, 0x02, 0x01,
-        ],
-        Refused(93, 19),
-    ),
-];
-
-// Each fault that one place has, and the ends of code.
-const FAULTS: [Row; 14] = [
-    (NOTHING, &[0x1B, 0x00, 0x01, 0x01], Refused(96, 0)),
-    (NOTHING, &[0x1B, 0x00, 0x00, 0x01], Accepted(0, 2)),
-    (NOTHING, &[0x01, 0x01], Refused(97, 1)),
-    (NOTHING, &[0x02, 0x00], Refused(99, 0)),
-    (NOTHING, &[], Refused(99, 0)),
-    (NOTHING, &[0x07, 0x00, 0x00, 0x01], Refused(94, 0)),
-    (NOTHING, &[0x20, 0x00, 0x00, 0x01], Refused(95, 0)),
-    (NOTHING, &[0x06, 0x01], Refused(90, 0)),
-    (
-        READ_ONLY,
-        &[0x02, 0x00, 0x08, 0x00, 0x00, 0x01],
-        Refused(100, 2),
-    ),
-    (
-        AN_INT,
-        &[0x03, 0x00, 0x01, 0x07, 0x00, 0x00, 0x12, 0x02, 0x01],
-        Refused(93, 6),
-    ),
-    (
-        READ_ONLY,
-        &[0x02, 0x01, 0x09, 0x00, 0x00, 0x01],
-        Refused(100, 2),
-    ),
-    (READ_ONLY, &[0x07, 0x00, 0x00, 0x01], Accepted(1, 2)),
-    (
-        AN_INT,
-        &[0x02, 0x01, 0x0A, 0x00, 0x00, 0x01],
-        Refused(92, 2),
-    ),
-    (
-        NOTHING,
-        &[0x02, 0x00, 0x1B, 0x00, 0x01, 0x0B, 0x01],
-        Refused(97, 5),
-    ),
-];
-
-// Programs: jumps over assignments, a division, a timer, a LINT.
-const PROGRAMS: [Row; 9] = [
-    (
-        THREE_BOOLS,
-        &[
-            0x02, 0x00, 0x06, 0x07, 0x00, 0x00, 0x1C, 0x00, 0x07, 0x06, 0x07, 0x00, 0x01, 0x08,
-            0x00, 0x02, 0x06, 0x07, 0x00, 0x00, 0x08, 0x00, 0x01, 0x01,
-        ],
-        Accepted(1, 11),
-    ),
-    (
-        THREE_BOOLS,
-        &[
-            0x02, 0x00, 0x06, 0x07, 0x00, 0x00, 0x1C, 0x00, 0x09, 0x06, 0x07, 0x00, 0x01, 0x08,
-            0x00, 0x02, 0x06, 0x07, 0x00, 0x00, 0x08, 0x00, 0x01, 0x01,
-        ],
-        Refused(96, 6),
-    ),
-    (
-        THREE_BOOLS,
-        &[
-            0x02, 0x00, 0x06, 0x07, 0x00, 0x00, 0x1C, 0x00, 0x08, 0x06, 0x07, 0x00, 0x01, 0x08,
-            0x00, 0x02, 0x06, 0x07, 0x00, 0x00, 0x08, 0x00, 0x01, 0x01,
-        ],
-        Refused(98, 16),
-    ),
-    (
-        THREE_BOOLS,
-        &[
-            0x02, 0x00, 0x06, 0x07, 0x00, 0x00, 0x1C, 0x00, 0x04, 0x06, 0x03, 0x00, 0x05, 0x08,
-            0x00, 0x01, 0x01,
-        ],
-        Refused(92, 13),
-    ),
-    (
-        THREE_BOOLS,
-        &[
-            0x02, 0x00, 0x06, 0x07, 0x00, 0x00, 0x1C, 0x00, 0x04, 0x06, 0x03, 0x00, 0x05, 0x06,
-            0x07, 0x00, 0x01, 0x08, 0x00, 0x02, 0x01,
-        ],
-        Accepted(1, 10),
-    ),
-    (
-        MIXED,
-        &[
-            0x02, 0x00, 0x06, 0x07, 0x00, 0x01, 0x03, 0xFF, 0xFF, 0x12, 0x02, 0x03, 0x80, 0x00,
-            0x16, 0x08, 0x00, 0x00, 0x01,
-        ],
-        Accepted(2, 9),
-    ),
-    (
-        MIXED,
-        &[
-            0x02, 0x00, 0x07, 0x00, 0x00, 0x1E, 0x00, 0x00, 0x05, 0x00, 0x00, 0x01, 0xF4, 0x1F,
-            0x00, 0x00, 0x20, 0x00, 0x00, 0x06, 0x21, 0x00, 0x00, 0x08, 0x00, 0x00, 0x01,
-        ],
-        Accepted(2, 10),
-    ),
-    (
-        MIXED,
-        &[
-            0x02, 0x00, 0x06, 0x07, 0x00, 0x02, 0x23, 0x00, 0x00, 0x00, 0x00, 0x00, 0x00, 0x00,
-            0x01, 0x0F, 0x05, 0x23, 0x00, 0x00, 0x00, 0x00, 0x00, 0x00, 0x00, 0x00, 0x19, 0x08,
-            0x00, 0x00, 0x01,
-        ],
-        Accepted(2, 9),
-    ),
-    (
-        MIXED,
-        &[0x03, 0x00, 0x07, 0x1A, 0x24, 0x07, 0x00, 0x02, 0x06, 0x01],
-        Accepted(2, 6),
-    ),
-];
-
-// Of two faults of one place the first in the format's order, and of two places the first.
-const ORDER: [Row; 13] = [
-    (NOTHING, &[0x01, 0x07, 0x00, 0x00, 0x01], Refused(97, 1)),
-    (NOTHING, &[0x08, 0x00, 0x00, 0x01], Refused(94, 0)),
-    (NOTHING, &[0x1E, 0x00, 0x00, 0x01], Refused(95, 0)),
-    (NOTHING, &[0x02, 0x00, 0x0F, 0x02, 0x01], Refused(90, 2)),
-    (
-        NOTHING,
-        &[0x02, 0x00, 0x03, 0x00, 0x00, 0x12, 0x02, 0x01],
-        Refused(92, 5),
-    ),
-    (
-        NOTHING,
-        &[0x03, 0x00, 0x00, 0x02, 0x00, 0x13, 0x02, 0x01],
-        Refused(92, 5),
-    ),
-    (READ_ONLY, &[0x02, 0x00, 0x08, 0x00, 0x00], Refused(100, 2)),
-    (
-        READ_ONLY,
-        &[0x03, 0x00, 0x01, 0x08, 0x00, 0x00, 0x01],
-        Refused(92, 3),
-    ),
-    (NOTHING, &[0x02, 0x00, 0x1C, 0x00, 0x05], Refused(96, 2)),
-    (NOTHING, &[0x02, 0x00, 0x1C, 0x00, 0x00], Refused(96, 2)),
-    (
-        NOTHING,
-        &[
-            0x02, 0x00, 0x1C, 0x00, 0x05, 0x02, 0x00, 0x1C, 0x00, 0x09, 0x01,
-        ],
-        Refused(96, 7),
-    ),
-    (
-        NOTHING,
-        &[
-            0x02, 0x00, 0x1C, 0x00, 0x05, 0x02, 0x00, 0x1C, 0x00, 0x00, 0x01,
-        ],
-        Refused(98, 7),
-    ),
-    (NOTHING, &[0x0B, 0x01, 0x01], Refused(90, 0)),
-];
-
-#[test]
-fn joins(rt: HostRuntime) -> Result<(), Fail> {
-    for (front, code, expected) in JOINS {
-        assert_eq!(rt; verdict_of(rt.alloc(), front, code)?, expected, "{code:?}");
+/// The octets of an image without points: so many BOOL variables and on-delay timers, and its code.
+fn octets_of(alloc: Global, variables: u16, timers: u16, code: &[u8]) -> Result<Vec<u8>, Fail> {
+    let mut octets = Vec::new(alloc);
+    octets.extend_from_slice(b"ILBC\x02\x00\x00")?;
+    octets.extend_from_slice(&variables.to_be_bytes())?;
+    for _ in 0..variables {
+        octets.extend_from_slice(b"\x01\x00\x00\x00\x00\x00\x00\x00\x00")?;
     }
-    Ok(())
+    octets.extend_from_slice(&timers.to_be_bytes())?;
+    for _ in 0..timers {
+        octets.push(1)?;
+    }
+    octets.extend_from_slice(&u16::try_from(code.len())?.to_be_bytes())?;
+    octets.extend_from_slice(code)?;
+    Ok(octets)
 }
 
-#[test]
-fn faults(rt: HostRuntime) -> Result<(), Fail> {
-    for (front, code, expected) in FAULTS {
-        assert_eq!(rt; verdict_of(rt.alloc(), front, code)?, expected, "{code:?}");
+/// No point.
+const NO_POINTS: &[Point] = &[];
+
+/// The depth and the budget of an image that is accepted, or its fault.
+fn verdict(alloc: Global, octets: &[u8]) -> Result<Result<(u32, u32), VerifyFault>, Fail> {
+    match verify(alloc, decode(alloc, octets)?, NO_POINTS) {
+        Ok(verified) => Ok(Ok((verified.depth(), verified.budget()))),
+        Err(refused) => Ok(Err(refused.fault)),
     }
-    Ok(())
 }
 
-#[test]
-fn programs(rt: HostRuntime) -> Result<(), Fail> {
-    for (front, code, expected) in PROGRAMS {
-        assert_eq!(rt; verdict_of(rt.alloc(), front, code)?, expected, "{code:?}");
-    }
-    Ok(())
-}
-
-#[test]
-fn order(rt: HostRuntime) -> Result<(), Fail> {
-    for (front, code, expected) in ORDER {
-        assert_eq!(rt; verdict_of(rt.alloc(), front, code)?, expected, "{code:?}");
-    }
-    Ok(())
-}
-
-// So many times `PUSHB 0`, and a HALT.
 #[test]
 fn the_stack_has_32_places(rt: HostRuntime) -> Result<(), Fail> {
-    let mut code = Vec::new(rt.alloc());
-    for _ in 0..32 {
-        code.extend_from_slice(&[0x02, 0x00])?;
-    }
-    code.push(0x01)?;
-    assert_eq!(rt;
-        verdict_of(rt.alloc(), NOTHING, code.as_slice())?,
-        Accepted(32, 33)
-    );
-    code.pop();
-    code.extend_from_slice(&[0x02, 0x00])?;
-    assert_eq!(rt;
-        verdict_of(rt.alloc(), NOTHING, code.as_slice())?,
-        Refused(91, 64)
-    );
-    Ok(())
-}
-
-#[test]
-fn counts(rt: HostRuntime) -> Result<(), Fail> {
-    assert_eq!(rt; verdict_of_counts(rt.alloc(), 512, 64)?, Accepted(0, 1));
-    assert_eq!(rt; verdict_of_counts(rt.alloc(), 513, 64)?, Refused(100, 0));
-    assert_eq!(rt; verdict_of_counts(rt.alloc(), 512, 65)?, Refused(100, 0));
-    Ok(())
-}
-
-// The point with another type, as one that may be written, with another name, and twice.
-const POINTS: [&[u8]; 4] = [
-    &[
-        0x49, 0x4C, 0x42, 0x43, 2, 0, 1, 2, 0, 8, 0x51, 0x41, 0x31, 0x5F, 0x4F, 0x50, 0x45, 0x4E,
-        0, 0, 0, 0,
-    ],
-    &[
-        0x49, 0x4C, 0x42, 0x43, 2, 0, 1, 1, 1, 8, 0x51, 0x41, 0x31, 0x5F, 0x4F, 0x50, 0x45, 0x4E,
-        0, 0, 0, 0,
-    ],
-    &[
-        0x49, 0x4C, 0x42, 0x43, 2, 0, 1, 1, 0, 8, 0x51, 0x41, 0x32, 0x5F, 0x4F, 0x50, 0x45, 0x4E,
-        0, 0, 0, 0,
-    ],
-    &[
-        0x49, 0x4C, 0x42, 0x43, 2, 0, 2, 1, 0, 8, 0x51, 0x41, 0x31, 0x5F, 0x4F, 0x50, 0x45, 0x4E,
-        1, 0, 8, 0x51, 0x41, 0x31, 0x5F, 0x4F, 0x50, 0x45, 0x4E, 0, 0, 0, 0,
-    ],
-];
-
-// What does not fit the bay comes before an empty code, and before each fault of a place.
-#[test]
-fn points(rt: HostRuntime) -> Result<(), Fail> {
-    for front in POINTS {
-        assert_eq!(rt; verdict_of(rt.alloc(), front, &[0x01])?, Refused(100, 0));
-        assert_eq!(rt; verdict_of(rt.alloc(), front, &[])?, Refused(100, 0));
-        assert_eq!(rt;
-            verdict_of(rt.alloc(), front, &[0x06, 0x01])?,
-            Refused(100, 0)
+    for (pushes, wanted) in [(32, Ok((32, 33))), (33, Err(VerifyFault::StackFull))] {
+        let mut code = Vec::new(rt.alloc());
+        for _ in 0..pushes {
+            code.extend_from_slice(b"\x02\x00")?;
+        }
+        code.push(1)?;
+        let octets = octets_of(rt.alloc(), 0, 0, code.as_slice())?;
+        assert!(rt;
+            verdict(rt.alloc(), octets.as_slice())? == wanted,
+            "{pushes}"
         );
     }
     Ok(())
 }
 
-// A refused image comes back as it was.
 #[test]
-fn back(rt: HostRuntime) -> Result<(), Fail> {
-    let octets = octets_of(rt.alloc(), READ_ONLY, &[0x02, 0x00, 0x08, 0x00, 0x00, 0x01])?;
+fn counts(rt: HostRuntime) -> Result<(), Fail> {
+    for (variables, timers, wanted) in [
+        (512, 64, Ok((0, 1))),
+        (513, 64, Err(VerifyFault::BadBinding)),
+        (512, 65, Err(VerifyFault::BadBinding)),
+    ] {
+        let octets = octets_of(rt.alloc(), variables, timers, b"\x01")?;
+        assert!(rt;
+            verdict(rt.alloc(), octets.as_slice())? == wanted,
+            "{variables}, {timers}"
+        );
+    }
+    Ok(())
+}
+
+#[test]
+fn a_refused_image_comes_back(rt: HostRuntime) -> Result<(), Fail> {
+    let octets = octets_of(rt.alloc(), 1, 1, b"\x06\x01")?;
     let image = decode(rt.alloc(), octets.as_slice())?;
-    let bay = bay(rt.alloc())?;
-    match verify(rt.alloc(), image, bay.as_slice()) {
-        Ok(_) => Err(Fail::new("a write to a point that may only be read is accepted")),
+    match verify(rt.alloc(), image, NO_POINTS) {
+        Ok(_) => Err(Fail::new("a DROP of nothing is accepted")),
         Err(refused) => {
             let again = encode(rt.alloc(), &refused.image)?;
-            assert_eq!(rt; again.as_slice(), octets.as_slice());
+            assert!(rt; again.as_slice() == octets.as_slice());
             Ok(())
         }
     }
