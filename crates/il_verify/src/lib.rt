@@ -9,7 +9,6 @@
 // - `visit`: one place of the code.
 // - `pass`: the pass over all places.
 // - `verify`: `verify`, and the verified image that it gives.
-// - `laws`: laws of the definitions.
 #![tactic(auto)]
 
 pub(crate) mod effect;
