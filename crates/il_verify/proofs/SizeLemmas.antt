@@ -1,5 +1,5 @@
 -- The number of octets of the instruction that begins at a place is told by its first octet.
-use Rattle.std.proofs.Common.{◌≡◌, ℕ, zero, suc, ◌+◌, ◌<◌, ◌≤◌, List, [], ◌∷◌, ◌++◌, length, drop, get_or, refl, sym, ap, subst, ◌∙◌, arith, Option, Some, None}
+use Rattle.std.proofs.Common.{◌≡◌, ℕ, zero, suc, ◌+◌, List, [], ◌∷◌, ◌++◌, length, drop, get_or, refl, sym, ap, ◌∙◌, Some, None}
 use Rattle.std.specs.Prelude.{ℤ}
 use Rattle.bay_base.specs.declared.types.ElementaryType.{ElementaryType}
 use Rattle.bay_base.specs.declared.types.ElementaryType.TheVariants as elementary
@@ -7,7 +7,7 @@ use Rattle.il_image.specs.declared.instr.Instr.{Instr}
 use Rattle.il_image.specs.declared.instr.Instr.TheVariants.{Halt, Push, Drop, Slot, Not, Combine, Compute, Compare, Widen, Jump, Timer}
 use Rattle.il_image.specs.Octets.{AreOctets, octet_count, signed_octets, size_of}
 use Rattle.il_image.specs.Opcodes.{octet_of, opcode_of}
-use Rattle.il_image.specs.Reading.{StandsAt, instr_at}
+use Rattle.il_image.specs.Reading.{instr_at}
 use Rattle.il_image.specs.Spelling.{opcode_of_instr, operand_of, spelling}
 use Rattle.il_image.specs.Values.{number_of, type_of}
 use Rattle.il_image.proofs.InstrLemmas.{opcode_back}

@@ -25,10 +25,8 @@ fn size_of(opcode: Opcode) -> usize
 {
     match opcode {
         Opcode::Compute(_) | Opcode::Push(ElementaryType::Bool) => 2,
-        Opcode::Slot(_)
-        | Opcode::Jump(_)
-        | Opcode::Timer(_)
-        | Opcode::Push(ElementaryType::Int) => 3,
+        Opcode::Slot(_) | Opcode::Jump(_) | Opcode::Timer(_) | Opcode::Push(ElementaryType::Int) =>
+            3,
         Opcode::Push(ElementaryType::Dint | ElementaryType::Time) => 5,
         Opcode::Push(ElementaryType::Lint) => 9,
         _ => 1,
