@@ -5,6 +5,7 @@ pub mod LengthLemmas
 pub mod MapLemmas
 pub mod OrderLemmas
 pub mod PassLemmas
+pub mod SizeLemmas
 pub mod StepLemmas
 pub mod TableLemmas
 pub mod VisitLemmas

@@ -114,6 +114,18 @@ first_there code place (i ∷ more) are e within none = not_both (instr_at code 
 pub always_there : (code : List ℕ) → IsCode code → (n place : ℕ) → place_of code n ≡ Some place → place < length code → instr_at code place ≡ None → ⊥
 always_there code c n place e within none = let r = rest_at code c n place e in first_there code place r.instrs r.are r.is within none
 
+pub record There (code : List ℕ) (place : ℕ) : Type 0 where
+  pub instr : Instr
+  pub next : ℕ
+  pub is : instr_at code place ≡ Some (instr, next)
+
+there_case : (code : List ℕ) (place : ℕ) (o : Option (Instr × ℕ)) → instr_at code place ≡ o → (o ≡ None → ⊥) → There code place
+there_case code place None is some = absurd (some refl)
+there_case code place (Some r) is some = record { instr = r.0; next = r.1; is = is }
+
+pub is_there : (code : List ℕ) → IsCode code → (n place : ℕ) → place_of code n ≡ Some place → place < length code → There code place
+is_there code c n place e within = there_case code place (instr_at code place) refl (always_there code c n place e within)
+
 -- ---- the marks of places
 
 set_here : {A : Type 0} (xs : List A) (i : ℕ) (v : A) → i < length xs → slice_get (set xs i v) i ≡ Some v

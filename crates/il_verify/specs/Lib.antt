@@ -4,5 +4,6 @@ pub mod Frames
 pub mod Judging
 pub mod Passing
 pub mod Refusals
+pub mod Sizes
 pub mod Slots
 pub mod Verdicts

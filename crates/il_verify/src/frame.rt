@@ -21,10 +21,8 @@ pub(crate) struct Frame {
 fn copy_of(alloc: Global, kinds: &[Kind]) -> Result<Vec<Kind>, AllocError>
     ensures { IfOk result (λ v. v.items ≡ kinds.now) }
 {
-    let mut copy = Vec::with_capacity(alloc, kinds.len())?;
-    for kind in kinds {
-        copy.push(*kind)?;
-    }
+    let mut copy = Vec::new(alloc);
+    copy.extend_from_slice(kinds)?;
     Ok(copy)
 }
 

@@ -3,7 +3,7 @@
 // - `fault`: why an image is refused.
 // - `points`: whether an image's points are points of the bay.
 // - `slots`: the slots that the code uses.
-// - `plan`: the places at which instructions begin.
+// - `plan`: what is looked up: the slots, and where instructions begin.
 // - `effect`: what an instruction does to the kinds on the stack, and its own faults.
 // - `frame`: the frames of the places that are still to come.
 // - `visit`: one place of the code.

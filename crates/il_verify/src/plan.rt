@@ -1,11 +1,13 @@
 // What is looked up while the code is gone over.
-ghost use Rattle.std.specs.Prelude.{◌≡◌, ◌↔◌, IfOk, IsTrue, Some, slice_get, true, length};
+ghost use Rattle.std.specs.Prelude.{◌≡◌, ◌≤◌, ◌↔◌, IfOk, IsTrue, Some, slice_get, true, length};
 ghost use Rattle.il_image.specs.Images.{IsCode};
 ghost use Rattle.il_verify.specs.Frames.{IsPlan, MarksPlaces};
+ghost use Rattle.il_verify.specs.Sizes.{size_of_opcode};
 
 use crate::slots::{Slot, slots_of};
+use bay_base::types::ElementaryType;
 use il_image::image::Image;
-use il_image::read::instr_at;
+use il_image::opcode::Opcode;
 use std::alloc::{AllocError, Global};
 
 /// The slots, the number of timers, and for each octet of the code whether an instruction begins there.
@@ -14,6 +16,21 @@ pub(crate) struct Plan {
     pub slots: Vec<Slot>,
     pub timers: usize,
     pub starts: Vec<bool>,
+}
+
+// The number of octets of an instruction of this opcode.
+fn size_of(opcode: Opcode) -> usize
+    ensures value { result ≡ size_of_opcode opcode }
+    ensures few { result ≤ 9 }
+{
+    match opcode {
+        Opcode::Compute(_) | Opcode::Push(ElementaryType::Bool) => 2,
+        Opcode::Slot(_) | Opcode::Jump(_) | Opcode::Timer(_) | Opcode::Push(ElementaryType::Int) =>
+            3,
+        Opcode::Push(ElementaryType::Dint | ElementaryType::Time) => 5,
+        Opcode::Push(ElementaryType::Lint) => 9,
+        _ => 1,
+    }
 }
 
 // For each octet of the code, whether an instruction begins there.
@@ -26,8 +43,8 @@ fn starts_of(alloc: Global, code: &[u8]) -> Result<Vec<bool>, AllocError>
     let mut place = 0;
     while place < code.len() {
         starts[place] = true;
-        match instr_at(code, place) {
-            Some((_, next)) => place = next,
+        match Opcode::of(code[place]) {
+            Some(opcode) => place += size_of(opcode),
             None => unreachable!(),
         }
     }
