@@ -112,8 +112,8 @@ impl<'a> Model for Few<'a> {
 }
 
 impl<'a> Few<'a> {
-    // No values.
-    fn new() -> Few<'a>
+    /// No values.
+    pub fn new() -> Few<'a>
         ensures { result ≡ [] }
     {
         let value = Value {
@@ -126,8 +126,8 @@ impl<'a> Few<'a> {
         }
     }
 
-    // Puts a value behind the others; None where they are five.
-    fn push(&mut self, value: Value<'a>) -> Option<()>
+    /// Puts a value behind the others; None where they are five.
+    pub fn push(&mut self, value: Value<'a>) -> Option<()>
         ensures some { OnSome result ((self.new ≡ self.old ++ part_of value.entry ∷ []) × (length self.old + 1 ≤ 5)) }
         ensures none { IfNone result (5 ≤ length self.old) }
     {

@@ -2,4 +2,5 @@ pub mod DataLemmas
 pub mod LawLemmas
 pub mod NodeLemmas
 pub mod PutLemmas
+pub mod RequestLemmas
 pub mod ResponseLemmas

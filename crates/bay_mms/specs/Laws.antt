@@ -6,7 +6,7 @@ use Rattle.bay_ber.specs.Writing.{truth_octets, integer_octets, bit_string_octet
 use Rattle.bay_mms.specs.declared.response.Response.{Response}
 use Rattle.bay_mms.specs.declared.response.Response.TheVariants as response
 use Rattle.bay_mms.specs.Tags.{context, constructed}
-use Rattle.bay_mms.specs.Data.{Datum, structure, truth, bits, integer, unsigned, octets, text, utc, data_text}
+use Rattle.bay_mms.specs.Data.{Datum, structure, truth, bits, integer, unsigned, octets, text, utc, other, data_text}
 
 -- the tag of data (ISO 9506-2, Data), and what stands under it
 abbrev pub datum_tag : Datum → Tag
@@ -18,6 +18,7 @@ datum_tag (unsigned value) = context 6
 datum_tag (octets value) = context 9
 datum_tag (text value) = context 10
 datum_tag (utc value) = context 17
+datum_tag (other tag value) = tag
 
 abbrev pub datum_content : Datum → List ℕ
 datum_content (structure parts) = data_text parts
@@ -28,6 +29,7 @@ datum_content (unsigned value) = integer_octets value
 datum_content (octets value) = value
 datum_content (text value) = value
 datum_content (utc value) = value
+datum_content (other tag value) = value
 
 -- the tag of a response's PDU (ISO 9506-2, MMSpdu)
 abbrev pub response_tag : Response → Tag

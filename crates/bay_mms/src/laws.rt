@@ -7,9 +7,9 @@ ghost use Rattle.bay_mms.specs.Responses.{response_text};
 ghost use Rattle.bay_mms.specs.Laws.{IsRead, datum_tag, datum_content, response_tag};
 ghost use Rattle.bay_mms.specs.declared.response.Response.{Response};
 
-/// What is written is read back as one value of BER (X.690 8.1): data under their tags, with their contents, and responses
-/// under the tags of their PDUs.
+/// What is written is read back as one value of BER (X.690 8.1): data under their tags, which have one octet, with their
+/// contents, and responses under the tags of their PDUs.
 pub fn written_is_read()
-    ensures datum { (datum : Datum) → length (datum_text datum) < 4294967296 → Spells (datum_text datum) (datum_tag datum) (datum_content datum) }
+    ensures datum { (datum : Datum) → (datum_tag datum).number < 31 → length (datum_text datum) < 4294967296 → Spells (datum_text datum) (datum_tag datum) (datum_content datum) }
     ensures response { (response : Response) → length (response_text response) < 4294967296 → IsRead (response_text response) (response_tag response) }
 {}

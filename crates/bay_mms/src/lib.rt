@@ -1,14 +1,20 @@
 // The Manufacturing Message Specification (ISO 9506-2) in the profile of IEC 61850-8-1: data and types of named variables,
 // and their canonical texts in the Basic Encoding Rules.
 //
-// `data`: data and types as trees. `value`: those of a row of the tree, written as they stand. `response`: responses and their
-// texts. `fault`: why nothing is written. `laws`: what is written is read back.
+// `request`: what a client asks, read from octets. `data`: data and types as trees. `value`: those of a row of the tree, written
+// as they stand. `response`: responses and their texts. `fault`: why nothing is read or written. `laws`: what is written is read
+// back. Within the crate `service`, `access`, `received` and `initiate` read the parts of requests.
 #![tactic(auto)]
 
+mod access;
 pub mod data;
 pub mod fault;
+mod initiate;
 pub mod laws;
 mod leaf;
 mod put;
+mod received;
+pub mod request;
 pub mod response;
+mod service;
 pub mod value;
