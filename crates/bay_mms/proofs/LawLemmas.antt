@@ -32,3 +32,5 @@ response_spells response.Conclude short = record { content = []; spelled = spell
 response_spells (response.Confirmed id service) short = record { content = _; spelled = spelled (constructed 1) _ (omega arith) short }
 response_spells (response.Error id class) short = record { content = _; spelled = spelled (constructed 2) _ (omega arith) short }
 response_spells (response.Reject id reason) short = record { content = _; spelled = spelled (constructed 4) _ (omega arith) short }
+response_spells (response.Failure failure) short = record { content = _; spelled = spelled (constructed 3) _ (omega arith) short }
+response_spells (response.Termination domain item operate) short = record { content = _; spelled = spelled (constructed 3) _ (omega arith) short }

@@ -11,8 +11,7 @@ use Rattle.bay_ber.specs.Values.{Part, part_in, values_in, value_in, few_in, eac
 use Rattle.bay_mms.specs.Data as mms
 use Rattle.bay_mms.specs.Data.{Datum}
 use Rattle.bay_mms.specs.Views.{data_before}
-use Rattle.bay_mms.specs.Responses.{int_tag, visible_tag}
-use Rattle.bay_mms.specs.Tags.{context, constructed, sequence}
+use Rattle.bay_mms.specs.Tags.{context, constructed, sequence, int_tag, visible_tag}
 use Rattle.bay_mms.specs.Spelled.{◌>>◌, spelled}
 use Rattle.bay_mms.specs.Requests.{Naming, vmd, domain, association, Place, whole_vmd, in_domain, of_association, Variable, Access, variables, named_list, Asking, identify, names, attributes, read, write, Message, initiate, conclude, confirmed}
 use Rattle.bay_mms.specs.declared.request.Proposal.{Proposal}

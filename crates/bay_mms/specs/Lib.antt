@@ -3,6 +3,7 @@ pub mod Data
 pub mod Grammar
 pub mod Laws
 pub mod Nodes
+pub mod Reports
 pub mod RequestViews
 pub mod Requests
 pub mod Responses

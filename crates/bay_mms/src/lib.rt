@@ -2,7 +2,8 @@
 // and their canonical texts in the Basic Encoding Rules.
 //
 // `request`: what a client asks, read from octets. `data`: data and types as trees. `value`: those of a row of the tree, written
-// as they stand. `response`: responses and their texts. `fault`: why nothing is read or written. `laws`: what is written is read
+// as they stand. `response`: responses and their texts; `report`: the reports of controls
+// among them. `page`: how long a page of names is. `fault`: why nothing is read or written. `laws`: what is written is read
 // back. Within the crate `service`, `access`, `received` and `initiate` read the parts of requests.
 #![tactic(auto)]
 
@@ -12,8 +13,10 @@ pub mod fault;
 mod initiate;
 pub mod laws;
 mod leaf;
+pub mod page;
 mod put;
 mod received;
+pub mod report;
 pub mod request;
 pub mod response;
 mod service;

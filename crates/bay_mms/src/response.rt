@@ -3,14 +3,15 @@ ghost use Rattle.std.specs.Prelude.{◌≡◌, ◌≤◌, ◌<◌, ◌++◌, fal
 ghost use Rattle.bay_base.specs.Exact.{Gives};
 ghost use Rattle.bay_ber.specs.Writing.{element, integer_octets, truth_octets};
 ghost use Rattle.bay_tree.specs.Rows.{IsHandle};
-ghost use Rattle.bay_mms.specs.Tags.{context, constructed};
+ghost use Rattle.bay_mms.specs.Tags.{context, constructed, int_tag};
 ghost use Rattle.bay_mms.specs.Types.{type_text};
 ghost use Rattle.bay_mms.specs.Nodes.{type_at};
-ghost use Rattle.bay_mms.specs.Responses.{nesting_text, parameters_text, services_text, limits_text, detail_text, agreed_text, int_tag, confirmed, error_text, identity_text, names_text, read_text, reads_text, wrote_text, writes_text, class_text, id_text, reason_text, service_number, content_text, service_text, response_text, IsReadOf, IsOfTree, IsAnswerable};
+ghost use Rattle.bay_mms.specs.Responses.{nesting_text, parameters_text, services_text, limits_text, detail_text, agreed_text, confirmed, error_text, identity_text, names_text, read_text, reads_text, wrote_text, writes_text, class_text, id_text, reason_text, service_number, content_text, service_text, response_text, IsReadOf, IsOfTree, IsAnswerable};
 ghost use Rattle.bay_mms.specs.Writing.{Adds, Appends, written};
 
 use crate::fault::WriteFault;
 use crate::put::{put_around, put_integer, put_octets, put_truth};
+use crate::report::{ControlError, Operate, put_failure, put_termination};
 use crate::value::{put_type, put_value};
 use bay_base::text::Text;
 use bay_ber::content::Bits;
@@ -122,6 +123,16 @@ pub enum Response<'a> {
     Reject {
         id: Option<u32>,
         reason: RejectReason,
+    },
+    /// The report that a control is refused or ended (IEC 61850-8-1, LastApplError, and before a termination the sign that it
+    /// is negative).
+    Failure(ControlError<'a>),
+    /// The report that a control of this item of a domain ended (IEC 61850-8-1, CommandTermination): alone where the control
+    /// did what was asked, and else behind a Failure.
+    Termination {
+        domain: &'a str,
+        item: &'a str,
+        operate: Operate<'a>,
     },
 }
 
@@ -401,6 +412,12 @@ fn put_response(writer: &mut Writer, response: &Response<'_>) -> Result<(), Writ
         Response::Confirmed { id, service } => put_confirmed(writer, *id, service),
         Response::Error { id, class } => put_error(writer, *id, *class),
         Response::Reject { id, reason } => put_reject(writer, *id, *reason),
+        Response::Failure(failure) => put_failure(writer, failure),
+        Response::Termination {
+            domain,
+            item,
+            operate,
+        } => put_termination(writer, domain, item, operate),
     }
 }
 
