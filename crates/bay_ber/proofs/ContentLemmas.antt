@@ -70,6 +70,9 @@ integer_is content e =
     let b = both _ _ a.1 in
     record { some = ltb-true _ _ a.0; few = (let f : length content < 10 = ltb-true _ _ b.0 in omega arith); is = refl; fits = long_is (signed_of content) b.1 }
 
+pub integer_again : (content : List ℕ) (value : ℤ) → IsInteger content value → integer_in content ≡ Some value
+integer_again content value is = cond-true (is_integer content) (Some (signed_of content)) None (integer_yes content value is) ∙ ap Some (sym is.is)
+
 pub integer_exact : (content : List ℕ) (result : Result ℤ BerFault) → IfOk result (λ value. IsInteger content value) → IfErr result (λ fault. (fault ≡ BadContent) × ((value : ℤ) → IsInteger content value → ⊥)) → result_ok result ≡ integer_in content
 integer_exact content (Ok value) ok err = sym (cond-true (is_integer content) (Some (signed_of content)) None (integer_yes content value ok) ∙ ap Some (sym ok.is))
 integer_exact content (Err fault) ok err = sym (cond-false (is_integer content) (Some (signed_of content)) None (false_from_ne_true (is_integer content) (λ e. err.1 (signed_of content) (integer_is content e))))

@@ -1,3 +1,4 @@
+pub mod ConfirmedLemmas
 pub mod DataLemmas
 pub mod LawLemmas
 pub mod NodeLemmas
