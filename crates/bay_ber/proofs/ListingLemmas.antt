@@ -1,13 +1,13 @@
 -- The values that octets are, as a function and as a relation.
-use Rattle.std.proofs.Common.{◌≡◌, ℕ, zero, suc, ◌+◌, ◌-◌, ◌<◌, ◌≤◌, Bool, true, false, cond, eqb, ltb, List, [], ◌∷◌, ◌++◌, length, map, get_or, take, drop, Option, Some, None, option_map, Result, Ok, Err, refl, sym, ap, subst, ◌∙◌, append_assoc, arith, inl, inr}
-use Rattle.std.proofs.lemmas.Bool.{lt-ltb, le-ltb, ltb-false, eqb-true}
+use Rattle.std.proofs.Common.{◌≡◌, ℕ, zero, suc, ◌+◌, ◌<◌, ◌≤◌, true, false, eqb, ltb, List, [], ◌∷◌, ◌++◌, length, map, get_or, take, drop, Option, Some, None, Result, Ok, Err, refl, sym, ap, subst, ◌∙◌, append_assoc, arith, inl, inr}
+use Rattle.std.proofs.lemmas.Bool.{lt-ltb, le-ltb, eqb-true}
 use Rattle.std.proofs.Math.ListN.{set}
 use Rattle.std.proofs.lemmas.List.{length-append, length-drop, length-take, length-map, map-append, append-nil, take_more_set}
 use Rattle.std.proofs.Math.Seq.{get_or-append_right}
 use Rattle.bay_ber.specs.declared.fault.BerFault.{BerFault}
 use Rattle.bay_ber.specs.declared.fault.BerFault.TheVariants.{Truncated, TagTooLarge}
 use Rattle.bay_ber.specs.declared.tag.Tag.{Tag}
-use Rattle.bay_ber.specs.Reading.{Reading, Begins, class_of, is_constructed, low_bits, second_at, tag_at, length_at, tlv_at}
+use Rattle.bay_ber.specs.Reading.{Reading, class_of, is_constructed, low_bits, second_at, tag_at, length_at, tlv_at}
 use Rattle.bay_ber.specs.Options.{◌>>=◌}
 use Rattle.bay_ber.specs.declared.values.Value.{Value}
 use Rattle.bay_ber.specs.Values.{Part, part_of, SpellAll, part_in, onto, with_front, values_within, values_in, only_one, value_in, at_most_five, few_in, all_of, each_in}

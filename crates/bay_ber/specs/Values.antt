@@ -1,5 +1,5 @@
 -- Values one after another.
-use Rattle.std.specs.Prelude.{ℕ, zero, suc, ◌≡◌, List, [], ◌∷◌, ◌++◌, length, map, take, Option, Some, None, option_map, Result, Ok, Err, nat_lt, if◌then◌else◌}
+use Rattle.std.specs.Prelude.{ℕ, zero, suc, ◌≡◌, List, [], ◌∷◌, ◌++◌, length, Option, Some, None, option_map, Result, Ok, Err, nat_lt, if◌then◌else◌}
 use Rattle.bay_ber.specs.declared.fault.BerFault.{BerFault}
 use Rattle.bay_ber.specs.declared.tag.Tag.{Tag}
 use Rattle.bay_ber.specs.declared.values.Value.{Value}

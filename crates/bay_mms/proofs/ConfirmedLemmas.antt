@@ -1,15 +1,15 @@
 -- Octets that are a confirmed request are read as one.
 use Rattle.std.proofs.Common.{◌≡◌, ℕ, pos, ◌<◌, ◌^◌, List, [], ◌∷◌, Option, Some, Ok, refl, ap, ◌∙◌, arith}
 use Rattle.std.proofs.lemmas.Bool.{lt-ltb}
-use Rattle.bay_ber.specs.Content.{IsInteger, integer_in}
+use Rattle.bay_ber.specs.Content.{IsInteger}
 use Rattle.bay_ber.specs.Options.{◌>>=◌}
 use Rattle.bay_ber.specs.Reading.{Reading, tlv_at}
-use Rattle.bay_ber.specs.Values.{Part, values_in, only_one, value_in, at_most_five, few_in}
+use Rattle.bay_ber.specs.Values.{Part, only_one, value_in, at_most_five, few_in}
 use Rattle.bay_ber.proofs.ContentLemmas.{integer_again}
 use Rattle.bay_ber.proofs.ListingLemmas.{values_again}
 use Rattle.bay_ber.proofs.ReadLemmas.{tlv_again}
 use Rattle.bay_mms.specs.Tags.{constructed, int_tag}
-use Rattle.bay_mms.specs.Grammar.{id_of, id_as, with_id, service_as, message_as, id_in, answer_to}
+use Rattle.bay_mms.specs.Grammar.{id_as, with_id, service_as, message_as, id_in, answer_to}
 use Rattle.bay_mms.specs.Laws.{IsConfirmed}
 
 id_read : (number : List ℕ) (id : ℕ) → IsInteger number (pos id) → id < 2 ^ 32 → id_as (record { tag = int_tag; content = number }) ≡ Some id

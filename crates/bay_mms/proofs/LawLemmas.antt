@@ -8,6 +8,7 @@ use Rattle.bay_mms.specs.declared.response.Response.{Response}
 use Rattle.bay_mms.specs.declared.response.Response.TheVariants as response
 use Rattle.bay_mms.specs.Tags.{context, constructed}
 use Rattle.bay_mms.specs.Data.{Datum, structure, truth, bits, integer, unsigned, octets, text, utc, other, datum_text}
+use Rattle.bay_mms.specs.Reports.{report_text}
 use Rattle.bay_mms.specs.Responses.{response_text}
 use Rattle.bay_mms.specs.Laws.{IsRead, datum_tag, datum_content, response_tag}
 use Rattle.bay_mms.proofs.PutLemmas.{content_less}
@@ -32,5 +33,6 @@ response_spells response.Conclude short = record { content = []; spelled = spell
 response_spells (response.Confirmed id service) short = record { content = _; spelled = spelled (constructed 1) _ (omega arith) short }
 response_spells (response.Error id class) short = record { content = _; spelled = spelled (constructed 2) _ (omega arith) short }
 response_spells (response.Reject id reason) short = record { content = _; spelled = spelled (constructed 4) _ (omega arith) short }
-response_spells (response.Failure failure) short = record { content = _; spelled = spelled (constructed 3) _ (omega arith) short }
-response_spells (response.Termination domain item operate) short = record { content = _; spelled = spelled (constructed 3) _ (omega arith) short }
+
+pub report_spells : (names parts : List ℕ) → length (report_text names parts) < 4294967296 → IsRead (report_text names parts) (constructed 3)
+report_spells names parts short = record { content = _; spelled = spelled (constructed 3) _ (omega arith) short }

@@ -1,5 +1,5 @@
 -- Requests, part by part.
-use Rattle.std.proofs.Common.{◌≡◌, ℕ, zero, suc, ◌+◌, ◌-◌, ◌<◌, ◌≤◌, Bool, true, false, cond, ltb, option_map, Vec, Global, rules, List, [], ◌∷◌, ◌++◌, length, map, filter, Option, Some, None, Result, Ok, Err, refl, sym, ap, subst, ◌∙◌, append_assoc, arith, ◌⊎◌, inl, inr}
+use Rattle.std.proofs.Common.{◌≡◌, ℕ, suc, ◌-◌, ◌<◌, ◌≤◌, Bool, true, false, cond, ltb, option_map, Vec, Global, rules, List, [], ◌∷◌, ◌++◌, length, map, filter, Option, Some, None, Ok, Err, refl, sym, ap, ◌∙◌, append_assoc, arith, ◌⊎◌, inl, inr}
 use Rattle.std.specs.List.{list_any}
 use Rattle.std.specs.Option.{ok_or}
 use Rattle.std.proofs.lemmas.Bool.{lt-ltb, le-ltb}
@@ -15,7 +15,7 @@ use Rattle.bay_mms.specs.Tags.{constructed}
 use Rattle.bay_mms.specs.Views.{data_before, datum_of, data_in}
 use Rattle.bay_mms.specs.declared.data.Data as given
 use Rattle.bay_mms.specs.Spelled.{spelled}
-use Rattle.bay_mms.specs.Requests.{Naming, Variable, variables}
+use Rattle.bay_mms.specs.Requests.{Naming, variables}
 use Rattle.bay_mms.specs.RequestViews.{naming, variable}
 use Rattle.bay_mms.specs.declared.access.Variable as code
 use Rattle.bay_mms.specs.declared.fault.Refusal.{Refusal}

@@ -1,8 +1,10 @@
 -- Texts, one behind another.
-use Rattle.std.proofs.Common.{◌≡◌, ℕ, pos, Bool, true, false, ◌+◌, ◌≤◌, List, [], ◌++◌, length, take, drop, Result, Ok, Err, refl, sym, ap, ◌∙◌, arith}
+use Rattle.std.proofs.Common.{◌≡◌, ℕ, pos, Bool, true, false, ◌+◌, ◌≤◌, List, [], ◌++◌, length, take, drop, Result, Ok, Err, refl, sym, ap, ◌∙◌, arith, ◌⊎◌, inl, inr}
 use Rattle.std.proofs.lemmas.List.{append-nil, append_assoc, length-append, take_at, drop_at}
 use Rattle.bay_mms.specs.declared.fault.WriteFault.{WriteFault}
-use Rattle.bay_mms.specs.Writing.{IsFaultOf, Adds, Appends}
+use Rattle.bay_mms.specs.declared.fault.WriteFault.TheVariants.{TooLong, OutOfMemory}
+use Rattle.std.proofs.lemmas.Bool.{le-ltb}
+use Rattle.bay_mms.specs.Writing.{IsFaultOf, Adds, Appends, written}
 use Rattle.bay_ber.specs.declared.tag.Tag.{Tag}
 use Rattle.bay_ber.specs.Writing.{element, element_length, integer_octets, truth_octets}
 use Rattle.bay_ber.proofs.SizeLemmas.{length-element-is}
@@ -117,3 +119,8 @@ page_is id texts more =
     let a : length service ≡ element_length (element_length (length (names_text texts)) + 3) = length-element-is (constructed 1) (list ++ flag) ∙ ap element_length whole in
     let b : length number ≡ element_length (length (integer_octets (pos id))) = length-element-is int_tag (integer_octets (pos id)) in
     length-element-is (constructed 1) (number ++ service) ∙ ap element_length (length-append number service ∙ ap (λ (n : ℕ). n + length service) b ∙ ap (λ (n : ℕ). element_length (length (integer_octets (pos id))) + n) a)
+
+-- a fault of a text that is not written
+pub gives_fault : (fault : WriteFault) (text : List ℕ) → IsFaultOf fault text → (fault ≡ OutOfMemory) ⊎ (written text ≡ Err fault)
+gives_fault TooLong text long = inr (rw (le-ltb (length text) 4294967296 long) refl)
+gives_fault OutOfMemory text memory = inl refl

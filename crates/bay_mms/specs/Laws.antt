@@ -40,8 +40,6 @@ response_tag response.Conclude = context 12
 response_tag (response.Confirmed id service) = constructed 1
 response_tag (response.Error id class) = constructed 2
 response_tag (response.Reject id reason) = constructed 4
-response_tag (response.Failure failure) = constructed 3
-response_tag (response.Termination domain item operate) = constructed 3
 
 -- The list is one value under the tag.
 pub record IsRead (list : List ℕ) (tag : Tag) : Type 0 where

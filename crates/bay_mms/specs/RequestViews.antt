@@ -1,5 +1,5 @@
 -- Requests of the code, without where they lie in memory.
-use Rattle.std.specs.Prelude.{Option, option_map, map}
+use Rattle.std.specs.Prelude.{option_map, map}
 use Rattle.bay_mms.specs.declared.request.Name.{Name}
 use Rattle.bay_mms.specs.declared.request.Name.TheVariants as name
 use Rattle.bay_mms.specs.declared.request.Scope.{Scope}

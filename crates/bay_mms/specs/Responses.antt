@@ -18,7 +18,6 @@ use Rattle.bay_mms.specs.declared.response.RejectReason.{RejectReason}
 use Rattle.bay_mms.specs.declared.response.RejectReason.TheVariants as reject
 use Rattle.bay_mms.specs.Tags.{context, constructed, int_tag, visible_tag}
 use Rattle.bay_mms.specs.Data.{datum_text}
-use Rattle.bay_mms.specs.Reports.{failure_text, termination_text}
 use Rattle.bay_mms.specs.Types.{type_text}
 use Rattle.bay_mms.specs.Nodes.{data_at, type_at}
 
@@ -128,8 +127,6 @@ response_text response.Conclude = element (context 12) []
 response_text (response.Confirmed id s) = confirmed id (service_text s)
 response_text (response.Error id class) = error_text id class
 response_text (response.Reject id reason) = element (constructed 4) (id_text id ++ reason_text reason)
-response_text (response.Failure failure) = failure_text failure
-response_text (response.Termination domain item operate) = termination_text domain.now item.now operate
 
 -- The handles are the tree's.
 abbrev pub IsReadOf : List Row → ReadResult → Type 0
@@ -150,5 +147,3 @@ IsAnswerable response.Conclude = Unit {0}
 IsAnswerable (response.Confirmed id s) = IsOfTree s
 IsAnswerable (response.Error id class) = Unit {0}
 IsAnswerable (response.Reject id reason) = Unit {0}
-IsAnswerable (response.Failure failure) = Unit {0}
-IsAnswerable (response.Termination domain item operate) = Unit {0}

@@ -3,7 +3,8 @@ ghost use Rattle.std.specs.Prelude.{◌≡◌, ◌≤◌, ◌<◌, ◌++◌, pos
 ghost use Rattle.bay_ber.specs.Writing.{element, integer_octets};
 ghost use Rattle.bay_mms.specs.Tags.{context, constructed, visible_tag};
 ghost use Rattle.bay_mms.specs.Reports.{variable_text, origin_parts, origin_text, operate_front, operate_back, operate_parts, failure_front, failure_back, failure_parts, failure_name, item_name, failure_text, termination_text};
-ghost use Rattle.bay_mms.specs.Writing.{Adds, Appends};
+ghost use Rattle.bay_mms.specs.Writing.{Adds, Appends, written};
+ghost use Rattle.bay_base.specs.Exact.{Gives};
 
 use crate::fault::WriteFault;
 use crate::leaf::position_octets;
@@ -12,6 +13,7 @@ use bay_ber::content::Bits;
 use bay_ber::tag::Tag;
 use bay_ber::writer::Writer;
 use bay_tree::leaf::Dbpos;
+use std::alloc::Global;
 
 /// Who operates (IEC 61850-7-3, Originator).
 #[derive(Clone, Copy, Debug)]
@@ -201,8 +203,8 @@ fn put_item_name(writer: &mut Writer, domain: &str, item: &str) -> Result<(), Wr
     put_variable_around(writer, start)
 }
 
-/// Writes the report of a control that is refused or ended.
-pub(crate) fn put_failure(writer: &mut Writer, failure: &ControlError<'_>) -> Result<(), WriteFault>
+// Writes the report of a control that is refused or ended.
+fn put_failure(writer: &mut Writer, failure: &ControlError<'_>) -> Result<(), WriteFault>
     ensures { Appends writer.old result writer.new (failure_text failure.now) }
 {
     let start = writer.len();
@@ -212,8 +214,8 @@ pub(crate) fn put_failure(writer: &mut Writer, failure: &ControlError<'_>) -> Re
     put_report_around(writer, start, inner)
 }
 
-/// Writes the report of a control that ended as it was asked.
-pub(crate) fn put_termination(
+// Writes the report of a control that ended.
+fn put_termination(
     writer: &mut Writer,
     domain: &str,
     item: &str,
@@ -226,4 +228,29 @@ pub(crate) fn put_termination(
     let inner = writer.len();
     put_operate(writer, operate)?;
     put_report_around(writer, start, inner)
+}
+
+/// The text of the report that a control is refused or ended (IEC 61850-8-1, LastApplError; ISO 9506-2, informationReport);
+/// TooLong where it would have 2^32 octets or more.
+pub fn write_failure(alloc: Global, failure: &ControlError<'_>) -> Result<Vec<u8>, WriteFault>
+    ensures { Gives WriteFault.OutOfMemory (λ octets. octets.items) result (written (failure_text failure.now)) }
+{
+    let mut writer = Writer::new(alloc);
+    put_failure(&mut writer, failure)?;
+    Ok(writer.finish())
+}
+
+/// The text of the report that a control of this item of a domain ended (IEC 61850-8-1, CommandTermination): alone where it
+/// did what was asked, and else behind a failure. TooLong where it would have 2^32 octets or more.
+pub fn write_termination(
+    alloc: Global,
+    domain: &str,
+    item: &str,
+    operate: &Operate<'_>,
+) -> Result<Vec<u8>, WriteFault>
+    ensures { Gives WriteFault.OutOfMemory (λ octets. octets.items) result (written (termination_text domain.now item.now operate.now)) }
+{
+    let mut writer = Writer::new(alloc);
+    put_termination(&mut writer, domain, item, operate)?;
+    Ok(writer.finish())
 }

@@ -11,7 +11,6 @@ ghost use Rattle.bay_mms.specs.Writing.{Adds, Appends, written};
 
 use crate::fault::WriteFault;
 use crate::put::{put_around, put_integer, put_octets, put_truth};
-use crate::report::{ControlError, Operate, put_failure, put_termination};
 use crate::value::{put_type, put_value};
 use bay_base::text::Text;
 use bay_ber::content::Bits;
@@ -123,16 +122,6 @@ pub enum Response<'a> {
     Reject {
         id: Option<u32>,
         reason: RejectReason,
-    },
-    /// The report that a control is refused or ended (IEC 61850-8-1, LastApplError, and before a termination the sign that it
-    /// is negative).
-    Failure(ControlError<'a>),
-    /// The report that a control of this item of a domain ended (IEC 61850-8-1, CommandTermination): alone where the control
-    /// did what was asked, and else behind a Failure.
-    Termination {
-        domain: &'a str,
-        item: &'a str,
-        operate: Operate<'a>,
     },
 }
 
@@ -412,12 +401,6 @@ fn put_response(writer: &mut Writer, response: &Response<'_>) -> Result<(), Writ
         Response::Confirmed { id, service } => put_confirmed(writer, *id, service),
         Response::Error { id, class } => put_error(writer, *id, *class),
         Response::Reject { id, reason } => put_reject(writer, *id, *reason),
-        Response::Failure(failure) => put_failure(writer, failure),
-        Response::Termination {
-            domain,
-            item,
-            operate,
-        } => put_termination(writer, domain, item, operate),
     }
 }
 

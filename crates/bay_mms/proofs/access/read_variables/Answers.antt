@@ -1,4 +1,4 @@
-use Rattle.std.proofs.Common.{◌≡◌, Some, None, sym, ap, ◌∙◌, map, inr}
+use Rattle.std.proofs.Common.{sym, ap, map, inr}
 use Rattle.bay_ber.specs.Values.{part_of}
 use Rattle.bay_ber.proofs.ListingLemmas.{passed_more, passed_bad}
 use Rattle.bay_mms.specs.Spelled.{spelled}

@@ -1,4 +1,4 @@
-use Rattle.std.proofs.Common.{◌≡◌, sym, ap, ◌∙◌}
+use Rattle.std.proofs.Common.{sym, ap, ◌∙◌}
 use Rattle.bay_ber.specs.Values.{part_of}
 use Rattle.bay_mms.specs.Grammar.{detail_of}
 use Rattle.bay_mms.proofs.RequestLemmas.{known_more, known_end, known_full, known_stop}

@@ -1,11 +1,9 @@
-use Rattle.std.proofs.Common.{◌≡◌, ◌<◌, true, false, sym, ap, ◌∙◌, arith, inr, Ok}
+use Rattle.std.proofs.Common.{◌≡◌, true, false, sym, ap, ◌∙◌, arith, inr, Ok}
 use Rattle.std.proofs.lemmas.Result.{err_from_is_err_and}
-use Rattle.bay_ber.specs.declared.tag.Tag.{Tag}
 use Rattle.bay_ber.specs.Tags.{same_tag}
 use Rattle.bay_ber.specs.Values.{part_of, each_in}
 use Rattle.bay_ber.proofs.ListingLemmas.{passed_more, passed_bad}
 use Rattle.bay_mms.specs.Tags.{constructed}
-use Rattle.bay_mms.specs.Spelled.{spelled}
 use Rattle.bay_mms.specs.Grammar.{datum_as, simple_as}
 use Rattle.bay_mms.specs.Views.{datum_of, data_in}
 use Rattle.bay_mms.proofs.RequestLemmas.{gives_stop, gives_option, spelled_ok, too_deep, structure_ok, structure_err, simple_is, view_structure}

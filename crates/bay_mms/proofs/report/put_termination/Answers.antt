@@ -1,5 +1,5 @@
 use Rattle.std.proofs.lemmas.Result.{err_from_is_err_and}
-use Rattle.bay_mms.specs.Reports.{variable_text, failure_name, item_name, failure_parts, operate_parts}
+use Rattle.bay_mms.specs.Reports.{variable_text, item_name, operate_parts}
 use Rattle.bay_mms.proofs.ResponseLemmas.{placed, names_fault, parts_fault}
 use Rattle.bay_mms.proofs.report.put_termination.Goals as goal
 
