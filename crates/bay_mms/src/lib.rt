@@ -2,9 +2,9 @@
 // and their canonical texts in the Basic Encoding Rules.
 //
 // `request`: what a client asks, read from octets. `data`: data and types as trees. `value`: those of a row of the tree, written
-// as they stand. `response`: responses and their texts; `report`: the reports of controls
-// among them. `page`: how long a page of names is. `fault`: why nothing is read or written. `laws`: what is written is read
-// back. Within the crate `service`, `access`, `received` and `initiate` read the parts of requests.
+// as they stand. `response`: responses and their texts. `report`: the reports of controls. `page`: how long a page of names is.
+// `fault`: why nothing is read or written. `laws`: what is written is read back. Within the crate `service`, `access`, `received`
+// and `initiate` read the parts of requests.
 #![tactic(auto)]
 
 mod access;

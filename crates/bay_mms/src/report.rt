@@ -81,7 +81,9 @@ fn put_variable_around(writer: &mut Writer, start: usize) -> Result<(), WriteFau
 fn put_report_around(writer: &mut Writer, start: usize, inner: usize) -> Result<(), WriteFault>
     requires start { start ≤ inner }
     requires inner { inner ≤ length writer.old }
-    ensures { Appends (take start writer.old) result writer.new (element (constructed 3) (element (constructed 0) (drop start (take inner writer.old) ++ element (constructed 0) (element (constructed 2) (drop inner writer.old))))) }
+    ensures { Appends (take start writer.old) result writer.new
+        (element (constructed 3) (element (constructed 0) (drop start (take inner writer.old)
+        ++ element (constructed 0) (element (constructed 2) (drop inner writer.old))))) }
 {
     let list = Tag::context_constructed(0);
     put_both_around(writer, inner, Tag::context_constructed(2), list)?;
