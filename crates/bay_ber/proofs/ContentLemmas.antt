@@ -1,13 +1,16 @@
 -- The contents of the simple types.
-use Rattle.std.proofs.Common.{◌≡◌, ℕ, ◌^◌, ◌<◌, ◌≤◌, ◌-◌, pos, ◌-ℤ◌, List, [], ◌∷◌, length, get_or, take, drop, Result, Ok, Err, IfOk, refl, sym, ap, subst, ◌∙◌, arith}
+use Rattle.std.proofs.Common.{◌≡◌, ℕ, ℤ, ◌+◌, ◌*◌, ◌^◌, ◌<◌, ◌≤◌, ◌-◌, pos, negsuc, ◌-ℤ◌, ◌&&◌, Bool, true, false, FitsSigned, Some, None, option_map, List, [], ◌∷◌, length, get_or, take, drop, Result, Ok, Err, IfOk, refl, sym, ap, subst, ◌∙◌, arith}
 use Rattle.std.specs.Prelude.{IfErr, IsOkAnd}
-use Rattle.std.proofs.lemmas.Bool.{lt-ltb, le-ltb}
+use Rattle.std.specs.Int.{w64}
+use Rattle.std.specs.Result.{result_ok}
+use Rattle.std.proofs.lemmas.Int.{ints}
+use Rattle.std.proofs.lemmas.Bool.{lt-ltb, le-ltb, ltb-true, cond-true, cond-false, false_from_ne_true}
 use Rattle.std.proofs.lemmas.List.{take_rest}
 use Rattle.bay_ber.specs.declared.fault.BerFault.{BerFault}
 use Rattle.bay_ber.specs.declared.fault.BerFault.TheVariants.{BadContent}
 use Rattle.bay_ber.specs.declared.content.Bits.{Bits}
 use Rattle.bay_ber.specs.Octets.{number_of}
-use Rattle.bay_ber.specs.Content.{signed_of, HasBits, IsBits, BitString, bits_of}
+use Rattle.bay_ber.specs.Content.{signed_of, IsInteger, HasBits, IsBits, BitString, bits_of, is_long, is_integer, integer_in, are_unused, bits_in}
 
 -- octets whose first is below 128 are not negative
 pub signed_of-low : (octets : List ℕ) → 0 < length octets → get_or octets 0 0 < 128 → signed_of octets ≡ pos (number_of octets)
@@ -37,3 +40,65 @@ pub bits_err : (content : List ℕ) (unused : ℕ) (behind : List ℕ) (result :
 bits_err content unused behind (Ok bits) whole err = tt
 bits_err content unused behind (Err fault) whole err =
     (err.0, λ octets count is. err.1 count (let at : IsBits (unused ∷ behind) octets count = subst (λ (xs : List ℕ). IsBits xs octets count) whole is in at.1))
+
+-- ---- the functions are the relations
+
+both : (a b : Bool) → (a && b) ≡ true → (a ≡ true) × (b ≡ true)
+both true true e = (refl, refl)
+both true false e = absurd cc
+both false true e = absurd cc
+both false false e = absurd cc
+
+long_yes : (z : ℤ) → FitsSigned w64 z → is_long z ≡ true
+long_yes (pos n) fits = lt-ltb _ _ (omega (arith, ints))
+long_yes (negsuc n) fits = lt-ltb _ _ (omega (arith, ints))
+
+long_is : (z : ℤ) → is_long z ≡ true → FitsSigned w64 z
+long_is (pos n) e = let b : n < 9223372036854775808 = ltb-true _ _ e in omega (arith, ints)
+long_is (negsuc n) e = let b : n < 9223372036854775808 = ltb-true _ _ e in omega (arith, ints)
+
+integer_yes : (content : List ℕ) (value : ℤ) → IsInteger content value → is_integer content ≡ true
+unfolding is_integer
+integer_yes content value is =
+    let fits : FitsSigned w64 (signed_of content) = subst (FitsSigned w64) is.is is.fits in
+    rw (lt-ltb 0 (length content) is.some, lt-ltb (length content) 10 (let f = is.few in omega arith), long_yes (signed_of content) fits) refl
+
+integer_is : (content : List ℕ) → is_integer content ≡ true → IsInteger content (signed_of content)
+unfolding is_integer
+integer_is content e =
+    let a = both _ _ e in
+    let b = both _ _ a.1 in
+    record { some = ltb-true _ _ a.0; few = (let f : length content < 10 = ltb-true _ _ b.0 in omega arith); is = refl; fits = long_is (signed_of content) b.1 }
+
+pub integer_again : (content : List ℕ) (value : ℤ) → IsInteger content value → integer_in content ≡ Some value
+integer_again content value is = cond-true (is_integer content) (Some (signed_of content)) None (integer_yes content value is) ∙ ap Some (sym is.is)
+
+pub integer_exact : (content : List ℕ) (result : Result ℤ BerFault) → IfOk result (λ value. IsInteger content value) → IfErr result (λ fault. (fault ≡ BadContent) × ((value : ℤ) → IsInteger content value → ⊥)) → result_ok result ≡ integer_in content
+integer_exact content (Ok value) ok err = sym (cond-true (is_integer content) (Some (signed_of content)) None (integer_yes content value ok) ∙ ap Some (sym ok.is))
+integer_exact content (Err fault) ok err = sym (cond-false (is_integer content) (Some (signed_of content)) None (false_from_ne_true (is_integer content) (λ e. err.1 (signed_of content) (integer_is content e))))
+
+unused_yes : (unused : ℕ) (octets : List ℕ) (count : ℕ) → HasBits unused octets count → are_unused unused octets ≡ true
+unfolding are_unused
+unused_yes unused octets count h =
+    rw (lt-ltb unused 8 (let f = h.few in omega arith), lt-ltb unused (8 * length octets + 1) (let f = h.filled in omega arith), lt-ltb (length octets) 2305843009213693952 (let f = h.within in omega arith)) refl
+
+unused_is : (unused : ℕ) (octets : List ℕ) → are_unused unused octets ≡ true → HasBits unused octets (8 * length octets - unused)
+unfolding are_unused
+unused_is unused octets e =
+    let a = both _ _ e in
+    let b = both _ _ a.1 in
+    let few : unused < 8 = ltb-true _ _ a.0 in
+    let filled : unused < 8 * length octets + 1 = ltb-true _ _ b.0 in
+    let within : length octets < 2305843009213693952 = ltb-true _ _ b.1 in
+    record { few = omega arith; filled = omega arith; within = omega arith }
+
+bits_at : (unused : ℕ) (behind : List ℕ) (result : Result Bits BerFault) → IfOk result (λ bits. (bits.octets.now ≡ behind) × HasBits unused behind bits.count) → IfErr result (λ fault. (fault ≡ BadContent) × ((count : ℕ) → HasBits unused behind count → ⊥)) → option_map bits_of (result_ok result) ≡ bits_in (unused ∷ behind)
+bits_at unused behind (Ok bits) ok err =
+    let count : bits.count ≡ 8 * length behind - unused = (let f = ok.1.filled in omega arith) in
+    let same : bits_of bits ≡ record { octets = behind; count = 8 * length behind - unused } = rw (ok.0, count) refl in
+    ap Some same ∙ sym (cond-true (are_unused unused behind) (Some (record { octets = behind; count = 8 * length behind - unused })) None (unused_yes unused behind bits.count ok.1))
+bits_at unused behind (Err fault) ok err =
+    sym (cond-false (are_unused unused behind) (Some (record { octets = behind; count = 8 * length behind - unused })) None (false_from_ne_true (are_unused unused behind) (λ e. err.1 (8 * length behind - unused) (unused_is unused behind e))))
+
+pub bits_exact : (content : List ℕ) (unused : ℕ) (behind : List ℕ) (result : Result Bits BerFault) → content ≡ unused ∷ behind → IfOk result (λ bits. (bits.octets.now ≡ behind) × HasBits unused behind bits.count) → IfErr result (λ fault. (fault ≡ BadContent) × ((count : ℕ) → HasBits unused behind count → ⊥)) → option_map bits_of (result_ok result) ≡ bits_in content
+bits_exact content unused behind result whole ok err = bits_at unused behind result ok err ∙ ap bits_in (sym whole)

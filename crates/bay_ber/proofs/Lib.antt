@@ -1,4 +1,5 @@
 pub mod ContentLemmas
+pub mod ListingLemmas
 pub mod OctetLemmas
 pub mod ReadLemmas
 pub mod ShortestLemmas

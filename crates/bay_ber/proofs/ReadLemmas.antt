@@ -31,19 +31,19 @@ pub chosen : {A : Type 0} (b : Bool) (x y z : A) → cond b x y ≡ z → ((b �
 chosen true x y z e = inl (refl, e)
 chosen false x y z e = inr (refl, e)
 
-abbrev done : {A : Type 0} → A → Result A BerFault
+abbrev pub done : {A : Type 0} → A → Result A BerFault
 done x = Ok x
 
-ok_is : {A : Type 0} (x y : A) → done x ≡ done y → x ≡ y
+pub ok_is : {A : Type 0} (x y : A) → done x ≡ done y → x ≡ y
 ok_is x y e = cc
 
-abbrev failed : (A : Type 0) → BerFault → Result A BerFault
+abbrev pub failed : (A : Type 0) → BerFault → Result A BerFault
 failed A d = Err d
 
 err_is : {A : Type 0} (c d : BerFault) → failed A c ≡ failed A d → c ≡ d
 err_is c d e = cc
 
-not_err : {A : Type 0} (x : A) (d : BerFault) → done x ≡ failed A d → ⊥
+pub not_err : {A : Type 0} (x : A) (d : BerFault) → done x ≡ failed A d → ⊥
 not_err x d e = cc
 
 -- ---- the tag
@@ -148,10 +148,10 @@ length_again (first ∷ second ∷ octets) n rest is =
 
 -- ---- the value
 
-abbrev with_length : Tag → ℕ × List ℕ → Result Reading BerFault
+abbrev pub with_length : Tag → ℕ × List ℕ → Result Reading BerFault
 with_length tag n = cond (ltb (length n.1) n.0) (Err Truncated) (Ok (record { tag = tag; content = take n.0 n.1; rest = drop n.0 n.1 }))
 
-abbrev with_tag : Tag × List ℕ → Result Reading BerFault
+abbrev pub with_tag : Tag × List ℕ → Result Reading BerFault
 with_tag tag = length_at tag.1 >>= with_length tag.0
 
 -- the parts of octets, taken off one after another

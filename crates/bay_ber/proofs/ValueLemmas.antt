@@ -4,7 +4,7 @@ use Rattle.std.proofs.lemmas.List.{append-nil, length-append}
 use Rattle.bay_ber.specs.declared.tag.Tag.{Tag}
 use Rattle.bay_ber.specs.Spelling.{Spells}
 use Rattle.bay_ber.specs.Reading.{Reading, Begins}
-use Rattle.bay_ber.specs.Values.{Part, SpellAll}
+use Rattle.bay_ber.specs.Values.{Part, SpellAll, part_in}
 use Rattle.bay_ber.proofs.ReadLemmas.{one_reading, tag_some}
 
 -- a value that fills octets stands at their front, with nothing behind it
@@ -15,9 +15,6 @@ pub begins_whole : (octets : List ℕ) (r : Reading) → r.rest ≡ [] → Begin
 begins_whole octets r none b =
     let e : octets ≡ b.front = b.parts ∙ ap (λ (ys : List ℕ). b.front ++ ys) none ∙ append-nil b.front in
     rw e b.spelled
-
-abbrev pub part_in : Reading → Part
-part_in r = record { tag = r.tag; content = r.content }
 
 pub one_value : (octets : List ℕ) (p q : Part) → Spells octets p.tag p.content → Spells octets q.tag q.content → p ≡ q
 one_value octets p q s t = ap part_in (one_reading octets (record { tag = p.tag; content = p.content; rest = [] }) (record { tag = q.tag; content = q.content; rest = [] }) (whole_begins octets p.tag p.content s) (whole_begins octets q.tag q.content t))

@@ -1,5 +1,5 @@
 -- The contents of the simple types.
-use Rattle.std.specs.Prelude.{ℕ, ℤ, pos, ◌≡◌, ◌+◌, ◌-ℤ◌, ◌*◌, ◌^◌, ◌<◌, ◌≤◌, Bool, true, false, FitsSigned, List, [], ◌∷◌, length, nat_lt, if◌then◌else◌}
+use Rattle.std.specs.Prelude.{ℕ, ℤ, pos, negsuc, ◌≡◌, ◌+◌, ◌-◌, ◌-ℤ◌, ◌*◌, ◌^◌, ◌<◌, ◌≤◌, ◌&&◌, Bool, true, false, FitsSigned, List, [], ◌∷◌, length, Option, Some, None, nat_lt, if◌then◌else◌}
 use Rattle.std.specs.Int.{w64}
 use Rattle.bay_ber.specs.declared.content.Bits.{Bits}
 use Rattle.bay_ber.specs.Octets.{number_of}
@@ -41,3 +41,29 @@ pub record BitString : Type 0 where
 
 abbrev pub bits_of : Bits → BitString
 bits_of b = record { octets = b.octets.now; count = b.count }
+
+-- ---- the value of a content, if it spells one, which the laws tie to the relations above
+
+-- whether a number is within 64 bits
+abbrev pub is_long : ℤ → Bool
+is_long (pos n) = nat_lt n 9223372036854775808
+is_long (negsuc n) = nat_lt n 9223372036854775808
+
+-- whether the content has 1 to 9 octets and its number is within 64 bits
+unfoldable pub is_integer : List ℕ → Bool
+is_integer content = nat_lt 0 (length content) && (nat_lt (length content) 10 && is_long (signed_of content))
+
+abbrev pub integer_in : List ℕ → Option ℤ
+integer_in content = if is_integer content then Some (signed_of content) else None
+
+-- whether so many unused bits may stand behind octets
+unfoldable pub are_unused : ℕ → List ℕ → Bool
+are_unused unused octets = nat_lt unused 8 && (nat_lt unused (8 * length octets + 1) && nat_lt (length octets) 2305843009213693952)
+
+abbrev pub bits_in : List ℕ → Option BitString
+bits_in [] = None
+bits_in (unused ∷ octets) = if are_unused unused octets then Some (record { octets = octets; count = 8 * length octets - unused }) else None
+
+abbrev pub truth_in : List ℕ → Option Bool
+truth_in (octet ∷ []) = Some (nat_lt 0 octet)
+truth_in content = None

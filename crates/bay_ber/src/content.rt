@@ -1,6 +1,7 @@
 // The contents of the simple types (X.690 8.2, 8.3 and 8.6), which other layers also spell under tags of their own.
-ghost use Rattle.std.specs.Prelude.{◌≡◌, ◌+◌, ◌*◌, ◌^◌, ◌<◌, ◌≤◌, ℕ, ℤ, Bool, List, pos, Ok, Err, length, IfOk, IfErr, IsOkAnd};
-ghost use Rattle.bay_ber.specs.Content.{signed_of, IsInteger, HasBits, IsBits, IsTruth, BitString, bits_of};
+ghost use Rattle.std.specs.Prelude.{◌≡◌, ◌+◌, ◌*◌, ◌^◌, ◌<◌, ◌≤◌, ℕ, ℤ, Bool, List, pos, Ok, Err, length, IfOk, IfErr, IsOkAnd, option_map};
+ghost use Rattle.std.specs.Result.{result_ok};
+ghost use Rattle.bay_ber.specs.Content.{signed_of, IsInteger, HasBits, IsBits, IsTruth, BitString, bits_of, integer_in, bits_in, truth_in};
 
 use crate::fault::BerFault;
 use crate::tlv::number_of;
@@ -37,9 +38,8 @@ fn signed_of(octets: &[u8]) -> i128
     }
 }
 
-/// The value of an integer's content (X.690 8.3): two's complement in 1 to 9 octets, the highest first, within 64 bits.
-/// Needless octets in front are read, which 8.3.2 forbids to write. BadContent where no value is spelled.
-pub fn int_of(content: &[u8]) -> Result<i64, BerFault>
+// The number of an integer's content.
+fn integer_of(content: &[u8]) -> Result<i64, BerFault>
     ensures ok { IfOk result (λ value. IsInteger content.now value) }
     ensures only { (value : ℤ) → IsInteger content.now value → result ≡ Ok value }
     ensures err { IfErr result (λ fault. (fault ≡ BerFault.BadContent) × ((value : ℤ) → IsInteger content.now value → ⊥)) }
@@ -48,6 +48,17 @@ pub fn int_of(content: &[u8]) -> Result<i64, BerFault>
         return Err(BerFault::BadContent);
     }
     i64::try_from(signed_of(content)).map_err(|_| BerFault::BadContent)
+}
+
+/// The value of an integer's content (X.690 8.3): two's complement in 1 to 9 octets, the highest first, within 64 bits.
+/// Needless octets in front are read, which 8.3.2 forbids to write. BadContent where no value is spelled.
+pub fn int_of(content: &[u8]) -> Result<i64, BerFault>
+    ensures ok { IfOk result (λ value. IsInteger content.now value) }
+    ensures only { (value : ℤ) → IsInteger content.now value → result ≡ Ok value }
+    ensures err { IfErr result (λ fault. (fault ≡ BerFault.BadContent) × ((value : ℤ) → IsInteger content.now value → ⊥)) }
+    ensures exact { result_ok result ≡ integer_in content.now }
+{
+    integer_of(content)
 }
 
 // The bits of these octets, without the unused ones.
@@ -71,6 +82,7 @@ pub fn bits_of(content: &[u8]) -> Result<Bits<'_>, BerFault>
     ensures ok { IfOk result (λ bits. IsBits content.now bits.octets.now bits.count) }
     ensures only { (b : BitString) → IsBits content.now b.octets b.count → IsOkAnd result (λ bits. bits_of bits ≡ b) }
     ensures err { IfErr result (λ fault. (fault ≡ BerFault.BadContent) × ((octets : List ℕ) (count : ℕ) → IsBits content.now octets count → ⊥)) }
+    ensures exact { option_map bits_of (result_ok result) ≡ bits_in content.now }
 {
     match content {
         [unused, octets @ ..] => bits_behind(*unused, octets),
@@ -84,6 +96,7 @@ pub fn bool_of(content: &[u8]) -> Result<bool, BerFault>
     ensures ok { IfOk result (λ value. IsTruth content.now value) }
     ensures only { (value : Bool) → IsTruth content.now value → result ≡ Ok value }
     ensures err { IfErr result (λ fault. (fault ≡ BerFault.BadContent) × ((value : Bool) → IsTruth content.now value → ⊥)) }
+    ensures exact { result_ok result ≡ truth_in content.now }
 {
     match content {
         [octet] => Ok(*octet != 0),

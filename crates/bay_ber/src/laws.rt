@@ -1,12 +1,12 @@
 // Laws of the spelling. Each function does nothing, and its contract is the law.
-ghost use Rattle.std.specs.Prelude.{◌≡◌, ◌*◌, ◌^◌, ◌<◌, ◌≤◌, ◌++◌, List, ℕ, ℤ, Bool, FitsSigned, length};
+ghost use Rattle.std.specs.Prelude.{◌≡◌, ◌*◌, ◌^◌, ◌<◌, ◌≤◌, ◌↔◌, ◌++◌, Some, List, ℕ, ℤ, Bool, FitsSigned, length};
 ghost use Rattle.std.specs.Int.{w64};
 ghost use Rattle.bay_ber.specs.Content.{IsInteger, IsBits, IsTruth};
 ghost use Rattle.bay_ber.specs.Octets.{AreOctets};
 ghost use Rattle.bay_ber.specs.Reading.{Reading, Begins, class_of, is_constructed, low_bits};
 ghost use Rattle.bay_ber.specs.Spelling.{identifier, octet_of, Spells};
 ghost use Rattle.bay_ber.specs.Writing.{element, element_length, integer_octets, truth_octets, bit_octets, bit_string_octets};
-ghost use Rattle.bay_ber.specs.Values.{Part, SpellAll};
+ghost use Rattle.bay_ber.specs.Values.{Part, SpellAll, values_in};
 ghost use Rattle.bay_ber.specs.declared.tag.Tag.{Tag};
 
 /// At most one prefix of an input is spelled, in one way.
@@ -19,6 +19,11 @@ pub fn one_spelling()
 pub fn one_list()
     ensures value { (octets : List ℕ) (p q : Part) → Spells octets p.tag p.content → Spells octets q.tag q.content → p ≡ q }
     ensures list { (octets : List ℕ) (ps qs : List Part) → SpellAll octets ps → SpellAll octets qs → ps ≡ qs }
+{}
+
+/// The values that octets are, as a function, are those that the octets spell and nothing else.
+pub fn values_are_spelled()
+    ensures { (octets : List ℕ) (parts : List Part) → AreOctets octets → (values_in octets ≡ Some parts) ↔ SpellAll octets parts }
 {}
 
 /// What is written is read back, whatever follows it: each octet is the identifier of a class, a form and a number, and the

@@ -1,6 +1,7 @@
 // Tags (X.690 8.1.2).
 ghost use Rattle.std.specs.Prelude.{◌≡◌, ◌+◌, ◌*◌, ◌<◌, true, false};
 ghost use Rattle.bay_ber.specs.Spelling.{octet_of};
+ghost use Rattle.bay_ber.specs.Tags.{same_tag};
 
 /// The class of a tag (X.690 8.1.2.2).
 #[derive(Clone, Copy, Debug, PartialEq, Eq)]
@@ -65,6 +66,13 @@ impl Tag {
             constructed: true,
             number,
         }
+    }
+
+    /// Whether two tags are one.
+    pub fn is(self, other: Tag) -> bool
+        ensures { result ≡ same_tag self other }
+    {
+        self == other
     }
 
     /// The tag's one octet.

@@ -1,7 +1,7 @@
 // Values one after another, and octets that are one value.
-ghost use Rattle.std.specs.Prelude.{◌≡◌, ◌+◌, ◌≤◌, length, List, ℕ, IfSome, IfOk, IsSomeAnd};
+ghost use Rattle.std.specs.Prelude.{◌≡◌, ◌+◌, ◌≤◌, [], ◌∷◌, ◌++◌, length, map, List, ℕ, IfSome, IfOk, IsSomeAnd, OnSome, IfNone, option_map};
 ghost use Rattle.bay_ber.specs.Spelling.{Spells};
-ghost use Rattle.bay_ber.specs.Values.{Part, part_of, Next};
+ghost use Rattle.bay_ber.specs.Values.{Part, part_of, Next, NextIn, under, value_in, few_in};
 ghost use Rattle.bay_ber.specs.declared.tag.Tag.{Tag};
 
 use crate::fault::BerFault;
@@ -18,10 +18,24 @@ pub struct Value<'a> {
     pub content: &'a [u8],
 }
 
+impl<'a> Value<'a> {
+    /// The content, where the value has this tag.
+    pub fn under(&self, tag: Tag) -> Option<&'a [u8]>
+        ensures { option_map (λ content. content.now) result ≡ under tag (part_of self.now) }
+    {
+        if self.tag.is(tag) {
+            Some(self.content)
+        } else {
+            None
+        }
+    }
+}
+
 /// The value that the octets are (X.690 8.1); None where they are none, or octets follow it.
 pub fn whole_value(octets: &[u8]) -> Option<Value<'_>>
     ensures some { IfSome result (λ value. Spells octets.now value.tag value.content.now) }
     ensures only { (tag : Tag) (content : List ℕ) → Spells octets.now tag content → IsSomeAnd result (λ value. part_of value ≡ record { tag = tag; content = content }) }
+    ensures exact { option_map part_of result ≡ value_in octets.now }
 {
     match read_tlv(octets) {
         Ok(tlv) => {
@@ -64,6 +78,7 @@ impl<'a> Values<'a> {
     /// The next value; None where no octet is left. Where no value stands next, nothing is passed over.
     pub fn next_value(&mut self) -> Result<Option<Value<'a>>, BerFault>
         ensures next { Next self.old result self.new }
+        ensures exact { NextIn self.old result self.new }
         ensures shorter { IfOk result (λ next. IfSome next (λ value. length value.content.now + length self.new + 2 ≤ length self.old)) }
     {
         if self.rest.is_empty() {
@@ -75,5 +90,74 @@ impl<'a> Values<'a> {
             tag: tlv.tag,
             content: tlv.content,
         }))
+    }
+}
+
+/// At most five values, which contracts see as a list of tags and contents.
+#[derive(Debug, Drop)]
+pub struct Few<'a> {
+    values: [Value<'a>; 5],
+    count: usize,
+}
+
+impl<'a> Model for Few<'a> {
+    ghost use Rattle.std.specs.Prelude.{List, ◌≡◌, ◌≤◌, length, map, take};
+    ghost use Rattle.bay_ber.specs.Values.{Part, part_of};
+
+    ghost Value = { List Part };
+
+    ghost view = { λ f. map part_of (take f.count f.values) };
+
+    ghost invariant = { λ f. (f.count ≤ 5) × (length f.values ≡ 5) };
+}
+
+impl<'a> Few<'a> {
+    /// No values.
+    pub fn new() -> Few<'a>
+        ensures { result ≡ [] }
+    {
+        let value = Value {
+            tag: Tag::universal(0),
+            content: &[],
+        };
+        Few {
+            values: [value; 5],
+            count: 0,
+        }
+    }
+
+    /// Puts a value behind the others; None where they are five.
+    pub fn push(&mut self, value: Value<'a>) -> Option<()>
+        ensures some { OnSome result ((self.new ≡ self.old ++ part_of value.entry ∷ []) × (length self.old + 1 ≤ 5)) }
+        ensures none { IfNone result (5 ≤ length self.old) }
+    {
+        if self.count == 5 {
+            return None;
+        }
+        self.values[self.count] = value;
+        self.count += 1;
+        Some(())
+    }
+
+    /// The values.
+    pub fn as_slice(&self) -> &[Value<'a>]
+        ensures { map part_of result.now ≡ self.now }
+    {
+        &self.values[..self.count]
+    }
+}
+
+/// The values that the octets are, one after another (X.690 8.9.2); None where they are no values, or more than five.
+pub fn few_values(octets: &[u8]) -> Option<Few<'_>>
+    ensures { result ≡ few_in octets.now }
+{
+    let mut few = Few::new();
+    let mut values = Values::new(octets);
+    loop {
+        match values.next_value() {
+            Ok(Some(value)) => few.push(value)?,
+            Ok(None) => return Some(few),
+            Err(_) => return None,
+        }
     }
 }

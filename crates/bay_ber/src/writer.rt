@@ -114,6 +114,14 @@ fn without_needless(octets: &[u8]) -> &[u8]
     &octets[last..]
 }
 
+/// How many octets the content of an integer has.
+pub fn integer_length(value: i64) -> usize
+    ensures value { result ≡ length (integer_octets value) }
+    ensures few { result ≤ 8 }
+{
+    without_needless(&value.to_be_bytes()).len()
+}
+
 /// How many octets a value takes whose content has so many.
 pub fn element_length(count: u32) -> u64
     ensures { result ≡ element_length count }

@@ -1,10 +1,16 @@
 -- Texts, one behind another.
-use Rattle.std.proofs.Common.{◌≡◌, ℕ, ◌+◌, ◌≤◌, List, [], ◌++◌, length, take, drop, Result, Ok, Err, refl, sym, ap, ◌∙◌, arith}
+use Rattle.std.proofs.Common.{◌≡◌, ℕ, pos, Bool, true, false, ◌+◌, ◌≤◌, List, [], ◌++◌, length, take, drop, Result, Ok, Err, refl, sym, ap, ◌∙◌, arith, ◌⊎◌, inl, inr}
 use Rattle.std.proofs.lemmas.List.{append-nil, append_assoc, length-append, take_at, drop_at}
 use Rattle.bay_mms.specs.declared.fault.WriteFault.{WriteFault}
-use Rattle.bay_mms.specs.Writing.{IsFaultOf, Adds, Appends}
+use Rattle.bay_mms.specs.declared.fault.WriteFault.TheVariants.{TooLong, OutOfMemory}
+use Rattle.std.proofs.lemmas.Bool.{le-ltb}
+use Rattle.bay_mms.specs.Writing.{IsFaultOf, Adds, Appends, written}
 use Rattle.bay_ber.specs.declared.tag.Tag.{Tag}
-use Rattle.bay_ber.specs.Writing.{element}
+use Rattle.bay_ber.specs.Writing.{element, element_length, integer_octets, truth_octets}
+use Rattle.bay_ber.proofs.SizeLemmas.{length-element-is}
+use Rattle.bay_mms.specs.Tags.{context, constructed, sequence, int_tag}
+use Rattle.bay_mms.specs.Reports.{variable_text}
+use Rattle.bay_mms.specs.Responses.{names_text, page_text}
 use Rattle.bay_mms.proofs.PutLemmas.{part_fault, around_over}
 
 -- What was written since a front, and what remains to be written, are the whole.
@@ -69,3 +75,52 @@ wrapped start inner tag front one two three first second s i o t u =
     let a : take inner two ≡ one = ap (take inner) t ∙ take_at one second inner (sym i) in
     let b : drop inner two ≡ second = ap (drop inner) t ∙ drop_at one second inner (sym i) in
     behind start front one three first (element tag second) s o (u ∙ ap (λ (ys : List ℕ). ys ++ element tag (drop inner two)) a ∙ ap (λ (ys : List ℕ). one ++ element tag ys) b)
+
+-- more behind what was written
+pub adds_then : (old middle new front one : List ℕ) (r : Result (Unit {0}) WriteFault) → middle ≡ old ++ front → Adds middle r new one → Adds old r new (front ++ one)
+adds_then old middle new front one (Ok done) is a = a ∙ ap (λ (ys : List ℕ). ys ++ one) is ∙ append_assoc old front one
+adds_then old middle new front one (Err fault) is a = part_fault fault one (front ++ one) (λ over. omega (arith, length-append front one)) a
+
+pub adds_third : (old one two new a b d : List ℕ) (r : Result (Unit {0}) WriteFault) → one ≡ old ++ a → two ≡ one ++ b → Appends two r new d → Adds old r new (a ++ (b ++ d))
+adds_third old one two new a b d r is then last = adds_then old one new a (b ++ d) r is (adds_last one two new b d r then last)
+
+-- ---- reports
+
+pub named_fault : (fault : WriteFault) (name : List ℕ) → IsFaultOf fault name → IsFaultOf fault (variable_text name)
+named_fault fault name f = around_fault fault (constructed 0) _ (around_fault fault sequence _ (around_fault fault (constructed 0) name f))
+
+-- what a report is of its names and its parts
+abbrev pub report_of : List ℕ → List ℕ → List ℕ
+report_of names parts = element (constructed 3) (element (constructed 0) (names ++ element (constructed 0) (element (constructed 2) parts)))
+
+pub names_fault : (fault : WriteFault) (names parts : List ℕ) → IsFaultOf fault names → IsFaultOf fault (report_of names parts)
+names_fault fault names parts f = around_fault fault (constructed 3) _ (around_fault fault (constructed 0) _ (fault_left fault names _ f))
+
+pub list_fault : (fault : WriteFault) (names parts : List ℕ) → IsFaultOf fault (element (constructed 0) (element (constructed 2) parts)) → IsFaultOf fault (report_of names parts)
+list_fault fault names parts f = around_fault fault (constructed 3) _ (last_fault fault (constructed 0) names _ f)
+
+pub parts_fault : (fault : WriteFault) (names parts : List ℕ) → IsFaultOf fault parts → IsFaultOf fault (report_of names parts)
+parts_fault fault names parts f = list_fault fault names parts (around_fault fault (constructed 0) _ (around_fault fault (constructed 2) parts f))
+
+-- ---- a page
+
+truth_short : (more : Bool) → length (truth_octets more) ≡ 1
+truth_short true = refl
+truth_short false = refl
+
+pub page_is : (id : ℕ) (texts : List (List ℕ)) (more : Bool) → length (page_text id texts more) ≡ element_length (element_length (length (integer_octets (pos id))) + element_length (element_length (length (names_text texts)) + 3))
+page_is id texts more =
+    let number : List ℕ = element int_tag (integer_octets (pos id)) in
+    let list : List ℕ = element (constructed 0) (names_text texts) in
+    let flag : List ℕ = element (context 1) (truth_octets more) in
+    let service : List ℕ = element (constructed 1) (list ++ flag) in
+    let three : length flag ≡ 3 = length-element-is (context 1) (truth_octets more) ∙ ap element_length (truth_short more) in
+    let whole : length (list ++ flag) ≡ element_length (length (names_text texts)) + 3 = length-append list flag ∙ ap (λ (n : ℕ). n + length flag) (length-element-is (constructed 0) (names_text texts)) ∙ ap (λ (n : ℕ). element_length (length (names_text texts)) + n) three in
+    let a : length service ≡ element_length (element_length (length (names_text texts)) + 3) = length-element-is (constructed 1) (list ++ flag) ∙ ap element_length whole in
+    let b : length number ≡ element_length (length (integer_octets (pos id))) = length-element-is int_tag (integer_octets (pos id)) in
+    length-element-is (constructed 1) (number ++ service) ∙ ap element_length (length-append number service ∙ ap (λ (n : ℕ). n + length service) b ∙ ap (λ (n : ℕ). element_length (length (integer_octets (pos id))) + n) a)
+
+-- a fault of a text that is not written
+pub gives_fault : (fault : WriteFault) (text : List ℕ) → IsFaultOf fault text → (fault ≡ OutOfMemory) ⊎ (written text ≡ Err fault)
+gives_fault TooLong text long = inr (rw (le-ltb (length text) 4294967296 long) refl)
+gives_fault OutOfMemory text memory = inl refl

@@ -6,6 +6,7 @@ use Rattle.bay_tree.specs.declared.leaf.Dbpos.{Dbpos}
 use Rattle.bay_tree.specs.declared.leaf.Dbpos.TheVariants as position
 use Rattle.bay_tree.specs.declared.leaf.Quality.{Quality}
 use Rattle.bay_tree.specs.declared.leaf.Quality.TheVariants as quality
+use Rattle.bay_ber.specs.declared.tag.Tag.{Tag}
 use Rattle.bay_ber.specs.Writing.{element, truth_octets, integer_octets, bit_string_octets}
 use Rattle.bay_mms.specs.Tags.{context, constructed}
 use Rattle.bay_mms.specs.Utc.{utc_octets}
@@ -20,6 +21,7 @@ mutual
     octets : List ℕ → Datum
     text : List ℕ → Datum
     utc : List ℕ → Datum
+    other : Tag → List ℕ → Datum
 
   pub data Data : Type 0 where
     no_data : Data
@@ -36,6 +38,7 @@ abbrev mutual
   datum_text (octets value) = element (context 9) value
   datum_text (text value) = element (context 10) value
   datum_text (utc value) = element (context 17) value
+  datum_text (other tag value) = element tag value
 
   pub data_text : Data → List ℕ
   data_text no_data = []

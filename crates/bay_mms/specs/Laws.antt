@@ -1,12 +1,14 @@
 -- What stands in texts.
-use Rattle.std.specs.Prelude.{ℕ, List}
+use Rattle.std.specs.Prelude.{ℕ, pos, ◌<◌, ◌^◌, List, [], ◌∷◌}
 use Rattle.bay_ber.specs.declared.tag.Tag.{Tag}
 use Rattle.bay_ber.specs.Spelling.{Spells}
+use Rattle.bay_ber.specs.Content.{IsInteger}
+use Rattle.bay_ber.specs.Values.{Part, SpellAll}
 use Rattle.bay_ber.specs.Writing.{truth_octets, integer_octets, bit_string_octets}
 use Rattle.bay_mms.specs.declared.response.Response.{Response}
 use Rattle.bay_mms.specs.declared.response.Response.TheVariants as response
-use Rattle.bay_mms.specs.Tags.{context, constructed}
-use Rattle.bay_mms.specs.Data.{Datum, structure, truth, bits, integer, unsigned, octets, text, utc, data_text}
+use Rattle.bay_mms.specs.Tags.{context, constructed, int_tag}
+use Rattle.bay_mms.specs.Data.{Datum, structure, truth, bits, integer, unsigned, octets, text, utc, other, data_text}
 
 -- the tag of data (ISO 9506-2, Data), and what stands under it
 abbrev pub datum_tag : Datum → Tag
@@ -18,6 +20,7 @@ datum_tag (unsigned value) = context 6
 datum_tag (octets value) = context 9
 datum_tag (text value) = context 10
 datum_tag (utc value) = context 17
+datum_tag (other tag value) = tag
 
 abbrev pub datum_content : Datum → List ℕ
 datum_content (structure parts) = data_text parts
@@ -28,6 +31,7 @@ datum_content (unsigned value) = integer_octets value
 datum_content (octets value) = value
 datum_content (text value) = value
 datum_content (utc value) = value
+datum_content (other tag value) = value
 
 -- the tag of a response's PDU (ISO 9506-2, MMSpdu)
 abbrev pub response_tag : Response → Tag
@@ -41,3 +45,13 @@ response_tag (response.Reject id reason) = constructed 4
 pub record IsRead (list : List ℕ) (tag : Tag) : Type 0 where
   pub content : List ℕ
   pub spelled : Spells list tag content
+
+-- The octets are one value under A0, whose content is an invoke id of 32 bits and a service, and nothing else (ISO 9506-2,
+-- confirmed-RequestPDU).
+pub record IsConfirmed (octets : List ℕ) (id : ℕ) (service : Part) : Type 0 where
+  pub content : List ℕ
+  pub number : List ℕ
+  pub whole : SpellAll octets (record { tag = constructed 0; content = content } ∷ [])
+  pub parts : SpellAll content (record { tag = int_tag; content = number } ∷ service ∷ [])
+  pub is : IsInteger number (pos id)
+  pub below : id < 2 ^ 32

@@ -1,7 +1,13 @@
+pub mod Code
 pub mod Data
+pub mod Grammar
 pub mod Laws
 pub mod Nodes
+pub mod Reports
+pub mod RequestViews
+pub mod Requests
 pub mod Responses
+pub mod Spelled
 pub mod Tags
 pub mod Types
 pub mod Utc

@@ -1,7 +1,5 @@
 -- The canonical texts of responses (ISO 9506-2).
-use Rattle.std.specs.Prelude.{ℕ, ℤ, pos, ◌*◌, ◌/◌, false, Option, Some, None, List, [], ◌∷◌, ◌++◌, All}
-use Rattle.bay_ber.specs.declared.tag.Tag.{Tag}
-use Rattle.bay_ber.specs.declared.tag.Class.TheVariants.{Universal}
+use Rattle.std.specs.Prelude.{ℕ, ℤ, pos, ◌*◌, ◌/◌, Bool, false, Option, Some, None, List, [], ◌∷◌, ◌++◌, All}
 use Rattle.bay_ber.specs.Writing.{element, integer_octets, truth_octets, bit_string_octets}
 use Rattle.bay_tree.specs.declared.row.Row.{Row}
 use Rattle.bay_tree.specs.Rows.{IsHandle}
@@ -18,17 +16,10 @@ use Rattle.bay_mms.specs.declared.response.ErrorClass.{ErrorClass}
 use Rattle.bay_mms.specs.declared.response.ErrorClass.TheVariants as error
 use Rattle.bay_mms.specs.declared.response.RejectReason.{RejectReason}
 use Rattle.bay_mms.specs.declared.response.RejectReason.TheVariants as reject
-use Rattle.bay_mms.specs.Tags.{context, constructed}
+use Rattle.bay_mms.specs.Tags.{context, constructed, int_tag, visible_tag}
 use Rattle.bay_mms.specs.Data.{datum_text}
 use Rattle.bay_mms.specs.Types.{type_text}
 use Rattle.bay_mms.specs.Nodes.{data_at, type_at}
-
--- universal tags: an integer, and a visible string
-abbrev pub int_tag : Tag
-int_tag = record { class = Universal; constructed = false; number = 2 }
-
-abbrev pub visible_tag : Tag
-visible_tag = record { class = Universal; constructed = false; number = 26 }
 
 -- a confirmed response: the invoke id and the service
 abbrev pub confirmed : ℕ → List ℕ → List ℕ
@@ -75,6 +66,14 @@ abbrev pub reason_text : RejectReason → List ℕ
 reason_text reject.UnrecognizedService = element (context 1) (integer_octets (pos 1))
 reason_text reject.InvalidPdu = element (context 5) (integer_octets (pos 1))
 
+-- names, and whether more follow
+abbrev pub listing_text : List (List ℕ) → Bool → List ℕ
+listing_text names more = element (constructed 0) (names_text names) ++ element (context 1) (truth_octets more)
+
+-- the response with a page of names
+abbrev pub page_text : ℕ → List (List ℕ) → Bool → List ℕ
+page_text id names more = confirmed id (element (constructed 1) (listing_text names more))
+
 -- the number of a service's tag, and what stands under it
 abbrev pub service_number : Service → ℕ
 service_number (service.Identify vendor model revision) = 2
@@ -85,7 +84,7 @@ service_number (service.Write results) = 5
 
 abbrev pub content_text : Service → List ℕ
 content_text (service.Identify vendor model revision) = identity_text vendor.now model.now revision.now
-content_text (service.Names names more) = element (constructed 0) (names_text names.now) ++ element (context 1) (truth_octets more)
+content_text (service.Names names more) = listing_text names.now more
 content_text (service.Attributes tree handle) = element (context 0) (truth_octets false) ++ element (constructed 2) (type_text (type_at tree.now handle))
 content_text (service.Read tree results) = element (constructed 1) (reads_text tree.now results.now)
 content_text (service.Write results) = writes_text results.now

@@ -1,4 +1,4 @@
--- Context-specific tags (X.690 8.1.2.2).
+-- Context-specific and universal tags (X.690 8.1.2.2, 8.4).
 use Rattle.std.specs.Prelude.{ℕ, true, false}
 use Rattle.bay_ber.specs.declared.tag.Tag.{Tag}
 use Rattle.bay_ber.specs.declared.tag.Class.TheVariants.{Universal, ContextSpecific}
@@ -14,3 +14,10 @@ constructed number = record { class = ContextSpecific; constructed = true; numbe
 -- a sequence
 abbrev pub sequence : Tag
 sequence = record { class = Universal; constructed = true; number = 16 }
+
+-- an integer, and a visible string
+abbrev pub int_tag : Tag
+int_tag = record { class = Universal; constructed = false; number = 2 }
+
+abbrev pub visible_tag : Tag
+visible_tag = record { class = Universal; constructed = false; number = 26 }

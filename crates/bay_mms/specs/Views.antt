@@ -24,6 +24,7 @@ datum_step (Data-F.Unsigned value) = mms.unsigned value
 datum_step (Data-F.Octets value) = mms.octets value.now
 datum_step (Data-F.Text value) = mms.text value.now
 datum_step (Data-F.Utc value) = mms.utc value
+datum_step (Data-F.Other value) = mms.other value.tag value.content.now
 
 abbrev pub datum_of : Data → Datum
 datum_of = fold-Data Datum datum_step

@@ -8,6 +8,7 @@ ghost use Rattle.bay_mms.specs.Views.{datum_of, data_in, type_of, components_in}
 
 use crate::leaf::{position_octets, quality_octets, utc_octets};
 use bay_ber::content::Bits;
+use bay_ber::values::Value;
 use bay_tree::leaf::Leaf;
 use bay_tree::tree::{Handle, Tree};
 use std::alloc::{AllocError, Global};
@@ -25,6 +26,8 @@ pub enum Data<'a> {
     Text(&'a [u8]),
     /// The eight octets of a utc-time.
     Utc([u8; 8]),
+    /// Data of another kind, as it was received.
+    Other(Value<'a>),
 }
 
 // The data of a leaf.
@@ -52,8 +55,8 @@ fn leaf_data(leaf: &Leaf) -> Data<'_>
     }
 }
 
-// Puts data behind others.
-fn push_data<'a>(parts: &mut Vec<Data<'a>>, part: Data<'a>) -> Result<(), AllocError>
+/// Puts data behind others.
+pub(crate) fn push_data<'a>(parts: &mut Vec<Data<'a>>, part: Data<'a>) -> Result<(), AllocError>
     ensures { OnOk result (data_in parts.new.items ≡ data_in parts.old.items ++ datum_of part.entry ∷ []) }
 {
     parts.push(part)?;

@@ -1,6 +1,6 @@
-// Why nothing is written.
-ghost use Rattle.std.specs.Prelude.{◌≡◌};
-ghost use Rattle.bay_mms.specs.declared.fault.WriteFault.TheVariants.{OutOfMemory};
+// Why nothing is read or written.
+ghost use Rattle.std.specs.Prelude.{◌≡◌, Some, None};
+ghost use Rattle.bay_mms.specs.Code.{code_of};
 
 use std::alloc::AllocError;
 use thiserror::Error;
@@ -17,9 +17,65 @@ pub enum WriteFault {
 }
 
 impl From<AllocError> for WriteFault {
+    ghost use Rattle.bay_mms.specs.declared.fault.WriteFault.TheVariants.{OutOfMemory};
+
     ghost from_gives = { λ _ e. e ≡ OutOfMemory };
 
     fn from(_error: AllocError) -> WriteFault {
         WriteFault::OutOfMemory
+    }
+}
+
+/// Why octets are no request that is served.
+#[derive(Clone, Copy, Debug, PartialEq, Eq, Error)]
+pub enum MmsFault {
+    /// The octets are not spelled as a request. With the invoke id, where one can be read.
+    #[error("the octets are no request")]
+    BadPdu(Option<u32>),
+    /// The service is none that is served, or it asks for alternate access or a named list. With the invoke id.
+    #[error("the service is not known")]
+    UnknownService(u32),
+    /// More than 32 variables are read or written. With the invoke id.
+    #[error("there are too many variables")]
+    TooMany(u32),
+    /// There is no room for the request.
+    #[error("out of memory")]
+    OutOfMemory,
+}
+
+impl MmsFault {
+    /// The fault's number, 30 to 32 in the order of the faults; None for want of memory.
+    pub fn code(self) -> Option<u8>
+        ensures { result ≡ code_of self }
+    {
+        match self {
+            MmsFault::BadPdu(_) => Some(30),
+            MmsFault::UnknownService(_) => Some(31),
+            MmsFault::TooMany(_) => Some(32),
+            MmsFault::OutOfMemory => None,
+        }
+    }
+}
+
+/// Why a part of a request is not read, before its invoke id is known.
+#[derive(Clone, Copy, Debug, PartialEq, Eq)]
+pub enum Refusal {
+    /// It is badly spelled.
+    Bad,
+    /// It is spelled, and not served.
+    Unknown,
+    /// It has too many variables.
+    Many,
+    /// There is no room for it.
+    OutOfMemory,
+}
+
+impl From<AllocError> for Refusal {
+    ghost use Rattle.bay_mms.specs.declared.fault.Refusal.TheVariants.{OutOfMemory};
+
+    ghost from_gives = { λ _ e. e ≡ OutOfMemory };
+
+    fn from(_error: AllocError) -> Refusal {
+        Refusal::OutOfMemory
     }
 }

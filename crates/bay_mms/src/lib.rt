@@ -1,14 +1,23 @@
 // The Manufacturing Message Specification (ISO 9506-2) in the profile of IEC 61850-8-1: data and types of named variables,
 // and their canonical texts in the Basic Encoding Rules.
 //
-// `data`: data and types as trees. `value`: those of a row of the tree, written as they stand. `response`: responses and their
-// texts. `fault`: why nothing is written. `laws`: what is written is read back.
+// `request`: what a client asks, read from octets. `data`: data and types as trees. `value`: those of a row of the tree, written
+// as they stand. `response`: responses and their texts. `report`: the reports of controls. `page`: how long a page of names is.
+// `fault`: why nothing is read or written. `laws`: what is written is read back. Within the crate `service`, `access`, `received`
+// and `initiate` read the parts of requests.
 #![tactic(auto)]
 
+mod access;
 pub mod data;
 pub mod fault;
+mod initiate;
 pub mod laws;
 mod leaf;
+pub mod page;
 mod put;
+mod received;
+pub mod report;
+pub mod request;
 pub mod response;
+mod service;
 pub mod value;

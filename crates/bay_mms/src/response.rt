@@ -3,10 +3,10 @@ ghost use Rattle.std.specs.Prelude.{◌≡◌, ◌≤◌, ◌<◌, ◌++◌, fal
 ghost use Rattle.bay_base.specs.Exact.{Gives};
 ghost use Rattle.bay_ber.specs.Writing.{element, integer_octets, truth_octets};
 ghost use Rattle.bay_tree.specs.Rows.{IsHandle};
-ghost use Rattle.bay_mms.specs.Tags.{context, constructed};
+ghost use Rattle.bay_mms.specs.Tags.{context, constructed, int_tag};
 ghost use Rattle.bay_mms.specs.Types.{type_text};
 ghost use Rattle.bay_mms.specs.Nodes.{type_at};
-ghost use Rattle.bay_mms.specs.Responses.{nesting_text, parameters_text, services_text, limits_text, detail_text, agreed_text, int_tag, confirmed, error_text, identity_text, names_text, read_text, reads_text, wrote_text, writes_text, class_text, id_text, reason_text, service_number, content_text, service_text, response_text, IsReadOf, IsOfTree, IsAnswerable};
+ghost use Rattle.bay_mms.specs.Responses.{nesting_text, parameters_text, services_text, limits_text, detail_text, agreed_text, confirmed, error_text, identity_text, names_text, read_text, reads_text, wrote_text, writes_text, class_text, id_text, reason_text, service_number, content_text, service_text, response_text, IsReadOf, IsOfTree, IsAnswerable};
 ghost use Rattle.bay_mms.specs.Writing.{Adds, Appends, written};
 
 use crate::fault::WriteFault;

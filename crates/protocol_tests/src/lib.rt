@@ -7,4 +7,8 @@ mod ber;
 #[cfg(test)]
 mod mms;
 #[cfg(test)]
+mod reports;
+#[cfg(test)]
+mod requests;
+#[cfg(test)]
 mod transport;

@@ -1,6 +1,8 @@
-use Rattle.std.proofs.Common.{ap}
+use Rattle.std.proofs.Common.{sym, ap}
 use Rattle.bay_ber.specs.Reading.{Reading}
-use Rattle.bay_ber.proofs.ValueLemmas.{part_in, whole_begins, not_empty}
+use Rattle.bay_ber.specs.Values.{part_in}
+use Rattle.bay_ber.proofs.ValueLemmas.{whole_begins, not_empty}
+use Rattle.bay_ber.proofs.ListingLemmas.{one_is, one_more, one_stop, is_nothing}
 use Rattle.bay_ber.proofs.values.whole_value.Goals as goal
 
 pub returns-then-is_empty-clause-only : goal.returns-then-is_empty-clause-only
@@ -12,3 +14,12 @@ returns-else-is_empty-clause-only c =
 
 pub returns-in-Err-clause-only : goal.returns-in-Err-clause-only
 returns-in-Err-clause-only c = λ tag content s. c.in-Err.ensures.only _ (whole_begins c.args.octets.now tag content s)
+
+pub returns-then-is_empty-clause-exact : goal.returns-then-is_empty-clause-exact
+returns-then-is_empty-clause-exact c = sym (one_is c.args.octets.now _ c.in-Ok.ensures.exact (is_nothing c.in-Ok.tlv.rest.now c.if-is_empty.ensures))
+
+pub returns-else-is_empty-clause-exact : goal.returns-else-is_empty-clause-exact
+returns-else-is_empty-clause-exact c = sym (one_more c.args.octets.now _ c.in-Ok.ensures.exact (not_empty c.in-Ok.tlv.rest.now c.if-is_empty.ensures))
+
+pub returns-in-Err-clause-exact : goal.returns-in-Err-clause-exact
+returns-in-Err-clause-exact c = sym (one_stop c.args.octets.now _ c.in-Err.ensures.exact)

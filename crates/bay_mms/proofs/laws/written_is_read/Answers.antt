@@ -1,4 +1,4 @@
-use Rattle.bay_mms.proofs.LawLemmas.{datum_spells, response_spells}
+use Rattle.bay_mms.proofs.LawLemmas.{datum_spells, response_spells, report_spells}
 use Rattle.bay_mms.proofs.laws.written_is_read.Goals as goal
 
 pub returns-clause-datum : goal.returns-clause-datum
@@ -6,3 +6,6 @@ returns-clause-datum c = datum_spells
 
 pub returns-clause-response : goal.returns-clause-response
 returns-clause-response c = response_spells
+
+pub returns-clause-report : goal.returns-clause-report
+returns-clause-report c = report_spells

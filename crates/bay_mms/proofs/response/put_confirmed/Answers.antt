@@ -1,8 +1,8 @@
 use Rattle.std.proofs.lemmas.Result.{err_from_is_err_and}
 use Rattle.bay_ber.specs.Writing.{element, integer_octets}
-use Rattle.bay_mms.specs.Tags.{constructed}
+use Rattle.bay_mms.specs.Tags.{constructed, int_tag}
 use Rattle.std.proofs.Common.{pos}
-use Rattle.bay_mms.specs.Responses.{int_tag, service_number, content_text}
+use Rattle.bay_mms.specs.Responses.{service_number, content_text}
 use Rattle.bay_mms.proofs.ResponseLemmas.{last_fault, around_fault, placed}
 use Rattle.bay_mms.proofs.response.put_confirmed.Goals as goal
 

@@ -2,7 +2,8 @@ use Rattle.std.proofs.Common.{◌+◌, ◌++◌, List, ℕ, drop, sym, ap, ◌�
 use Rattle.std.proofs.lemmas.Result.{err_from_is_err_and}
 use Rattle.std.proofs.lemmas.List.{drop_more}
 use Rattle.bay_ber.specs.Writing.{element}
-use Rattle.bay_mms.specs.Responses.{visible_tag, names_text}
+use Rattle.bay_mms.specs.Tags.{visible_tag}
+use Rattle.bay_mms.specs.Responses.{names_text}
 use Rattle.bay_mms.proofs.ResponseLemmas.{remains_fault}
 use Rattle.bay_mms.proofs.response.put_names.Goals as goal
 

@@ -1,0 +1,40 @@
+-- What a client asks (ISO 9506-2): data without where they lie in memory.
+use Rattle.std.specs.Prelude.{ℕ, ℤ, Bool, Option, List}
+use Rattle.bay_mms.specs.Data.{Datum}
+use Rattle.bay_mms.specs.declared.request.Proposal.{Proposal}
+
+-- the name of an object (ObjectName): of the device's own, of a domain, or of the association
+pub data Naming : Type 0 where
+  vmd : List ℕ → Naming
+  domain : List ℕ → List ℕ → Naming
+  association : List ℕ → Naming
+
+-- where names are asked for (objectScope)
+pub data Place : Type 0 where
+  whole_vmd : Place
+  in_domain : List ℕ → Place
+  of_association : Place
+
+-- a variable that is named, and whether only a part of it is asked for (alternate access)
+pub record Variable : Type 0 where
+  pub name : Naming
+  pub is_alternate : Bool
+
+-- the variables of a read or a write: each by its name, or all by the name of a list
+pub data Access : Type 0 where
+  variables : List Variable → Access
+  named_list : Access
+
+-- a service that is read here, and what it is asked for
+pub data Asking : Type 0 where
+  identify : Asking
+  names : ℤ → Place → Option (List ℕ) → Asking
+  attributes : Naming → Asking
+  read : List Naming → Asking
+  write : List Naming → List Datum → Asking
+
+-- a request; one that is confirmed has an invoke id
+pub data Message : Type 0 where
+  initiate : Proposal → Message
+  conclude : Message
+  confirmed : ℕ → Asking → Message

@@ -1,0 +1,182 @@
+// The request that opens an association (ISO 9506-2, InitiateRequestPDU).
+ghost use Rattle.std.specs.Prelude.{◌≡◌, ◌≤◌, true, length, map, option_map, OnSome, IfNone};
+ghost use Rattle.std.specs.Option.{option_copied};
+ghost use Rattle.bay_ber.specs.Content.{bits_of};
+ghost use Rattle.bay_ber.specs.Values.{part_of};
+ghost use Rattle.bay_mms.specs.Grammar.{some_of, integer_under, outstanding_as, is_detail, parameters_of, parameters_as, services_as, with_known, detail_of, detail_in, size_of, nesting_of, proposal_of, initiate_of};
+
+use crate::request::Proposal;
+use bay_ber::content::{Bits, bits_of, int_of};
+use bay_ber::tag::Tag;
+use bay_ber::values::{Few, Value, Values};
+
+// The integer under a tag.
+#[tactic(auto, unfolding(crate::specs::Grammar::integer_under))]
+fn integer_under(tag: Tag, value: &Value<'_>) -> Option<i64>
+    ensures { result ≡ integer_under tag (part_of value.now) }
+{
+    let content = value.under(tag)?;
+    int_of(content).ok()
+}
+
+fn some_of(number: i64) -> Option<i64>
+    ensures { result ≡ some_of number }
+{
+    if number > 0 { Some(number) } else { None }
+}
+
+// How many requests may be outstanding.
+#[tactic(auto, unfolding(crate::specs::Grammar::outstanding_as))]
+fn outstanding_as(tag: Tag, value: &Value<'_>) -> Option<i64>
+    ensures { result ≡ outstanding_as tag (part_of value.now) }
+{
+    let number = integer_under(tag, value)?;
+    some_of(number)
+}
+
+// The first three of the bits.
+fn parameters_of(bits: Bits<'_>) -> Option<u8>
+    ensures { result ≡ parameters_of (bits_of bits.entry) }
+{
+    if bits.count < 3 {
+        return None;
+    }
+    match bits.octets {
+        [first, ..] => Some(first / 32 * 32),
+        [] => None,
+    }
+}
+
+// The first three parameter conformance blocks.
+#[tactic(auto, unfolding(crate::specs::Grammar::parameters_as))]
+fn parameters_as(value: &Value<'_>) -> Option<u8>
+    ensures { result ≡ parameters_as (part_of value.now) }
+{
+    let bits = bits_of(value.under(Tag::context(1))?).ok()?;
+    parameters_of(bits)
+}
+
+// The services that the one who calls has.
+#[tactic(auto, unfolding(crate::specs::Grammar::services_as))]
+fn services_as<'a>(value: &Value<'a>) -> Option<Bits<'a>>
+    ensures { option_map bits_of result ≡ services_as (part_of value.now) }
+{
+    bits_of(value.under(Tag::context(2))?).ok()
+}
+
+fn detail_of(parts: &[Value<'_>]) -> Option<u8>
+    ensures { result ≡ detail_of (map part_of parts.now) }
+{
+    match parts {
+        [version, parameters, services] => {
+            integer_under(Tag::context(0), version)?;
+            let first = parameters_as(parameters)?;
+            services_as(services)?;
+            Some(first)
+        }
+        _ => None,
+    }
+}
+
+// Whether a field of the detail is one that is known.
+fn is_detail(value: &Value<'_>) -> bool
+    ensures { result ≡ is_detail (part_of value.now) }
+{
+    value.tag.is(Tag::context(0)) || value.tag.is(Tag::context(1)) || value.tag.is(Tag::context(2))
+}
+
+// Puts a field behind those that are known, if it is one; None where they are five.
+fn add_known<'a>(known: &mut Few<'a>, value: Value<'a>) -> Option<()>
+    requires { length known.old ≤ 5 }
+    ensures some { OnSome result ((known.new ≡ with_known known.old (part_of value.entry)) × (length known.new ≤ 5)) }
+    ensures none { IfNone result ((is_detail (part_of value.entry) ≡ true) × (5 ≤ length known.old)) }
+{
+    if is_detail(&value) {
+        known.push(value)?;
+    }
+    Some(())
+}
+
+// The version, the parameters and the services (ISO 9506-2, InitRequestDetail), among other fields.
+fn detail_in(octets: &[u8]) -> Option<u8>
+    ensures { result ≡ detail_in octets.now }
+{
+    let mut known = Few::new();
+    let mut values = Values::new(octets);
+    loop {
+        match values.next_value() {
+            Ok(Some(value)) => {
+                match add_known(&mut known, value) {
+                    Some(()) => {}
+                    None => return None,
+                }
+            }
+            Ok(None) => return detail_of(known.as_slice()),
+            Err(_) => return None,
+        }
+    }
+}
+
+// The size that is proposed, if one is.
+fn size_of(value: Option<&Value<'_>>) -> Option<Option<i64>>
+    ensures { result ≡ size_of (option_map part_of (option_copied value.entry)) }
+{
+    match value {
+        Some(value) => Some(Some(integer_under(Tag::context(0), value)?)),
+        None => Some(None),
+    }
+}
+
+// The nesting that is proposed, if one is.
+fn nesting_of(value: Option<&Value<'_>>) -> Option<Option<i64>>
+    ensures { result ≡ nesting_of (option_map part_of (option_copied value.entry)) }
+{
+    match value {
+        Some(value) => Some(Some(integer_under(Tag::context(3), value)?)),
+        None => Some(None),
+    }
+}
+
+#[tactic(auto, unfolding(crate::specs::Grammar::proposal_of))]
+fn proposal_of(
+    size: Option<&Value<'_>>,
+    calling: &Value<'_>,
+    called: &Value<'_>,
+    nesting: Option<&Value<'_>>,
+    detail: &Value<'_>,
+) -> Option<Proposal>
+    ensures { result ≡ proposal_of (option_map part_of (option_copied size.entry)) (part_of calling.now) (part_of called.now) (option_map part_of (option_copied nesting.entry)) (part_of detail.now) }
+{
+    let size = size_of(size)?;
+    let calling = outstanding_as(Tag::context(1), calling)?;
+    let called = outstanding_as(Tag::context(2), called)?;
+    let nesting = nesting_of(nesting)?;
+    let parameters = detail_in(detail.under(Tag::context_constructed(4))?)?;
+    Some(Proposal {
+        size,
+        calling,
+        called,
+        nesting,
+        parameters,
+    })
+}
+
+/// The proposal that values are.
+pub(crate) fn initiate_of(parts: &[Value<'_>]) -> Option<Proposal>
+    ensures { result ≡ initiate_of (map part_of parts.now) }
+{
+    match parts {
+        [calling, called, detail] => proposal_of(None, calling, called, None, detail),
+        [first, second, third, detail] => {
+            if first.tag.is(Tag::context(0)) {
+                proposal_of(Some(first), second, third, None, detail)
+            } else {
+                proposal_of(None, first, second, Some(third), detail)
+            }
+        }
+        [size, calling, called, nesting, detail] => {
+            proposal_of(Some(size), calling, called, Some(nesting), detail)
+        }
+        _ => None,
+    }
+}

@@ -1,0 +1,115 @@
+// Data that is received (ISO 9506-2, Data).
+ghost use Rattle.std.specs.Prelude.{◌≡◌, ◌<◌, option_map, length, Some, None, IfSome, IfNone};
+ghost use Rattle.bay_base.specs.Exact.{Gives};
+ghost use Rattle.bay_ber.specs.Values.{part_of, each_in};
+ghost use Rattle.bay_mms.specs.Spelled.{spelled};
+ghost use Rattle.bay_mms.specs.Views.{datum_of, data_in};
+ghost use Rattle.bay_mms.specs.Grammar.{utc_as, string_as, simple_as, datum_as};
+
+use crate::data::{Data, push_data};
+use crate::fault::Refusal;
+use bay_ber::content::{bits_of, bool_of, int_of};
+use bay_ber::tag::Tag;
+use bay_ber::values::{Value, Values};
+use std::alloc::Global;
+
+// The octets of an array of eight.
+fn eight(octets: &[u8]) -> Option<[u8; 8]>
+    ensures some { IfSome result (λ found. found ≡ octets.now) }
+    ensures none { IfNone result (length octets.now ≡ 8 → ⊥) }
+{
+    if octets.len() != 8 {
+        return None;
+    }
+    let mut found = [0; 8];
+    found.copy_from_slice(octets);
+    Some(found)
+}
+
+// A moment.
+#[tactic(auto, unfolding(crate::specs::Grammar::utc_as))]
+fn utc_as<'a>(value: &Value<'a>) -> Data<'a>
+    ensures { datum_of result ≡ utc_as (part_of value.now) }
+{
+    match eight(value.content) {
+        Some(octets) => Data::Utc(octets),
+        None => Data::Other(*value),
+    }
+}
+
+// Data whose content is taken as it is.
+#[tactic(auto, unfolding(crate::specs::Grammar::string_as))]
+fn string_as<'a>(value: &Value<'a>) -> Data<'a>
+    ensures { datum_of result ≡ string_as (part_of value.now) }
+{
+    if value.tag.is(Tag::context(9)) {
+        Data::Octets(value.content)
+    } else if value.tag.is(Tag::context(10)) {
+        Data::Text(value.content)
+    } else if value.tag.is(Tag::context(17)) {
+        utc_as(value)
+    } else {
+        Data::Other(*value)
+    }
+}
+
+// Data that is no structure.
+#[tactic(auto, unfolding(crate::specs::Grammar::simple_as))]
+fn simple_as<'a>(value: &Value<'a>) -> Option<Data<'a>>
+    ensures { option_map datum_of result ≡ simple_as (part_of value.now) }
+{
+    if value.tag.is(Tag::context(3)) {
+        let truth = bool_of(value.content).ok()?;
+        Some(Data::Truth(truth))
+    } else if value.tag.is(Tag::context(4)) {
+        let bits = bits_of(value.content).ok()?;
+        Some(Data::Bits(bits))
+    } else if value.tag.is(Tag::context(5)) {
+        let number = int_of(value.content).ok()?;
+        Some(Data::Integer(number))
+    } else if value.tag.is(Tag::context(6)) {
+        let number = int_of(value.content).ok()?;
+        Some(Data::Unsigned(number))
+    } else {
+        Some(string_as(value))
+    }
+}
+
+// Data that is at most so deep.
+#[cycle(received)]
+fn read_datum<'a>(alloc: Global, value: &Value<'a>, depth: u8) -> Result<Data<'a>, Refusal>
+    ensures { Gives Refusal.OutOfMemory datum_of result (spelled (datum_as depth (part_of value.now))) }
+{
+    if depth == 0 {
+        return Err(Refusal::Bad);
+    }
+    if value.tag.is(Tag::context_constructed(2)) {
+        let parts = read_data(alloc, value.content, depth - 1)?;
+        Ok(Data::Structure(parts))
+    } else {
+        simple_as(value).ok_or(Refusal::Bad)
+    }
+}
+
+/// The data that octets are, one after another, each at most so deep.
+#[cycle(received)]
+pub(crate) fn read_data<'a>(
+    alloc: Global,
+    octets: &'a [u8],
+    depth: u8,
+) -> Result<Vec<Data<'a>>, Refusal>
+    ensures { Gives Refusal.OutOfMemory (λ v. data_in v.items) result (spelled (each_in (datum_as depth) octets.now)) }
+{
+    let mut parts = Vec::new(alloc);
+    let mut values = Values::new(octets);
+    loop {
+        match values.next_value() {
+            Ok(Some(value)) => {
+                let part = read_datum(alloc, &value, depth)?;
+                push_data(&mut parts, part)?;
+            }
+            Ok(None) => return Ok(parts),
+            Err(_) => return Err(Refusal::Bad),
+        }
+    }
+}

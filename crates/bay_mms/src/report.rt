@@ -1,0 +1,258 @@
+// The reports of controls (IEC 61850-8-1, LastApplError and CommandTermination).
+ghost use Rattle.std.specs.Prelude.{◌≡◌, ◌≤◌, ◌<◌, ◌++◌, pos, codes, length, take, drop};
+ghost use Rattle.bay_ber.specs.Writing.{element, integer_octets};
+ghost use Rattle.bay_mms.specs.Tags.{context, constructed, visible_tag};
+ghost use Rattle.bay_mms.specs.Reports.{variable_text, origin_parts, origin_text, operate_front, operate_back, operate_parts, failure_front, failure_back, failure_parts, failure_name, item_name, failure_text, termination_text};
+ghost use Rattle.bay_mms.specs.Writing.{Adds, Appends, written};
+ghost use Rattle.bay_base.specs.Exact.{Gives};
+
+use crate::fault::WriteFault;
+use crate::leaf::position_octets;
+use crate::put::{put_around, put_bits, put_integer, put_octets, put_truth};
+use bay_ber::content::Bits;
+use bay_ber::tag::Tag;
+use bay_ber::writer::Writer;
+use bay_tree::leaf::Dbpos;
+use std::alloc::Global;
+
+/// Who operates (IEC 61850-7-3, Originator).
+#[derive(Clone, Copy, Debug)]
+pub struct Origin<'a> {
+    /// The category, orCat.
+    pub category: i8,
+    /// The identity, orIdent.
+    pub identity: &'a [u8],
+}
+
+/// What a control is asked for (IEC 61850-8-1, Oper).
+#[derive(Clone, Copy, Debug)]
+pub struct Operate<'a> {
+    /// On or off, ctlVal.
+    pub value: bool,
+    pub origin: Origin<'a>,
+    /// ctlNum.
+    pub number: u8,
+    /// The eight octets of a utc-time, T.
+    pub moment: [u8; 8],
+    pub is_test: bool,
+    /// The two bits of Check.
+    pub check: Dbpos,
+}
+
+/// Why a control is refused or ended (IEC 61850-8-1, LastApplError). Its Error is 0.
+#[derive(Clone, Copy, Debug)]
+pub struct ControlError<'a> {
+    /// The control, CntrlObj: its domain, `/` and its item.
+    pub object: &'a str,
+    pub origin: Origin<'a>,
+    /// ctlNum.
+    pub number: u8,
+    /// AddCause (IEC 61850-7-2).
+    pub cause: u8,
+}
+
+// Puts two tags around what was written since a place.
+fn put_both_around(
+    writer: &mut Writer,
+    start: usize,
+    inner: Tag,
+    outer: Tag,
+) -> Result<(), WriteFault>
+    requires start { start ≤ length writer.old }
+    requires inner { inner.number < 31 }
+    requires outer { outer.number < 31 }
+    ensures { Appends (take start writer.old) result writer.new (element outer (element inner (drop start writer.old))) }
+{
+    put_around(writer, start, inner)?;
+    put_around(writer, start, outer)
+}
+
+// Makes a list of one variable of its name, which was written since a place.
+fn put_variable_around(writer: &mut Writer, start: usize) -> Result<(), WriteFault>
+    requires { start ≤ length writer.old }
+    ensures { Appends (take start writer.old) result writer.new (variable_text (drop start writer.old)) }
+{
+    put_both_around(writer, start, Tag::context_constructed(0), Tag::sequence())?;
+    put_around(writer, start, Tag::context_constructed(0))
+}
+
+// Makes a report of a list of variables that was written since a place, and of the parts of a structure from the second
+// place on.
+fn put_report_around(writer: &mut Writer, start: usize, inner: usize) -> Result<(), WriteFault>
+    requires start { start ≤ inner }
+    requires inner { inner ≤ length writer.old }
+    ensures { Appends (take start writer.old) result writer.new
+        (element (constructed 3) (element (constructed 0) (drop start (take inner writer.old)
+        ++ element (constructed 0) (element (constructed 2) (drop inner writer.old))))) }
+{
+    let list = Tag::context_constructed(0);
+    put_both_around(writer, inner, Tag::context_constructed(2), list)?;
+    put_both_around(writer, start, list, Tag::context_constructed(3))
+}
+
+// Writes a small number under a context-specific tag.
+fn put_small(writer: &mut Writer, number: u8, value: u8) -> Result<(), WriteFault>
+    requires { number < 31 }
+    ensures { Appends writer.old result writer.new (element (context number) (integer_octets (pos value))) }
+{
+    put_integer(writer, number, i64::from(value))
+}
+
+fn put_category(writer: &mut Writer, origin: &Origin<'_>) -> Result<(), WriteFault>
+    ensures { Appends writer.old result writer.new (element (context 5) (integer_octets origin.now.category)) }
+{
+    put_integer(writer, 5, i64::from(origin.category))
+}
+
+fn put_origin_parts(writer: &mut Writer, origin: &Origin<'_>) -> Result<(), WriteFault>
+    ensures { Adds writer.old result writer.new (origin_parts origin.now) }
+{
+    put_category(writer, origin)?;
+    put_octets(writer, Tag::context(9), origin.identity)
+}
+
+fn put_origin(writer: &mut Writer, origin: &Origin<'_>) -> Result<(), WriteFault>
+    ensures { Adds writer.old result writer.new (origin_text origin.now) }
+{
+    let start = writer.len();
+    put_origin_parts(writer, origin)?;
+    put_around(writer, start, Tag::context_constructed(2))
+}
+
+fn put_operate_front(writer: &mut Writer, operate: &Operate<'_>) -> Result<(), WriteFault>
+    ensures { Adds writer.old result writer.new (operate_front operate.now) }
+{
+    put_truth(writer, 3, operate.value)?;
+    put_origin(writer, &operate.origin)?;
+    put_small(writer, 6, operate.number)
+}
+
+fn put_operate_back(writer: &mut Writer, operate: &Operate<'_>) -> Result<(), WriteFault>
+    ensures { Adds writer.old result writer.new (operate_back operate.now) }
+{
+    let check = Bits {
+        octets: position_octets(operate.check),
+        count: 2,
+    };
+    put_octets(writer, Tag::context(17), &operate.moment)?;
+    put_truth(writer, 3, operate.is_test)?;
+    put_bits(writer, 4, check)
+}
+
+fn put_operate(writer: &mut Writer, operate: &Operate<'_>) -> Result<(), WriteFault>
+    ensures { Adds writer.old result writer.new (operate_parts operate.now) }
+{
+    put_operate_front(writer, operate)?;
+    put_operate_back(writer, operate)
+}
+
+fn put_failure_front(writer: &mut Writer, failure: &ControlError<'_>) -> Result<(), WriteFault>
+    ensures { Adds writer.old result writer.new (failure_front failure.now) }
+{
+    put_octets(writer, Tag::context(10), failure.object.as_bytes())?;
+    put_integer(writer, 5, 0)
+}
+
+fn put_failure_back(writer: &mut Writer, failure: &ControlError<'_>) -> Result<(), WriteFault>
+    ensures { Adds writer.old result writer.new (failure_back failure.now) }
+{
+    put_origin(writer, &failure.origin)?;
+    put_small(writer, 6, failure.number)?;
+    put_small(writer, 5, failure.cause)
+}
+
+fn put_failure_parts(writer: &mut Writer, failure: &ControlError<'_>) -> Result<(), WriteFault>
+    ensures { Adds writer.old result writer.new (failure_parts failure.now) }
+{
+    put_failure_front(writer, failure)?;
+    put_failure_back(writer, failure)
+}
+
+fn failure_object() -> &'static str
+    ensures { result.now ≡ codes "LastApplError" }
+{
+    "LastApplError"
+}
+
+fn put_failure_name(writer: &mut Writer) -> Result<(), WriteFault>
+    ensures { Adds writer.old result writer.new (variable_text failure_name) }
+{
+    let start = writer.len();
+    put_octets(writer, Tag::context(0), failure_object().as_bytes())?;
+    put_variable_around(writer, start)
+}
+
+fn put_item_parts(writer: &mut Writer, domain: &str, item: &str) -> Result<(), WriteFault>
+    ensures { Adds writer.old result writer.new (element visible_tag domain.now ++ element visible_tag item.now) }
+{
+    put_octets(writer, Tag::universal(26), domain.as_bytes())?;
+    put_octets(writer, Tag::universal(26), item.as_bytes())
+}
+
+fn put_item(writer: &mut Writer, domain: &str, item: &str) -> Result<(), WriteFault>
+    ensures { Adds writer.old result writer.new (item_name domain.now item.now) }
+{
+    let start = writer.len();
+    put_item_parts(writer, domain, item)?;
+    put_around(writer, start, Tag::context_constructed(1))
+}
+
+fn put_item_name(writer: &mut Writer, domain: &str, item: &str) -> Result<(), WriteFault>
+    ensures { Adds writer.old result writer.new (variable_text (item_name domain.now item.now)) }
+{
+    let start = writer.len();
+    put_item(writer, domain, item)?;
+    put_variable_around(writer, start)
+}
+
+// Writes the report of a control that is refused or ended.
+fn put_failure(writer: &mut Writer, failure: &ControlError<'_>) -> Result<(), WriteFault>
+    ensures { Appends writer.old result writer.new (failure_text failure.now) }
+{
+    let start = writer.len();
+    put_failure_name(writer)?;
+    let inner = writer.len();
+    put_failure_parts(writer, failure)?;
+    put_report_around(writer, start, inner)
+}
+
+// Writes the report of a control that ended.
+fn put_termination(
+    writer: &mut Writer,
+    domain: &str,
+    item: &str,
+    operate: &Operate<'_>,
+) -> Result<(), WriteFault>
+    ensures { Appends writer.old result writer.new (termination_text domain.now item.now operate.now) }
+{
+    let start = writer.len();
+    put_item_name(writer, domain, item)?;
+    let inner = writer.len();
+    put_operate(writer, operate)?;
+    put_report_around(writer, start, inner)
+}
+
+/// The text of the report that a control is refused or ended (IEC 61850-8-1, LastApplError; ISO 9506-2, informationReport);
+/// TooLong where it would have 2^32 octets or more.
+pub fn write_failure(alloc: Global, failure: &ControlError<'_>) -> Result<Vec<u8>, WriteFault>
+    ensures { Gives WriteFault.OutOfMemory (λ octets. octets.items) result (written (failure_text failure.now)) }
+{
+    let mut writer = Writer::new(alloc);
+    put_failure(&mut writer, failure)?;
+    Ok(writer.finish())
+}
+
+/// The text of the report that a control of this item of a domain ended (IEC 61850-8-1, CommandTermination): alone where it
+/// did what was asked, and else behind a failure. TooLong where it would have 2^32 octets or more.
+pub fn write_termination(
+    alloc: Global,
+    domain: &str,
+    item: &str,
+    operate: &Operate<'_>,
+) -> Result<Vec<u8>, WriteFault>
+    ensures { Gives WriteFault.OutOfMemory (λ octets. octets.items) result (written (termination_text domain.now item.now operate.now)) }
+{
+    let mut writer = Writer::new(alloc);
+    put_termination(&mut writer, domain, item, operate)?;
+    Ok(writer.finish())
+}

@@ -1,0 +1,215 @@
+// Requests of clients.
+ghost use Rattle.std.specs.Prelude.{◌≡◌, map, option_map};
+ghost use Rattle.bay_base.specs.Exact.{Gives};
+ghost use Rattle.bay_ber.specs.Reading.{tlv_at};
+ghost use Rattle.bay_ber.specs.Values.{part_of};
+ghost use Rattle.bay_mms.specs.Requests as asked;
+ghost use Rattle.bay_mms.specs.Grammar.{or_bad, front_of, proposal_in, service_as, nothing, id_of, id_as, fault_of, with_id, confirmed_of, message_as, id_in, answer_to};
+ghost use Rattle.bay_mms.specs.RequestViews.{asking, message};
+
+use crate::data::Data;
+use crate::fault::{MmsFault, Refusal};
+use crate::initiate::initiate_of;
+use crate::service::service_as;
+use bay_ber::content::int_of;
+use bay_ber::tag::Tag;
+use bay_ber::tlv::read_tlv;
+use bay_ber::values::{Value, few_values, whole_value};
+use std::alloc::Global;
+
+/// The name of an object (ISO 9506-2, ObjectName), in any octets.
+#[derive(Clone, Copy, Debug)]
+pub enum Name<'a> {
+    /// A name of the device's own.
+    Vmd(&'a [u8]),
+    /// An item of a domain.
+    Domain { domain: &'a [u8], item: &'a [u8] },
+    /// A name of the association.
+    Association(&'a [u8]),
+}
+
+/// Where names are asked for (ISO 9506-2, GetNameList, objectScope).
+#[derive(Clone, Copy, Debug)]
+pub enum Scope<'a> {
+    Vmd,
+    Domain(&'a [u8]),
+    Association,
+}
+
+/// What is proposed for an association (ISO 9506-2, InitiateRequestPDU).
+#[derive(Clone, Copy, Debug)]
+pub struct Proposal {
+    /// The octets of the largest PDU.
+    pub size: Option<i64>,
+    /// How many requests of the one who calls may be outstanding, 1 or more.
+    pub calling: i64,
+    /// How many of the one who is called.
+    pub called: i64,
+    /// How deep data may nest.
+    pub nesting: Option<i64>,
+    /// The first three parameter conformance blocks, in the three highest bits; the others are 0.
+    pub parameters: u8,
+}
+
+/// A confirmed service that is asked for.
+#[derive(Drop)]
+pub enum Call<'a> {
+    /// Who makes the device.
+    Identify,
+    /// The names of the objects of a class, behind a name where one is given.
+    Names {
+        class: i64,
+        scope: Scope<'a>,
+        after: Option<&'a [u8]>,
+    },
+    /// The type of a variable.
+    Attributes(Name<'a>),
+    /// The values of at most 32 variables.
+    Read(Vec<Name<'a>>),
+    /// Values for at most 32 variables, as many as variables.
+    Write {
+        names: Vec<Name<'a>>,
+        values: Vec<Data<'a>>,
+    },
+}
+
+/// A request of a client.
+#[derive(Drop)]
+pub enum Request<'a> {
+    /// An association is to be opened.
+    Initiate(Proposal),
+    /// The association is to be closed.
+    Conclude,
+    /// A service is asked for, under an invoke id.
+    Confirmed { id: u32, call: Call<'a> },
+}
+
+fn id_of(number: i64) -> Option<u32>
+    ensures { result ≡ id_of number }
+{
+    u32::try_from(number).ok()
+}
+
+// The invoke id that a value is.
+#[tactic(auto, unfolding(crate::specs::Grammar::id_as))]
+fn id_as(value: &Value<'_>) -> Option<u32>
+    ensures { result ≡ id_as (part_of value.now) }
+{
+    let number = int_of(value.under(Tag::universal(2))?).ok()?;
+    id_of(number)
+}
+
+// The value at the front of octets.
+fn front_of(octets: &[u8]) -> Option<Value<'_>>
+    ensures { option_map part_of result ≡ front_of (tlv_at octets.now) }
+{
+    let tlv = read_tlv(octets).ok()?;
+    Some(Value {
+        tag: tlv.tag,
+        content: tlv.content,
+    })
+}
+
+// The invoke id, where one can be read.
+#[tactic(auto, unfolding(crate::specs::Grammar::id_in))]
+fn id_in(octets: &[u8]) -> Option<u32>
+    ensures { result ≡ id_in octets.now }
+{
+    let pdu = front_of(octets)?;
+    let id = front_of(pdu.under(Tag::context_constructed(0))?)?;
+    id_as(&id)
+}
+
+fn fault_of(known: Option<u32>, id: u32, refusal: Refusal) -> MmsFault
+    ensures { result ≡ fault_of known id refusal }
+{
+    match refusal {
+        Refusal::Bad => MmsFault::BadPdu(known),
+        Refusal::Unknown => MmsFault::UnknownService(id),
+        Refusal::Many => MmsFault::TooMany(id),
+        Refusal::OutOfMemory => MmsFault::OutOfMemory,
+    }
+}
+
+// The request for a service under an invoke id.
+fn with_id<'a>(
+    alloc: Global,
+    known: Option<u32>,
+    id: u32,
+    service: &Value<'a>,
+) -> Result<Request<'a>, MmsFault>
+    ensures { Gives MmsFault.OutOfMemory message result (with_id known id (service_as (part_of service.now))) }
+{
+    match service_as(alloc, service) {
+        Ok(call) => Ok(Request::Confirmed { id, call }),
+        Err(refusal) => Err(fault_of(known, id, refusal)),
+    }
+}
+
+// A request with an invoke id.
+fn confirmed_of<'a>(
+    alloc: Global,
+    known: Option<u32>,
+    parts: &[Value<'a>],
+) -> Result<Request<'a>, MmsFault>
+    ensures { Gives MmsFault.OutOfMemory message result (confirmed_of known (map part_of parts.now)) }
+{
+    match parts {
+        [id, service] => {
+            let id = id_as(id).ok_or(MmsFault::BadPdu(known))?;
+            with_id(alloc, known, id, service)
+        }
+        _ => Err(MmsFault::BadPdu(known)),
+    }
+}
+
+fn proposal_in(content: &[u8]) -> Option<Proposal>
+    ensures { result ≡ proposal_in content.now }
+{
+    let parts = few_values(content)?;
+    initiate_of(parts.as_slice())
+}
+
+fn conclude(known: Option<u32>, content: &[u8]) -> Result<Request<'_>, MmsFault>
+    ensures { Gives MmsFault.OutOfMemory message result (or_bad known (nothing content.now asked.conclude)) }
+{
+    if content.is_empty() {
+        Ok(Request::Conclude)
+    } else {
+        Err(MmsFault::BadPdu(known))
+    }
+}
+
+#[tactic(auto, unfolding(crate::specs::Grammar::message_as))]
+fn message_as<'a>(
+    alloc: Global,
+    known: Option<u32>,
+    value: &Value<'a>,
+) -> Result<Request<'a>, MmsFault>
+    ensures { Gives MmsFault.OutOfMemory message result (message_as known (part_of value.now)) }
+{
+    if value.tag.is(Tag::context_constructed(0)) {
+        let parts = few_values(value.content).ok_or(MmsFault::BadPdu(known))?;
+        confirmed_of(alloc, known, parts.as_slice())
+    } else if value.tag.is(Tag::context_constructed(8)) {
+        let proposal = proposal_in(value.content).ok_or(MmsFault::BadPdu(known))?;
+        Ok(Request::Initiate(proposal))
+    } else if value.tag.is(Tag::context(11)) {
+        conclude(known, value.content)
+    } else {
+        Err(MmsFault::BadPdu(known))
+    }
+}
+
+/// The request that octets are (ISO 9506-2, in the profile of IEC 61850-8-1), whose names, texts and data are slices of the
+/// octets. BadPdu where they are spelled as none, with the invoke id where one stands at their front; UnknownService for a
+/// service that is not served, for alternate access and for a named list; TooMany for more than 32 variables in a request that
+/// is spelled in all else. Data nests at most 10 deep.
+#[tactic(auto, unfolding(crate::specs::Grammar::answer_to))]
+pub fn read_request<'a>(alloc: Global, octets: &'a [u8]) -> Result<Request<'a>, MmsFault>
+    ensures { Gives MmsFault.OutOfMemory message result (answer_to octets.now) }
+{
+    let known = id_in(octets);
+    let value = whole_value(octets).ok_or(MmsFault::BadPdu(known))?;
+    message_as(alloc, known, &value)
+}

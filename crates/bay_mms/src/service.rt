@@ -1,0 +1,227 @@
+// The services that are asked for (ISO 9506-2, ConfirmedServiceRequest).
+ghost use Rattle.std.specs.Prelude.{◌≡◌, map, option_map};
+ghost use Rattle.bay_base.specs.Exact.{Gives};
+ghost use Rattle.bay_ber.specs.Values.{part_of};
+ghost use Rattle.bay_mms.specs.Requests as asked;
+ghost use Rattle.bay_mms.specs.Views.{data_in};
+ghost use Rattle.bay_mms.specs.Grammar.{nothing, listing_in, place_as, class_as, scope_as, names_of, attributes_as, read_as, read_of, written_with, write_of, is_unlisted, other_as, service_as};
+ghost use Rattle.bay_mms.specs.RequestViews.{place, accessed, asking};
+
+use crate::access::{Access, access_as, judged, name_in};
+use crate::data::Data;
+use crate::fault::Refusal;
+use crate::received::read_data;
+use crate::request::{Call, Scope};
+use bay_ber::content::int_of;
+use bay_ber::tag::{Class, Tag};
+use bay_ber::values::{Value, few_values, whole_value};
+use std::alloc::Global;
+
+// Data nests at most so deep.
+const DEPTH_MAX: u8 = 10;
+
+#[tactic(auto, unfolding(crate::specs::Grammar::place_as))]
+fn place_as<'a>(value: &Value<'a>) -> Option<Scope<'a>>
+    ensures { option_map place result ≡ place_as (part_of value.now) }
+{
+    if value.tag.is(Tag::context(0)) {
+        if value.content.is_empty() {
+            Some(Scope::Vmd)
+        } else {
+            None
+        }
+    } else if value.tag.is(Tag::context(1)) {
+        Some(Scope::Domain(value.content))
+    } else if value.tag.is(Tag::context(2)) {
+        if value.content.is_empty() {
+            Some(Scope::Association)
+        } else {
+            None
+        }
+    } else {
+        None
+    }
+}
+
+#[tactic(auto, unfolding(crate::specs::Grammar::class_as))]
+fn class_as(value: &Value<'_>) -> Option<i64>
+    ensures { result ≡ class_as (part_of value.now) }
+{
+    let class = whole_value(value.under(Tag::context_constructed(0))?)?;
+    int_of(class.under(Tag::context(0))?).ok()
+}
+
+#[tactic(auto, unfolding(crate::specs::Grammar::scope_as))]
+fn scope_as<'a>(value: &Value<'a>) -> Option<Scope<'a>>
+    ensures { option_map place result ≡ scope_as (part_of value.now) }
+{
+    let scope = whole_value(value.under(Tag::context_constructed(1))?)?;
+    place_as(&scope)
+}
+
+// The names that are asked for (ISO 9506-2, GetNameList).
+fn names_of<'a>(parts: &[Value<'a>]) -> Option<Call<'a>>
+    ensures { option_map asking result ≡ names_of (map part_of parts.now) }
+{
+    match parts {
+        [class, scope] => {
+            let class = class_as(class)?;
+            let scope = scope_as(scope)?;
+            let after = None;
+            Some(Call::Names {
+                class,
+                scope,
+                after,
+            })
+        }
+        [class, scope, after] => {
+            let class = class_as(class)?;
+            let scope = scope_as(scope)?;
+            let after = Some(after.under(Tag::context(2))?);
+            Some(Call::Names {
+                class,
+                scope,
+                after,
+            })
+        }
+        _ => None,
+    }
+}
+
+// The variable whose type is asked for (ISO 9506-2, GetVariableAccessAttributes).
+#[tactic(auto, unfolding(crate::specs::Grammar::attributes_as))]
+fn attributes_as<'a>(value: &Value<'a>) -> Result<Call<'a>, Refusal>
+    ensures { Gives Refusal.OutOfMemory asking result (attributes_as (part_of value.now)) }
+{
+    if value.tag.is(Tag::context_constructed(0)) {
+        let name = name_in(value.content).ok_or(Refusal::Bad)?;
+        Ok(Call::Attributes(name))
+    } else if value.tag.is(Tag::context_constructed(1)) {
+        name_in(value.content).ok_or(Refusal::Bad)?;
+        Err(Refusal::Unknown)
+    } else {
+        Err(Refusal::Bad)
+    }
+}
+
+#[tactic(auto, unfolding(crate::specs::Grammar::read_as))]
+fn read_as<'a>(alloc: Global, value: &Value<'a>) -> Result<Call<'a>, Refusal>
+    ensures { Gives Refusal.OutOfMemory asking result (read_as (part_of value.now)) }
+{
+    let octets = value
+        .under(Tag::context_constructed(1))
+        .ok_or(Refusal::Bad)?;
+    let spec = whole_value(octets).ok_or(Refusal::Bad)?;
+    let access = access_as(alloc, &spec)?;
+    let names = judged(alloc, access)?;
+    Ok(Call::Read(names))
+}
+
+// The variables that are read.
+fn read_of<'a>(alloc: Global, parts: &[Value<'a>]) -> Result<Call<'a>, Refusal>
+    ensures { Gives Refusal.OutOfMemory asking result (read_of (map part_of parts.now)) }
+{
+    match parts {
+        [spec] => read_as(alloc, spec),
+        [flag, spec] => {
+            flag.under(Tag::context(0)).ok_or(Refusal::Bad)?;
+            read_as(alloc, spec)
+        }
+        _ => Err(Refusal::Bad),
+    }
+}
+
+#[tactic(auto, unfolding(crate::specs::Grammar::written_with))]
+fn written_with<'a>(
+    alloc: Global,
+    access: Access<'a>,
+    values: Vec<Data<'a>>,
+) -> Result<Call<'a>, Refusal>
+    ensures { Gives Refusal.OutOfMemory asking result (written_with (accessed access.entry) (data_in values.entry.items)) }
+{
+    match access {
+        Access::NamedList => Err(Refusal::Unknown),
+        Access::Variables(variables) => {
+            if variables.len() != values.len() {
+                return Err(Refusal::Bad);
+            }
+            let names = judged(alloc, Access::Variables(variables))?;
+            Ok(Call::Write { names, values })
+        }
+    }
+}
+
+// The variables that are written, and their data.
+fn write_of<'a>(alloc: Global, parts: &[Value<'a>]) -> Result<Call<'a>, Refusal>
+    ensures { Gives Refusal.OutOfMemory asking result (write_of (map part_of parts.now)) }
+{
+    match parts {
+        [spec, list] => {
+            let access = access_as(alloc, spec)?;
+            let octets = list.under(Tag::context_constructed(0)).ok_or(Refusal::Bad)?;
+            let values = read_data(alloc, octets, DEPTH_MAX)?;
+            written_with(alloc, access, values)
+        }
+        _ => Err(Refusal::Bad),
+    }
+}
+
+fn is_unlisted(tag: Tag) -> bool
+    ensures { result ≡ is_unlisted tag }
+{
+    match tag.class {
+        Class::ContextSpecific => !matches!(tag.number, 1 | 2 | 4 | 5 | 6),
+        Class::Universal | Class::Application | Class::Private => false,
+    }
+}
+
+#[tactic(auto, unfolding(crate::specs::Grammar::other_as))]
+fn other_as<'a>(value: &Value<'a>) -> Result<Call<'a>, Refusal>
+    ensures { Gives Refusal.OutOfMemory asking result (other_as (part_of value.now)) }
+{
+    if is_unlisted(value.tag) {
+        Err(Refusal::Unknown)
+    } else {
+        Err(Refusal::Bad)
+    }
+}
+
+fn identify(content: &[u8]) -> Option<Call<'_>>
+    ensures { option_map asking result ≡ nothing content.now asked.identify }
+{
+    if content.is_empty() {
+        Some(Call::Identify)
+    } else {
+        None
+    }
+}
+
+fn listing(content: &[u8]) -> Option<Call<'_>>
+    ensures { option_map asking result ≡ listing_in content.now }
+{
+    let parts = few_values(content)?;
+    names_of(parts.as_slice())
+}
+
+/// The service that a value asks for.
+#[tactic(auto, unfolding(crate::specs::Grammar::service_as))]
+pub(crate) fn service_as<'a>(alloc: Global, value: &Value<'a>) -> Result<Call<'a>, Refusal>
+    ensures { Gives Refusal.OutOfMemory asking result (service_as (part_of value.now)) }
+{
+    if value.tag.is(Tag::context_constructed(1)) {
+        listing(value.content).ok_or(Refusal::Bad)
+    } else if value.tag.is(Tag::context(2)) {
+        identify(value.content).ok_or(Refusal::Bad)
+    } else if value.tag.is(Tag::context_constructed(4)) {
+        let parts = few_values(value.content).ok_or(Refusal::Bad)?;
+        read_of(alloc, parts.as_slice())
+    } else if value.tag.is(Tag::context_constructed(5)) {
+        let parts = few_values(value.content).ok_or(Refusal::Bad)?;
+        write_of(alloc, parts.as_slice())
+    } else if value.tag.is(Tag::context_constructed(6)) {
+        let spec = whole_value(value.content).ok_or(Refusal::Bad)?;
+        attributes_as(&spec)
+    } else {
+        other_as(value)
+    }
+}
