@@ -12,8 +12,13 @@ const SECTION: &str =
     "bay = { domain = \"B\", vendor = \"V\", model = \"M\", revision = \"1\", scan_max_age_ms = 0 }\n";
 
 /// Two breakers, and two switches that are none.
-const SWITCHES: &str =
-    "switch = [{ id = \"B1\", kind = \"disconnector\", control = \"status\" }, { id = \"A1\", kind = \"breaker\", control = \"status\" }, { id = \"C1\", kind = \"earthing\", control = \"status\" }, { id = \"A2\", kind = \"breaker\", control = \"status\" }]\n";
+const SWITCHES: &str = "switch = [
+{ id = \"B1\", kind = \"disconnector\", control = \"status\" },
+{ id = \"A1\", kind = \"breaker\", control = \"status\" },
+{ id = \"C1\", kind = \"earthing\", control = \"status\" },
+{ id = \"A2\", kind = \"breaker\", control = \"status\" },
+]
+";
 
 /// The number of the refusal of a bay with so many switches, whose last lines are these; 1 for a bay.
 fn code_for(alloc: Global, count: u32, last: &str) -> Result<u8, Fail> {

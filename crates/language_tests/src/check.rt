@@ -158,14 +158,13 @@ fn slots(rt: HostRuntime) -> Result<(), Fail> {
         point: SwitchPoint::EnableOpen,
     };
     assert_eq!(rt; typed.variables.len(), 3);
-    for (variable, (name, origin, initial)) in typed.variables.iter().zip(
-        [
-            ("QA1_ENA_OPN", Some(enable), false),
-            ("X", None, true),
-            ("Y", None, false),
-        ]
-        .iter(),
-    ) {
+    for (variable, (name, origin, initial)) in typed.variables.iter().zip([
+        ("QA1_ENA_OPN", Some(enable), false),
+        ("X", None, true),
+        ("Y", None, false),
+    ]
+    .iter())
+    {
         assert_eq!(rt; variable.name.as_str(), *name);
         assert!(rt; variable.origin == *origin && variable.initial == *initial);
         assert!(rt; variable.writable, "{name}");
