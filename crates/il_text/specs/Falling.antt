@@ -1,6 +1,6 @@
 -- A duration in the terms of its grammar: numbers with units, one behind the other, the units falling
 -- (IEC 61131-3:2003, 2.2.3.1 and annex B.1.2.3.1).
-use Rattle.std.specs.Prelude.{◌≡◌, ◌<◌, ⊤, ℕ, ◌+◌, ◌*◌, Bool, true, false, List, [], ◌∷◌, ◌++◌, codes, Some}
+use Rattle.std.specs.Prelude.{◌≡◌, ◌<◌, ⊤, ℕ, ◌*◌, Bool, true, false, List, [], ◌∷◌, ◌++◌, codes, Some}
 use Rattle.std.specs.List.{flat_map, sum_by}
 use Rattle.bay_base.specs.Names.{same_name}
 use Rattle.il_text.specs.Literals.{number_of_part, milliseconds}
@@ -61,6 +61,7 @@ pub record IsDuration (octets : List ℕ) (ms : ℕ) : Type 0 where
   pub spelled : octets ≡ flat_map spelling (first ∷ more)
   pub summed : ms ≡ sum_by value (first ∷ more)
 
--- The milliseconds of these octets are those of a duration that they spell.
+-- These octets have so many milliseconds exactly where they are a duration of as many.
 abbrev pub DurationsFall : Type 0
-DurationsFall = (octets : List ℕ) (ms : ℕ) → milliseconds octets ≡ Some ms → IsDuration octets ms
+DurationsFall = (octets : List ℕ) (ms : ℕ)
+    → (milliseconds octets ≡ Some ms → IsDuration octets ms) × (IsDuration octets ms → milliseconds octets ≡ Some ms)

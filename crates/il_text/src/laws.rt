@@ -33,8 +33,8 @@ pub fn letters_may_be_respelled()
     ensures { LettersMayBeRespelled }
 {}
 
-/// What reads as a duration is numbers with units, one behind the other, the units falling, and its
-/// milliseconds are the sum of them (IEC 61131-3:2003, 2.2.3.1 and annex B.1.2.3.1).
+/// A duration is numbers with units, one behind the other, the units falling, and its milliseconds are the
+/// sum of them; what is spelled otherwise is no duration (IEC 61131-3:2003, 2.2.3.1 and annex B.1.2.3.1).
 pub fn durations_fall()
     ensures { DurationsFall }
 {}
