@@ -5,6 +5,7 @@ pub mod CaseReading
 pub mod CutLemmas
 pub mod DerivedLemmas
 pub mod DurationLemmas
+pub mod FallingLemmas
 pub mod FinishLemmas
 pub mod FormLemmas
 pub mod GrammarLemmas

@@ -2,6 +2,7 @@ pub mod Characters
 pub mod Code
 pub mod Declaring
 pub mod Durations
+pub mod Falling
 pub mod FormViews
 pub mod Forms
 pub mod Grammar

@@ -1,4 +1,5 @@
 // Laws of the definition of a text's program, each the contract of a function that does nothing.
+ghost use Rattle.il_text.specs.Falling.{DurationsFall};
 ghost use Rattle.il_text.specs.Grammar.{OneProgram};
 ghost use Rattle.il_text.specs.LetterCase.{LettersMayBeRespelled};
 ghost use Rattle.il_text.specs.Respelling.{BlanksMayBeRespelled, LineEndsMayBeRespelled};
@@ -30,4 +31,10 @@ pub fn line_ends_may_be_respelled()
 /// upper case, and has the same fault (IEC 61131-3:2003, 2.1.1).
 pub fn letters_may_be_respelled()
     ensures { LettersMayBeRespelled }
+{}
+
+/// A duration is numbers with units, one behind the other, the units falling, and its milliseconds are the
+/// sum of them; what is spelled otherwise is no duration (IEC 61131-3:2003, 2.2.3.1 and annex B.1.2.3.1).
+pub fn durations_fall()
+    ensures { DurationsFall }
 {}

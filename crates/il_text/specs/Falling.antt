@@ -1,0 +1,67 @@
+-- A duration in the terms of its grammar: numbers with units, one behind the other, the units falling
+-- (IEC 61131-3:2003, 2.2.3.1 and annex B.1.2.3.1).
+use Rattle.std.specs.Prelude.{◌≡◌, ◌<◌, ⊤, ℕ, ◌*◌, Bool, true, false, List, [], ◌∷◌, ◌++◌, codes, Some}
+use Rattle.std.specs.List.{flat_map, sum_by}
+use Rattle.bay_base.specs.Names.{same_name}
+use Rattle.il_text.specs.Literals.{number_of_part, milliseconds}
+
+pub data Unit : Type 0 where
+  days : Unit
+  hours : Unit
+  minutes : Unit
+  seconds : Unit
+  thousandths : Unit
+
+-- the letters of a unit, which may be written in either case
+abbrev pub letters : Unit → List ℕ
+letters days = codes "d"
+letters hours = codes "h"
+letters minutes = codes "m"
+letters seconds = codes "s"
+letters thousandths = codes "ms"
+
+-- the milliseconds of a unit
+abbrev pub size : Unit → ℕ
+size days = 86400000
+size hours = 3600000
+size minutes = 60000
+size seconds = 1000
+size thousandths = 1
+
+-- a part of a duration: the octets of its number, those of its unit's name, and what they stand for
+pub record Part : Type 0 where
+  pub digits : List ℕ
+  pub name : List ℕ
+  pub count : ℕ
+  pub unit : Unit
+
+abbrev pub spelling : Part → List ℕ
+spelling p = p.digits ++ p.name
+
+abbrev pub value : Part → ℕ
+value p = p.count * size p.unit
+
+-- The octets of this part are its number and its unit; behind another part, an `_` may stand before the number.
+pub record IsPart (behind : Bool) (p : Part) : Type 0 where
+  pub counted : number_of_part behind p.digits ≡ Some p.count
+  pub named : same_name p.name (letters p.unit) ≡ true
+
+-- the parts behind a part: each has a smaller unit than the one before it
+abbrev pub Fall : ℕ → List Part → Type 0
+Fall above [] = ⊤
+Fall above (p ∷ ps) = IsPart true p × (size p.unit < above) × Fall (size p.unit) ps
+
+-- These octets are a duration of so many milliseconds: at least one part, the units falling, spelled one behind the
+-- other; the milliseconds are their sum.
+pub record IsDuration (octets : List ℕ) (ms : ℕ) : Type 0 where
+  pub first : Part
+  pub more : List Part
+  pub begins : IsPart false first
+  pub falls : Fall (size first.unit) more
+  pub spelled : octets ≡ flat_map spelling (first ∷ more)
+  pub summed : ms ≡ sum_by value (first ∷ more)
+
+-- These octets have so many milliseconds exactly where they are a duration of as many.
+abbrev pub DurationsFall : Type 0
+DurationsFall = (octets : List ℕ) (ms : ℕ)
+    → (milliseconds octets ≡ Some ms → IsDuration octets ms) × (IsDuration octets ms → milliseconds octets ≡ Some ms)
