@@ -4,8 +4,7 @@ use bay_base::types::ElementaryType;
 use bay_config::bay::{Origin, Point, SwitchPoint};
 use il_check::check::check;
 use il_check::fault::CheckFault;
-use il_check::typed::{Source, TypedInstruction};
-use il_text::program::Operator;
+use il_check::typed::{Connective, Source, TypedInstruction};
 use il_text::read::read_program;
 use std::alloc::{AllocError, Global};
 use std::test::Fail;
@@ -44,7 +43,7 @@ fn outcome(alloc: Global, text: &str) -> Result<(u8, usize), Fail> {
     }
 }
 
-const TEXTS: [(&str, u8, usize); 17] = [
+const TEXTS: [(&str, u8, usize); 23] = [
     ("PROGRAM P\nEND_PROGRAM\n", 0, 0),
     ("PROGRAM P\nLD TRUE\nLDN b\nEND_PROGRAM\n", 70, 3),
     (
@@ -113,14 +112,24 @@ const TEXTS: [(&str, u8, usize); 17] = [
         3,
     ),
     ("PROGRAM P\nAND TRUE\nLD b\nEND_PROGRAM\n", 73, 2),
+    // What is outside of what is checked as yet.
+    ("PROGRAM P\nVAR\nx : INT;\nEND_VAR\nEND_PROGRAM\n", 61, 3),
+    (
+        "PROGRAM P\nVAR\nx : BOOL := 1;\nEND_VAR\nEND_PROGRAM\n",
+        61,
+        3,
+    ),
+    ("PROGRAM P\nLD TRUE\nNOT\nEND_PROGRAM\n", 61, 3),
+    ("PROGRAM P\nL: LD TRUE\nEND_PROGRAM\n", 61, 2),
+    ("PROGRAM P\nLD TRUE\nANDN b\nEND_PROGRAM\n", 61, 3),
+    ("PROGRAM P\nLD b\nLD 5\nEND_PROGRAM\n", 70, 2),
 ];
 
 #[test]
 fn texts(rt: HostRuntime) -> Result<(), Fail> {
     for (text, code, line) in TEXTS {
         let (found_code, found_line) = outcome(rt.alloc(), text)?;
-        assert_eq!(rt; found_code, code, "{text}");
-        assert_eq!(rt; found_line, line, "{text}");
+        assert!(rt; found_code == code && found_line == line, "{text}");
     }
     Ok(())
 }
@@ -175,11 +184,11 @@ fn slots(rt: HostRuntime) -> Result<(), Fail> {
             source: Source::Slot(2),
         },
         TypedInstruction::Combine {
-            operator: Operator::Or,
+            connective: Connective::Or,
             source: Source::Slot(1),
         },
         TypedInstruction::Combine {
-            operator: Operator::And,
+            connective: Connective::And,
             source: Source::Literal(false),
         },
         TypedInstruction::Store { slot: 0 },

@@ -1,9 +1,7 @@
-// Tests of the language's crates, by their public calls: `text` of il_text, `check` of il_check, `image` of il_image.
+// Tests of the language's crates, by their public calls: `check` of il_check, `image` of il_image.
 #![tactic(auto)]
 
 #[cfg(test)]
 mod check;
 #[cfg(test)]
 mod image;
-#[cfg(test)]
-mod text;

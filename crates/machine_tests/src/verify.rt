@@ -1,5 +1,4 @@
 // The depth of the stack, how many slots and timers there may be, and what comes back of a refused image.
-use bay_config::bay::Point;
 use il_image::decode::decode;
 use il_image::encode::encode;
 use il_verify::fault::VerifyFault;
@@ -24,12 +23,9 @@ fn octets_of(alloc: Global, variables: u16, timers: u16, code: &[u8]) -> Result<
     Ok(octets)
 }
 
-/// No point.
-const NO_POINTS: &[Point] = &[];
-
 /// The depth and the budget of an image that is accepted, or its fault.
 fn verdict(alloc: Global, octets: &[u8]) -> Result<Result<(u32, u32), VerifyFault>, Fail> {
-    match verify(alloc, decode(alloc, octets)?, NO_POINTS) {
+    match verify(alloc, decode(alloc, octets)?, &[]) {
         Ok(verified) => Ok(Ok((verified.depth(), verified.budget()))),
         Err(refused) => Ok(Err(refused.fault)),
     }
@@ -72,7 +68,7 @@ fn counts(rt: HostRuntime) -> Result<(), Fail> {
 fn a_refused_image_comes_back(rt: HostRuntime) -> Result<(), Fail> {
     let octets = octets_of(rt.alloc(), 1, 1, b"\x06\x01")?;
     let image = decode(rt.alloc(), octets.as_slice())?;
-    match verify(rt.alloc(), image, NO_POINTS) {
+    match verify(rt.alloc(), image, &[]) {
         Ok(_) => Err(Fail::new("a DROP of nothing is accepted")),
         Err(refused) => {
             let again = encode(rt.alloc(), &refused.image)?;
