@@ -20,6 +20,12 @@ const BAY: &str =
 switch = [{ id = \"QA1\", kind = \"breaker\", control = \"status\" }]
 ";
 
+/// What the next images begin with, in hexadecimal digits.
+#[derive(Drop)]
+struct Front<'a> {
+    hex: &'a str,
+}
+
 /// The first word of a line, and the others.
 fn first_word(line: &str) -> (&str, &str) {
     line.split_once(" ").unwrap_or((line, ""))
@@ -58,12 +64,12 @@ fn is_judged(
 }
 
 /// The case of a line, behind the front of its image.
-fn check(alloc: Global, points: &[Point], front: &str, line: &str) -> Result<()> {
+fn check(alloc: Global, points: &[Point], front: &Front, line: &str) -> Result<()> {
     let (verdict, rest) = first_word(line);
     let (first, rest) = first_word(rest);
     let (second, code) = first_word(rest);
     let code = octets_of(alloc, code)?;
-    let mut octets = octets_of(alloc, front)?;
+    let mut octets = octets_of(alloc, front.hex)?;
     octets.extend_from_slice(&u16::try_from(code.len())?.to_be_bytes())?;
     octets.extend_from_slice(code.as_slice())?;
     let (first, second) = (first.parse::<u64>()?, second.parse::<u64>()?);
@@ -78,15 +84,15 @@ fn main(rt: HostRuntime) -> Result<()> {
     let bay = read_bay(rt.alloc(), BAY)?;
     let mut text = String::new(rt.alloc());
     rt.reader().read_to_string(&mut text)?;
-    let mut front = "";
+    let mut front = Front { hex: "" };
     let mut images = 0u32;
     for line in text.as_str().lines() {
         let (word, rest) = first_word(line);
         match word {
             "#" => {}
-            "front" => front = rest,
+            "front" => front.hex = rest,
             _ => {
-                check(rt.alloc(), bay.points.as_slice(), front, line).context(line)?;
+                check(rt.alloc(), bay.points.as_slice(), &front, line).context(line)?;
                 images = images.saturating_add(1);
             }
         }
