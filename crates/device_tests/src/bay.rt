@@ -1,8 +1,7 @@
-// Names of nodes, bay files with too many switches, and what faults are told as.
+// The fields of a bay, bay files with too many switches, and what faults are told as.
 use crate::texts::bay;
 use bay_config::bay::{Control, SwitchKind};
 use bay_config::fault::BayFault;
-use bay_config::nodes::{interlocking_name, node_name};
 use bay_config::read::read_bay;
 use std::alloc::Global;
 use std::test::Fail;
@@ -10,15 +9,6 @@ use std::test::Fail;
 /// The section of a bay, and no more.
 const SECTION: &str =
     "bay = { domain = \"B\", vendor = \"V\", model = \"M\", revision = \"1\", scan_max_age_ms = 0 }\n";
-
-/// Two breakers, and two switches that are none.
-const SWITCHES: &str = "switch = [
-{ id = \"B1\", kind = \"disconnector\", control = \"status\" },
-{ id = \"A1\", kind = \"breaker\", control = \"status\" },
-{ id = \"C1\", kind = \"earthing\", control = \"status\" },
-{ id = \"A2\", kind = \"breaker\", control = \"status\" },
-]
-";
 
 /// The number of the refusal of a bay with so many switches, whose last lines are these; 1 for a bay.
 fn code_for(alloc: Global, count: u32, last: &str) -> Result<u8, Fail> {
@@ -60,28 +50,6 @@ fn fields(rt: HostRuntime) -> Result<(), Fail> {
             "{id}"
         );
         assert!(rt; switch.travel_ms == *travel, "{id}");
-    }
-    Ok(())
-}
-
-#[test]
-fn names_the_nodes_of_the_switches(rt: HostRuntime) -> Result<(), Fail> {
-    let mut text = String::from_str(rt.alloc(), SECTION)?;
-    text.push_str(SWITCHES)?;
-    let bay = read_bay(rt.alloc(), text.as_str())?;
-    for (place, (node, interlocking)) in [
-        ("XSWI1", "CILO1"),
-        ("XCBR1", "CILO2"),
-        ("XSWI2", "CILO3"),
-        ("XCBR2", "CILO4"),
-    ]
-    .iter()
-    .enumerate()
-    {
-        let found = node_name(rt.alloc(), &bay, place)?;
-        assert!(rt; found.as_str() == *node, "{node}");
-        let found = interlocking_name(rt.alloc(), &bay, place)?;
-        assert!(rt; found.as_str() == *interlocking, "{interlocking}");
     }
     Ok(())
 }

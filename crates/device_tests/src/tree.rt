@@ -1,10 +1,9 @@
-// A tree, call by call.
+// Which rows make a tree, and what faults are told as.
 use bay_base::text::Text;
 use bay_tree::fault::{NamesFault, TreeFault};
-use bay_tree::leaf::{Dbpos, Leaf};
+use bay_tree::leaf::Leaf;
 use bay_tree::row::Row;
 use bay_tree::search::is_tree;
-use bay_tree::tree::Tree;
 use std::alloc::{AllocError, Global};
 use std::test::Fail;
 
@@ -21,60 +20,6 @@ fn rows_of(alloc: Global, rows: &[(&str, bool)]) -> Result<Vec<Row>, AllocError>
         made.push(Row { name, leaf })?;
     }
     Ok(made)
-}
-
-/// A position with its quality, and another node.
-const ROWS: [(&str, bool); 5] = [
-    ("X", true),
-    ("X$Pos", true),
-    ("X$Pos$stVal", false),
-    ("X$Pos$q", false),
-    ("Y", false),
-];
-
-#[test]
-fn values_of_rows(rt: HostRuntime) -> Result<(), Fail> {
-    let mut tree = Tree::build(rt.alloc(), rows_of(rt.alloc(), ROWS.as_slice())?)?;
-    assert!(rt; tree.find("X$Po").err() == Some(TreeFault::NoSuchName));
-    for (name, is_set) in [
-        ("X", Err(TreeFault::WrongType)),
-        ("X$Pos$stVal", Ok(())),
-        ("Y", Ok(())),
-    ] {
-        let handle = tree.find(name)?;
-        assert!(rt; tree.set(handle, Leaf::Truth(true)) == is_set, "{name}");
-        let is_true = matches!(tree.get(handle), Some(Leaf::Truth(true)));
-        assert!(rt; is_true == is_set.is_ok(), "{name}");
-        let other = tree.set(handle, Leaf::Dbpos(Dbpos::On));
-        assert!(rt; other == Err(TreeFault::WrongType), "{name}");
-    }
-    Ok(())
-}
-
-#[test]
-fn rows_below_and_beside(rt: HostRuntime) -> Result<(), Fail> {
-    let tree = Tree::build(rt.alloc(), rows_of(rt.alloc(), ROWS.as_slice())?)?;
-    for (name, below, beside, word) in [
-        ("X", Some("X$Pos"), None, "X"),
-        ("X$Pos", Some("X$Pos$stVal"), None, "Pos"),
-        ("X$Pos$stVal", None, Some("X$Pos$q"), "stVal"),
-        ("X$Pos$q", None, None, "q"),
-        ("Y", None, None, "Y"),
-    ] {
-        let handle = tree.find(name)?;
-        let found = tree.below(handle);
-        assert!(rt;
-            found == below.and_then(|name| tree.find(name).ok()),
-            "{name}"
-        );
-        let found = tree.beside(handle);
-        assert!(rt;
-            found == beside.and_then(|name| tree.find(name).ok()),
-            "{name}"
-        );
-        assert!(rt; tree.word(handle) == word, "{name}");
-    }
-    Ok(())
 }
 
 #[test]
