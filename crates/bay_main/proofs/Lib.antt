@@ -1,5 +1,3 @@
 pub mod PieceLemmas
-pub mod ReadLemmas
 pub mod ReportLemmas
-pub mod SentLemmas
 pub mod WordLemmas

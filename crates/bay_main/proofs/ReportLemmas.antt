@@ -7,11 +7,11 @@ use Rattle.bay_config.specs.declared.bay.Switch.{Switch}
 use Rattle.bay_device.specs.Device.{State}
 use Rattle.bay_main.specs.Report.{switch_part, switches_text, LineAnswer, line_answer, TraceReport, DeviceReport, Reports, ReportsPart, Prints}
 use Rattle.bay_main.specs.Scenario.{content, lines_of, CutsLine}
-use Rattle.bay_main.specs.Sent.{Sends, SendsPart}
+use Rattle.bay_io.specs.Sent.{Sends, SendsPart}
 use Rattle.bay_main.specs.Trace.{trace_line_of}
-use Rattle.bay_main.specs.Watched.{Writing}
-use Rattle.bay_main.specs.declared.outbox.WriteFault.{WriteFault}
-use Rattle.bay_main.proofs.SentLemmas.{Sends-more, SendsPart-of_more, SendsPart-more, Sends-trans}
+use Rattle.bay_io.specs.Watched.{Writing}
+use Rattle.bay_io.specs.declared.outbox.WriteFault.{WriteFault}
+use Rattle.bay_io.proofs.SentLemmas.{Sends-more, SendsPart-of_more, SendsPart-more, Sends-trans}
 
 within : (ss : List Switch) (j : ℕ) → j < length ss → (x : Switch) × (slice_get ss j ≡ Some x)
 within [] j h = absurd (omega arith)

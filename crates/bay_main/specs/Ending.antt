@@ -1,6 +1,6 @@
 -- How a program ends by the answer of a replay.
 use Rattle.std.specs.Prelude.{ℕ, List, [], codes, Result, Ok, Err}
-use Rattle.bay_main.specs.declared.outbox.WriteFault.{WriteFault}
+use Rattle.bay_io.specs.declared.outbox.WriteFault.{WriteFault}
 
 -- the exit status, and what is written to standard error
 pub record EndingData : Type 0 where

@@ -2,9 +2,6 @@ pub mod Load
 pub mod Report
 pub mod Scenario
 pub mod ScenarioView
-pub mod Sent
 pub mod Trace
 pub mod TraceView
 pub mod Ending
-pub mod Input
-pub mod Watched

@@ -8,9 +8,9 @@ use Rattle.bay_device.specs.Device.{State, outcome}
 use Rattle.bay_device.specs.LookUps.{switch_place, may_open, may_close}
 use Rattle.bay_main.specs.Load.{load_of}
 use Rattle.bay_main.specs.Scenario.{ScenarioParts, scenario_of, lines_of}
-use Rattle.bay_main.specs.Sent.{SendsPart}
-use Rattle.bay_main.specs.Watched.{Writing}
-use Rattle.bay_main.specs.declared.outbox.WriteFault.{WriteFault}
+use Rattle.bay_io.specs.Sent.{SendsPart}
+use Rattle.bay_io.specs.Watched.{Writing}
+use Rattle.bay_io.specs.declared.outbox.WriteFault.{WriteFault}
 use Rattle.bay_main.specs.Trace.{LineData, blank, contact, scan, trace_line_of}
 use Rattle.bay_device.specs.declared.event.Event.{Event}
 use Rattle.bay_device.specs.declared.event.Event.TheVariants.{Contact, Scan}
@@ -18,7 +18,7 @@ use Rattle.bay_device.specs.declared.event.Step.{Step}
 use Rattle.bay_device.specs.declared.fault.LoadFault.{LoadFault}
 use Rattle.bay_device.specs.declared.fault.LoadFault.TheVariants.{Refused, OutOfMemory}
 use Rattle.bay_device.specs.declared.fault.StepFault.{StepFault}
-use Rattle.bay_main.specs.Input.{scenario_limit}
+use Rattle.bay_main.specs.Scenario.{scenario_limit}
 
 -- a refusal at a line of the program, or one that has none
 abbrev pub numbered_refusal : ℕ → ℕ → List ℕ

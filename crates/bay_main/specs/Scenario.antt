@@ -3,6 +3,10 @@ use Rattle.std.specs.Prelude.{◌≡◌, ℕ, ◌-◌, Bool, ◌==◌, List, [],
 use Rattle.std.specs.List.{concat, onto_first}
 use Rattle.std.specs.Str.{bytes_eq}
 
+-- the most octets that a scenario may have
+abbrev pub scenario_limit : ℕ
+scenario_limit = 16777216
+
 abbrev pub is_line_feed : ℕ → Bool
 is_line_feed b = b == 10
 

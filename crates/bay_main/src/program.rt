@@ -1,7 +1,7 @@
 // The program's way in and out: standard input, standard output, standard error and the exit status.
-use crate::reader::WatchedReader;
 use crate::replay::{exit_of, replay_run};
-use crate::writer::WatchedWriter;
+use bay_io::reader::WatchedReader;
+use bay_io::writer::WatchedWriter;
 use std::io;
 use std::process::ExitCode;
 

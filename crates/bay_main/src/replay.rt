@@ -1,22 +1,24 @@
 // Reads a scenario, replays it, and writes its report.
 ghost use Rattle.std.specs.Prelude.{◌≡◌, ◌+◌, ◌≤◌, length, true, OnOk, is_err};
-ghost use Rattle.bay_main.specs.Input.{scenario_limit};
 ghost use Rattle.bay_main.specs.Ending.{ending_of};
 ghost use Rattle.bay_main.specs.Report.{DeviceReport, IsLast, MayRefuse, LoadsReport, IsReport, IsReplay, Prints};
-ghost use Rattle.bay_main.specs.Scenario.{lines_of};
+ghost use Rattle.bay_main.specs.Scenario.{scenario_limit, lines_of};
 ghost use Rattle.bay_main.specs.ScenarioView.{scenario_view};
 
-use crate::input::{ReadFault, read_all};
 use crate::load::load_octets;
-use crate::outbox::{Outbox, WriteFault, write_last};
-use crate::reader::WatchedReader;
 use crate::report::{answer_line, refusal_text};
 use crate::scenario::{Scenario, cut_line, cut_scenario};
-use crate::writer::WatchedWriter;
 use bay_device::device::Device;
 use bay_device::fault::LoadFault;
+use bay_io::input::{ReadFault, read_all};
+use bay_io::outbox::{Outbox, WriteFault, write_last};
+use bay_io::reader::WatchedReader;
+use bay_io::writer::WatchedWriter;
 use std::alloc::Global;
 use std::io::{Read, Write};
+
+/// The most octets that a scenario may have.
+const SCENARIO_LIMIT: usize = 16_777_216;
 
 /// The status of a replay that met no fault.
 const CLEAN: u8 = 0;
@@ -130,7 +132,7 @@ pub fn replay_run<R: Read, W: Write>(
     ensures printed { Prints W.contents (IsReplay (R.remaining reader.old.inner) reader.new.has_failed) writer.old writer.new result }
     ensures reads { reader.new.reads ≤ reader.old.reads + scenario_limit + 1 }
 {
-    match read_all(alloc, reader) {
+    match read_all(alloc, reader, SCENARIO_LIMIT) {
         Ok(input) => replay_scenario(alloc, input.as_slice(), writer),
         Err(ReadFault::OutOfMemory) => write_text(writer, b"fault memory\n", FAULT),
         Err(ReadFault::TooLong) => write_text(writer, b"fault 121\n", FAULT),

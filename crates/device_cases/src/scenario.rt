@@ -1,8 +1,8 @@
 // Scenarios and their reports.
 use anyhow::{Context, Result, bail};
-use bay_main::reader::WatchedReader;
+use bay_io::reader::WatchedReader;
+use bay_io::writer::WatchedWriter;
 use bay_main::replay::replay_run;
-use bay_main::writer::WatchedWriter;
 use std::alloc::Global;
 
 /// The texts that the next case is made of.

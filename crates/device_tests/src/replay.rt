@@ -4,10 +4,10 @@ ghost use Rattle.std.specs.Io.{ReadsAtMost, WritesAtMost};
 ghost use Rattle.std.specs.Io.KnownBytes.{Keeps, ReadConsumes, WriteAppends};
 
 use crate::texts::{bay, logic};
-use bay_main::outbox::WriteFault;
-use bay_main::reader::WatchedReader;
+use bay_io::outbox::WriteFault;
+use bay_io::reader::WatchedReader;
+use bay_io::writer::WatchedWriter;
 use bay_main::replay::{exit_of, replay_run};
-use bay_main::writer::WatchedWriter;
 use std::alloc::Global;
 use std::io;
 use std::io::{ErrorKind, Read, Write};

@@ -2,7 +2,7 @@ use Rattle.std.proofs.Common.{◌≡◌, ◌∙◌, sym, ap, length, arith}
 use Rattle.std.proofs.lemmas.Bool.Decides.{nat_tests}
 use Rattle.bay_main.specs.Report.{DeviceReport}
 use Rattle.bay_main.specs.Scenario.{lines_of}
-use Rattle.bay_main.proofs.SentLemmas.{Sends-as, SendsPart-as, Appends-as}
+use Rattle.bay_io.proofs.SentLemmas.{Sends-as, SendsPart-as, Appends-as}
 use Rattle.bay_main.proofs.ReportLemmas.{Prints-err, Progress-step, Progress-line_cut, Progress-fault, Progress-fault_cut, Progress-memory, Progress-memory_cut, Progress-end, Progress-end_cut, Progress-load_cut, lines-cut, nil_from_length}
 use Rattle.bay_main.proofs.replay.replay_trace.Goals as goal
 

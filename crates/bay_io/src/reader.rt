@@ -1,0 +1,70 @@
+// A reader that is watched: nothing but a read changes what is known of it.
+ghost use Rattle.std.specs.Prelude.{◌≡◌, ◌+◌, ◌-◌, ◌^◌, ◌<◌, ◌≤◌, ◌||◌, false, is_err};
+ghost use Rattle.std.specs.Io.{ReadsAtMost};
+ghost use Rattle.std.specs.Io.KnownBytes.{ReadConsumes};
+
+use std::io;
+use std::io::Read;
+use std::marker::Model;
+
+/// A reader that counts its reads, and knows whether one has failed.
+#[derive(Drop)]
+pub struct WatchedReader<R> {
+    inner: R,
+    reads: u64,
+    has_failed: bool,
+}
+
+impl<R> Model for WatchedReader<R> {
+    ghost use Rattle.bay_io.specs.Watched.{Reading};
+
+    ghost Value = { Reading R };
+
+    ghost view = { λ w. record { inner = w.inner; reads = w.reads; has_failed = w.has_failed } };
+}
+
+impl<R> WatchedReader<R> {
+    /// A reader that was not read yet.
+    pub fn new(inner: R) -> Self
+        ensures { result ≡ record { inner = inner; reads = 0; has_failed = false } }
+    {
+        WatchedReader {
+            inner,
+            reads: 0,
+            has_failed: false,
+        }
+    }
+
+    /// How often it was read, counted up to 18,446,744,073,709,551,615.
+    pub fn reads(&self) -> u64
+        ensures { result ≡ self.now.reads }
+    {
+        self.reads
+    }
+
+    /// Whether a read has failed.
+    pub fn has_failed(&self) -> bool
+        ensures { result ≡ self.now.has_failed }
+    {
+        self.has_failed
+    }
+}
+
+impl<R: Read> Read for WatchedReader<R> {
+    ghost remaining = { λ w. R.remaining w.inner };
+
+    fn read(&mut self, buf: &mut [u8]) -> io::Result<usize>
+        ensures bound { ReadsAtMost result buf.new }
+        ensures bytes { ReadConsumes (R.remaining self.old.inner) (R.remaining self.new.inner) result buf.new }
+        ensures at_most_one { self.new.reads ≤ self.old.reads + 1 }
+        ensures counted { self.old.reads < 2 ^ 64 - 1 → self.new.reads ≡ self.old.reads + 1 }
+        ensures failed { self.new.has_failed ≡ (self.old.has_failed || is_err result) }
+    {
+        self.reads = self.reads.saturating_add(1);
+        let outcome = self.inner.read(buf);
+        if outcome.is_err() {
+            self.has_failed = true;
+        }
+        outcome
+    }
+}

@@ -1,0 +1,95 @@
+// A writer that is watched: nothing but a write or a flush changes what is known of it.
+ghost use Rattle.std.specs.Prelude.{◌≡◌, ◌||◌, true, false, is_ok, is_err, if◌then◌else◌};
+ghost use Rattle.std.specs.Io.{WritesAtMost};
+ghost use Rattle.std.specs.Io.KnownBytes.{WriteAppends, Keeps};
+ghost use Rattle.bay_io.specs.Watched.{write_fails};
+
+use std::io;
+use std::io::Write;
+use std::marker::Model;
+
+/// A writer that knows whether a write or a flush has failed, or a write took nothing of what it was given,
+/// and whether it was flushed since its last write.
+#[derive(Drop)]
+pub struct WatchedWriter<W> {
+    inner: W,
+    has_failed: bool,
+    is_flushed: bool,
+}
+
+impl<W> Model for WatchedWriter<W> {
+    ghost use Rattle.bay_io.specs.Watched.{Writing};
+
+    ghost Value = { Writing W };
+
+    ghost view = { λ w. record { inner = w.inner; has_failed = w.has_failed; is_flushed = w.is_flushed } };
+}
+
+impl<W> WatchedWriter<W> {
+    /// A writer to which nothing was written yet, and which counts as not flushed.
+    pub fn new(inner: W) -> Self
+        ensures { result ≡ record { inner = inner; has_failed = false; is_flushed = false } }
+    {
+        WatchedWriter {
+            inner,
+            has_failed: false,
+            is_flushed: false,
+        }
+    }
+
+    /// Whether a write or a flush has failed, or a write took nothing of what it was given.
+    pub fn has_failed(&self) -> bool
+        ensures { result ≡ self.now.has_failed }
+    {
+        self.has_failed
+    }
+
+    /// Whether it was flushed since its last write.
+    pub fn is_flushed(&self) -> bool
+        ensures { result ≡ self.now.is_flushed }
+    {
+        self.is_flushed
+    }
+}
+
+/// Whether a write of a text failed, or took nothing of it.
+fn write_fails(text: &[u8], outcome: &io::Result<usize>) -> bool
+    ensures { result ≡ write_fails text.now outcome.now }
+{
+    match outcome {
+        Ok(taken) => *taken == 0 && !text.is_empty(),
+        Err(_) => true,
+    }
+}
+
+impl<W: Write> Write for WatchedWriter<W> {
+    ghost contents = { λ w. W.contents w.inner };
+
+    fn write(&mut self, buf: &[u8]) -> io::Result<usize>
+        ensures bound { WritesAtMost result buf.now }
+        ensures bytes { WriteAppends (W.contents self.old.inner) (W.contents self.new.inner) result buf.now }
+        ensures failed { self.new.has_failed ≡ (self.old.has_failed || write_fails buf.now result) }
+        ensures flushed { self.new.is_flushed ≡ false }
+    {
+        let outcome = self.inner.write(buf);
+        if write_fails(buf, &outcome) {
+            self.has_failed = true;
+        }
+        self.is_flushed = false;
+        outcome
+    }
+
+    fn flush(&mut self) -> io::Result<()>
+        ensures bytes { Keeps (W.contents self.old.inner) (W.contents self.new.inner) }
+        ensures failed { self.new.has_failed ≡ (self.old.has_failed || is_err result) }
+        ensures flushed { self.new.is_flushed ≡ (if is_ok result then true else self.old.is_flushed) }
+    {
+        let outcome = self.inner.flush();
+        if outcome.is_ok() {
+            self.is_flushed = true;
+        } else {
+            self.has_failed = true;
+        }
+        outcome
+    }
+}

@@ -1,0 +1,29 @@
+// Octets as the cases spell them.
+use anyhow::Result;
+use std::alloc::Global;
+
+/// A line's first word, and the others.
+pub fn first_word(line: &str) -> (&str, &str) {
+    line.split_once(" ").unwrap_or((line, ""))
+}
+
+/// Appends what one part spells: octets, or one repeated.
+fn append_part(alloc: Global, part: &str, octets: &mut Vec<u8>) -> Result<()> {
+    let (hex, times) = part.split_once("*").unwrap_or((part, "1"));
+    let piece = hex::decode(alloc, hex)?;
+    for _ in 0..times.parse::<usize>()? {
+        octets.extend_from_slice(piece.as_slice())?;
+    }
+    Ok(())
+}
+
+/// The octets that a word spells.
+pub fn octets_of(alloc: Global, word: &str) -> Result<Vec<u8>> {
+    let mut octets = Vec::new(alloc);
+    if word != "-" {
+        for part in word.split("+") {
+            append_part(alloc, part, &mut octets)?;
+        }
+    }
+    Ok(octets)
+}
