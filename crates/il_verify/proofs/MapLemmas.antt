@@ -35,7 +35,7 @@ pub no_marks : (m : BTreeMap ℕ Frame) (place : ℕ) → IsEmpty m → marks_of
 unfolding marks_of
 no_marks m place e = ap (λ (es : List (ℕ × Frame)). option_map mark_of (lookup (is_at (nat_cmp place)) es)) e
 
-others_stay : (old mid : BTreeMap ℕ Frame) (place : ℕ) (w : Option Frame) → Updates nat_cmp old mid place w → (q : ℕ) → (q ≡ place → ⊥) → marks_of mid q ≡ marks_of old q
+pub others_stay : (old mid : BTreeMap ℕ Frame) (place : ℕ) (w : Option Frame) → Updates nat_cmp old mid place w → (q : ℕ) → (q ≡ place → ⊥) → marks_of mid q ≡ marks_of old q
 unfolding marks_of
 others_stay old mid place w u q ne = ap (option_map mark_of) (u.2 q (elsewhere place q ne))
 
@@ -43,13 +43,13 @@ now_is : (old new : BTreeMap ℕ Frame) (place : ℕ) (w : Option Frame) → Upd
 unfolding marks_of
 now_is old new place w u = ap (option_map mark_of) u.1
 
-pub pended : (old mid new : BTreeMap ℕ Frame) (place : ℕ) (o : Option Frame) (frame : Frame) (come : Mark) → o ≡ get_by (nat_cmp place) old
-    → Updates nat_cmp old mid place None → Updates nat_cmp mid new place (Some frame) → Grows come (option_map mark_of o) (mark_of frame) → Pends (marks_of old) (marks_of new) place come
-pended old mid new place o frame come was gone here grows = record {
+pub pended : (old new : BTreeMap ℕ Frame) (place : ℕ) (o : Option Frame) (frame : Frame) (come : Mark) → o ≡ get_by (nat_cmp place) old
+    → Updates nat_cmp old new place (Some frame) → Grows come (option_map mark_of o) (mark_of frame) → Pends (marks_of old) (marks_of new) place come
+pended old new place o frame come was here grows = record {
   mark = mark_of frame;
-  is = now_is mid new place (Some frame) here;
+  is = now_is old new place (Some frame) here;
   grows = subst (λ (v : Option Mark). Grows come v (mark_of frame)) (sym (mark_at old place o was)) grows;
-  others = λ q ne. others_stay mid new place (Some frame) here q ne ∙ others_stay old mid place None gone q ne;
+  others = others_stay old new place (Some frame) here;
 }
 
 pub clash_at : (old : BTreeMap ℕ Frame) (place : ℕ) (o : Option Frame) (kinds : List Kind) → o ≡ get_by (nat_cmp place) old → Clashing (option_map mark_of o) kinds → Clashing (marks_of old place) kinds
@@ -57,20 +57,20 @@ clash_at old place o kinds was c = subst (λ (v : Option Mark). Clashing v kinds
 
 -- ---- to the next place
 
-pub falls_to : (instr : Instr) (next : ℕ) (come : Mark) (old mid : BTreeMap ℕ Frame) (o : Option Frame) (m : Mark) → goes_on instr ≡ true → o ≡ get_by (nat_cmp next) old → Updates nat_cmp old mid next None → Grows come (option_map mark_of o) m
+pub falls_to : (instr : Instr) (next : ℕ) (come : Mark) (old mid : BTreeMap ℕ Frame) (o : Option Frame) (m : Mark) → goes_on instr ≡ true → o ≡ get_by (nat_cmp next) old → ((q : ℕ) → (q ≡ next → ⊥) → marks_of mid q ≡ marks_of old q) → Grows come (option_map mark_of o) m
     → Falls instr next come (marks_of old) (beside next (Some m) (marks_of mid))
 falls_to instr next come old mid o m on was gone grows to = elim (cases_eq to next) [
   | inl e ↦ inl ((on, e), (m, beside_here next to (Some m) (marks_of mid) e, subst (λ (v : Option Mark). Grows come v m) (sym (mark_at old next o was) ∙ ap (marks_of old) (sym e)) grows))
-  | inr ne ↦ inr ((λ h. ne h.1), beside_other next to (Some m) (marks_of mid) ne ∙ others_stay old mid next None gone to ne)
+  | inr ne ↦ inr ((λ h. ne h.1), beside_other next to (Some m) (marks_of mid) ne ∙ gone to ne)
 ]
 
-pub stays_so : (instr : Instr) (next : ℕ) (come : Mark) (old mid : BTreeMap ℕ Frame) (o : Option Frame) → goes_on instr ≡ false → o ≡ get_by (nat_cmp next) old → Updates nat_cmp old mid next None
+pub stays_so : (instr : Instr) (next : ℕ) (come : Mark) (old mid : BTreeMap ℕ Frame) (o : Option Frame) → goes_on instr ≡ false → o ≡ get_by (nat_cmp next) old → ((q : ℕ) → (q ≡ next → ⊥) → marks_of mid q ≡ marks_of old q)
     → Falls instr next come (marks_of old) (beside next (option_map mark_of o) (marks_of mid))
 stays_so instr next come old mid o off was gone to = inr (
   (λ h. let on : goes_on instr ≡ true = h.0 in cc),
   (elim (cases_eq to next) [
     | inl e ↦ beside_here next to (option_map mark_of o) (marks_of mid) e ∙ (sym (mark_at old next o was) ∙ ap (marks_of old) (sym e))
-    | inr ne ↦ beside_other next to (option_map mark_of o) (marks_of mid) ne ∙ others_stay old mid next None gone to ne
+    | inr ne ↦ beside_other next to (option_map mark_of o) (marks_of mid) ne ∙ gone to ne
   ]),
 )
 

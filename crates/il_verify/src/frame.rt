@@ -1,5 +1,7 @@
 // The frames of the places that are still to come.
-ghost use Rattle.std.specs.Prelude.{◌≡◌, ◌≢◌, ◌+◌, ◌<◌, ◌^◌, Some, None, length, reverse, OnOk, IfOk, IfErr, IfSome, IsSome, option_map, true};
+ghost use Rattle.std.specs.Prelude.{ℕ, ◌≡◌, ◌≢◌, ◌+◌, ◌<◌, ◌^◌, Some, None, length, reverse, OnOk, IfOk, IfErr, IfSome, IsSome, option_map, true};
+ghost use Rattle.std.specs.BTreeMap.{get_by};
+ghost use Rattle.std.specs.Ordering.{nat_cmp};
 ghost use Rattle.il_verify.specs.Frames.{Clashing, Falls, Grows, JumpClash, Jumps, Mark, Pends, beside, goes_on, joins, mark_of, marks_of};
 
 use crate::fault::VerifyFault;
@@ -36,37 +38,17 @@ fn join_all(kinds: &mut Vec<Kind>, others: &[Kind])
     }
 }
 
-// A frame after another path has come to its place.
-fn joined(frame: Frame, kinds: &[Kind], longest: u32) -> Result<Frame, VerifyFault>
-    ensures ok { IfOk result (λ new. Grows (record { kinds = reverse kinds.now; longest = longest }) (Some (mark_of frame)) (mark_of new)) }
-    ensures err { IfErr result (λ f. (f ≡ VerifyFault.DepthClash) × (length frame.kinds.items ≢ length kinds.now)) }
+// Another path comes to the place of a frame. A frame of another depth stays as it was.
+fn meet(frame: &mut Frame, kinds: &[Kind], longest: u32) -> Result<(), VerifyFault>
+    ensures ok { OnOk result (Grows (record { kinds = reverse kinds.now; longest = longest }) (Some (mark_of frame.old)) (mark_of frame.new)) }
+    ensures err { IfErr result (λ f. (f ≡ VerifyFault.DepthClash) × (length frame.old.kinds.items ≢ length kinds.now)) }
 {
-    let mut frame = frame;
     if frame.kinds.len() != kinds.len() {
         return Err(VerifyFault::DepthClash);
     }
     join_all(&mut frame.kinds, kinds);
     frame.longest = frame.longest.max(longest);
-    Ok(frame)
-}
-
-// The frame of a place after another path has come to it.
-fn framed(
-    alloc: Global,
-    old: Option<Frame>,
-    kinds: &[Kind],
-    longest: u32,
-) -> Result<Frame, VerifyFault>
-    ensures ok { IfOk result (λ new. Grows (record { kinds = reverse kinds.now; longest = longest }) (option_map mark_of old) (mark_of new)) }
-    ensures err { IfErr result (λ f. f ≢ VerifyFault.OutOfMemory → (f ≡ VerifyFault.DepthClash) × Clashing (option_map mark_of old) (reverse kinds.now)) }
-{
-    match old {
-        None => {
-            let kinds = copy_of(alloc, kinds)?;
-            Ok(Frame { kinds, longest })
-        }
-        Some(frame) => joined(frame, kinds, longest),
-    }
+    Ok(())
 }
 
 // A path comes to a place by a jump.
@@ -80,12 +62,11 @@ fn pend(
     ensures ok { OnOk result (Pends (marks_of pending.old) (marks_of pending.new) place (record { kinds = reverse kinds.now; longest = longest })) }
     ensures err { IfErr result (λ f. f ≢ VerifyFault.OutOfMemory → (f ≡ VerifyFault.DepthClash) × Clashing (marks_of pending.old place) (reverse kinds.now)) }
 {
-    let old = pending.remove(&place);
-    let frame = match framed(alloc, old, kinds, longest) {
-        Ok(frame) => frame,
-        Err(fault) => return Err(fault),
-    };
-    pending.insert(place, frame)?;
+    if let Some(frame) = pending.get_mut(&place) {
+        return meet(frame, kinds, longest);
+    }
+    let kinds = copy_of(alloc, kinds)?;
+    pending.insert(place, Frame { kinds, longest })?;
     Ok(())
 }
 
@@ -120,6 +101,17 @@ pub(crate) fn goes_on(instr: Instr) -> bool
     }
 }
 
+// What is pending at a place, which no longer is. Mostly nothing is, and the least place tells so.
+fn taken(pending: &mut BTreeMap<usize, Frame>, place: usize) -> Option<Frame>
+    ensures value { result ≡ get_by (nat_cmp place) pending.old }
+    ensures others { (q : ℕ) → (q ≡ place → ⊥) → marks_of pending.new q ≡ marks_of pending.old q }
+{
+    match pending.first_key_value() {
+        Some((first, _)) if *first <= place => pending.remove(&place),
+        _ => None,
+    }
+}
+
 /// The frame of the next place: what was pending there, and what goes on to it.
 pub(crate) fn fall(
     instr: Instr,
@@ -130,14 +122,14 @@ pub(crate) fn fall(
     ensures ok { IfOk result (λ behind. Falls instr next (mark_of frame) (marks_of pending.old) (beside next (option_map mark_of behind) (marks_of pending.new))) }
     ensures err { IfErr result (λ f. (f ≡ VerifyFault.DepthClash) × ((goes_on instr ≡ true) × Clashing (marks_of pending.old next) (mark_of frame).kinds)) }
 {
-    let old = pending.remove(&next);
+    let old = taken(pending, next);
     if !goes_on(instr) {
         return Ok(old);
     }
     match old {
         None => Ok(Some(frame)),
-        Some(other) => match joined(other, frame.kinds.as_slice(), frame.longest) {
-            Ok(merged) => Ok(Some(merged)),
+        Some(mut other) => match meet(&mut other, frame.kinds.as_slice(), frame.longest) {
+            Ok(()) => Ok(Some(other)),
             Err(fault) => return Err(fault),
         },
     }
