@@ -1,19 +1,14 @@
 -- The marks of the map of frames.
-use Rattle.std.proofs.Common.{◌≡◌, ℕ, Bool, true, false, cond, List, sym, ap, subst, ◌∙◌, arith, Option, Some, None, inl, inr}
-use Rattle.std.specs.Prelude.{option_map, ◌==◌}
-use Rattle.std.specs.BTreeMap.{BTreeMap, IsEmpty, Updates, get_by, is_at}
-use Rattle.std.specs.Map.{lookup}
-use Rattle.std.specs.Ordering.{nat_cmp}
+use Rattle.std.proofs.Common.{◌≡◌, ℕ, ◌<◌, Bool, true, false, cond, List, [], ◌∷◌, ◌++◌, length, slice_get, slice_index_or, slice_set, refl, sym, ap, subst, ◌∙◌, arith, Option, Some, None, inl, inr}
+use Rattle.std.specs.Prelude.{zero, suc, option_and_then, option_map, ◌==◌}
 use Rattle.std.proofs.lemmas.Bool.Decides.{nat_tests}
 use Rattle.std.proofs.lemmas.Bool.{cases_eq}
+use Rattle.std.proofs.lemmas.Option.{slice_get-get_or}
 use Rattle.il_image.specs.declared.instr.Instr.{Instr}
 use Rattle.il_image.specs.declared.kind.Kind.{Kind}
 use Rattle.il_verify.specs.declared.frame.Frame.{Frame}
 use Rattle.il_verify.specs.Refusals.{JumpsTo}
-use Rattle.il_verify.specs.Frames.{Clashing, Falls, Grows, Jumps, Mark, Marks, Pends, beside, goes_on, mark_of, marks_of}
-
-pub elsewhere : (k q : ℕ) → (q ≡ k → ⊥) → is_at (nat_cmp k) q ≡ false
-elsewhere k q ne = grind (arith, nat_tests)
+use Rattle.il_verify.specs.Frames.{Clashing, Falls, Grows, Jumps, Mark, Marks, Pends, beside, frame_at, goes_on, mark_of, marks_of}
 
 here_is : (p q : ℕ) → q ≡ p → (q == p) ≡ true
 here_is p q e = grind (arith, nat_tests)
@@ -27,44 +22,71 @@ beside_here p q mark marks e = ap (λ (b : Bool). cond b mark (marks q)) (here_i
 pub beside_other : {A : Type 0} (p q : ℕ) (mark : Option A) (marks : ℕ → Option A) → (q ≡ p → ⊥) → beside p mark marks q ≡ marks q
 beside_other p q mark marks ne = ap (λ (b : Bool). cond b mark (marks q)) (not_here p q ne)
 
-pub mark_at : (m : BTreeMap ℕ Frame) (place : ℕ) (o : Option Frame) → o ≡ get_by (nat_cmp place) m → marks_of m place ≡ option_map mark_of o
+set_there : {A : Type 0} (xs : List A) (place : ℕ) (x : A) → place < length xs → slice_get (slice_set xs place x) place ≡ Some x
+set_there [] place x less = absurd (omega arith)
+set_there (y ∷ xs) zero x less = refl
+set_there (y ∷ xs) (suc place) x less = set_there xs place x (omega arith)
+
+set_other : {A : Type 0} (xs : List A) (place q : ℕ) (x : A) → (q ≡ place → ⊥) → slice_get (slice_set xs place x) q ≡ slice_get xs q
+set_other [] place q x ne = refl
+set_other (y ∷ xs) zero zero x ne = absurd (ne refl)
+set_other (y ∷ xs) zero (suc q) x ne = refl
+set_other (y ∷ xs) (suc place) zero x ne = refl
+set_other (y ∷ xs) (suc place) (suc q) x ne = set_other xs place q x (λ e. ne (ap suc e))
+
+none_more : {A : Type 0} (xs : List (Option A)) (q : ℕ) → option_and_then (λ o. o) (slice_get (xs ++ None ∷ []) q) ≡ option_and_then (λ o. o) (slice_get xs q)
+none_more [] zero = refl
+none_more [] (suc q) = refl
+none_more (x ∷ xs) zero = refl
+none_more (x ∷ xs) (suc q) = none_more xs q
+
+pub mark_at : (m : List (Option Frame)) (place : ℕ) (o : Option Frame) → o ≡ frame_at m place → marks_of m place ≡ option_map mark_of o
 unfolding marks_of
 mark_at m place o e = ap (option_map mark_of) (sym e)
 
-pub no_marks : (m : BTreeMap ℕ Frame) (place : ℕ) → IsEmpty m → marks_of m place ≡ None
+pub no_marks : (m : List (Option Frame)) (place : ℕ) → m ≡ [] → marks_of m place ≡ None
 unfolding marks_of
-no_marks m place e = ap (λ (es : List (ℕ × Frame)). option_map mark_of (lookup (is_at (nat_cmp place)) es)) e
+no_marks m place e = ap (λ (l : List (Option Frame)). option_map mark_of (frame_at l place)) e
 
-pub others_stay : (old mid : BTreeMap ℕ Frame) (place : ℕ) (w : Option Frame) → Updates nat_cmp old mid place w → (q : ℕ) → (q ≡ place → ⊥) → marks_of mid q ≡ marks_of old q
+pub others_stay : (old : List (Option Frame)) (place : ℕ) (w : Option Frame) (q : ℕ) → (q ≡ place → ⊥) → marks_of (slice_set old place w) q ≡ marks_of old q
 unfolding marks_of
-others_stay old mid place w u q ne = ap (option_map mark_of) (u.2 q (elsewhere place q ne))
+others_stay old place w q ne = ap (λ (o : Option (Option Frame)). option_map mark_of (option_and_then (λ x. x) o)) (set_other old place q w ne)
 
-now_is : (old new : BTreeMap ℕ Frame) (place : ℕ) (w : Option Frame) → Updates nat_cmp old new place w → marks_of new place ≡ option_map mark_of w
+now_is : (old : List (Option Frame)) (place : ℕ) (w : Option Frame) → place < length old → marks_of (slice_set old place w) place ≡ option_map mark_of w
 unfolding marks_of
-now_is old new place w u = ap (option_map mark_of) u.1
+now_is old place w less = ap (λ (o : Option (Option Frame)). option_map mark_of (option_and_then (λ x. x) o)) (set_there old place w less)
 
-pub pended : (old new : BTreeMap ℕ Frame) (place : ℕ) (o : Option Frame) (frame : Frame) (come : Mark) → o ≡ get_by (nat_cmp place) old
-    → Updates nat_cmp old new place (Some frame) → Grows come (option_map mark_of o) (mark_of frame) → Pends (marks_of old) (marks_of new) place come
-pended old new place o frame come was here grows = record {
+-- a place behind the others, where nothing is pending
+pub one_more : (old : List (Option Frame)) (q : ℕ) → marks_of (old ++ None ∷ []) q ≡ marks_of old q
+unfolding marks_of
+one_more old q = ap (option_map mark_of) (none_more old q)
+
+-- a slot of a list is the frame at its place
+pub slot_at : (m : List (Option Frame)) (place : ℕ) (o : Option Frame) → place < length m → o ≡ slice_index_or m place o → o ≡ frame_at m place
+slot_at m place o less e = sym (ap (option_and_then (λ x. x)) (slice_get-get_or m place o less ∙ ap (λ (x : Option Frame). Some x) (sym e)))
+
+pub pended : (old grown : List (Option Frame)) (place : ℕ) (o w : Option Frame) (frame : Frame) (come : Mark) → ((q : ℕ) → marks_of grown q ≡ marks_of old q) → place < length grown → o ≡ frame_at grown place
+    → w ≡ Some frame → Grows come (option_map mark_of o) (mark_of frame) → Pends (marks_of old) (marks_of (slice_set grown place w)) place come
+pended old grown place o w frame come same less was is grows = record {
   mark = mark_of frame;
-  is = now_is old new place (Some frame) here;
-  grows = subst (λ (v : Option Mark). Grows come v (mark_of frame)) (sym (mark_at old place o was)) grows;
-  others = others_stay old new place (Some frame) here;
+  is = now_is grown place w less ∙ ap (option_map mark_of) is;
+  grows = subst (λ (v : Option Mark). Grows come v (mark_of frame)) (sym (mark_at grown place o was) ∙ same place) grows;
+  others = λ q ne. others_stay grown place w q ne ∙ same q;
 }
 
-pub clash_at : (old : BTreeMap ℕ Frame) (place : ℕ) (o : Option Frame) (kinds : List Kind) → o ≡ get_by (nat_cmp place) old → Clashing (option_map mark_of o) kinds → Clashing (marks_of old place) kinds
+pub clash_at : (old : List (Option Frame)) (place : ℕ) (o : Option Frame) (kinds : List Kind) → o ≡ frame_at old place → Clashing (option_map mark_of o) kinds → Clashing (marks_of old place) kinds
 clash_at old place o kinds was c = subst (λ (v : Option Mark). Clashing v kinds) (sym (mark_at old place o was)) c
 
 -- ---- to the next place
 
-pub falls_to : (instr : Instr) (next : ℕ) (come : Mark) (old mid : BTreeMap ℕ Frame) (o : Option Frame) (m : Mark) → goes_on instr ≡ true → o ≡ get_by (nat_cmp next) old → ((q : ℕ) → (q ≡ next → ⊥) → marks_of mid q ≡ marks_of old q) → Grows come (option_map mark_of o) m
+pub falls_to : (instr : Instr) (next : ℕ) (come : Mark) (old mid : List (Option Frame)) (o : Option Frame) (m : Mark) → goes_on instr ≡ true → o ≡ frame_at old next → ((q : ℕ) → (q ≡ next → ⊥) → marks_of mid q ≡ marks_of old q) → Grows come (option_map mark_of o) m
     → Falls instr next come (marks_of old) (beside next (Some m) (marks_of mid))
 falls_to instr next come old mid o m on was gone grows to = elim (cases_eq to next) [
   | inl e ↦ inl ((on, e), (m, beside_here next to (Some m) (marks_of mid) e, subst (λ (v : Option Mark). Grows come v m) (sym (mark_at old next o was) ∙ ap (marks_of old) (sym e)) grows))
   | inr ne ↦ inr ((λ h. ne h.1), beside_other next to (Some m) (marks_of mid) ne ∙ gone to ne)
 ]
 
-pub stays_so : (instr : Instr) (next : ℕ) (come : Mark) (old mid : BTreeMap ℕ Frame) (o : Option Frame) → goes_on instr ≡ false → o ≡ get_by (nat_cmp next) old → ((q : ℕ) → (q ≡ next → ⊥) → marks_of mid q ≡ marks_of old q)
+pub stays_so : (instr : Instr) (next : ℕ) (come : Mark) (old mid : List (Option Frame)) (o : Option Frame) → goes_on instr ≡ false → o ≡ frame_at old next → ((q : ℕ) → (q ≡ next → ⊥) → marks_of mid q ≡ marks_of old q)
     → Falls instr next come (marks_of old) (beside next (option_map mark_of o) (marks_of mid))
 stays_so instr next come old mid o off was gone to = inr (
   (λ h. let on : goes_on instr ≡ true = h.0 in cc),

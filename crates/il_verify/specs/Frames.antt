@@ -1,8 +1,5 @@
 -- What the code keeps of places that are still to come, and what one instruction makes of it.
-use Rattle.std.specs.Prelude.{ℕ, ◌≡◌, ◌≢◌, ◌+◌, ◌<◌, ◌≤◌, ◌==◌, ◌⊎◌, ◌↔◌, Bool, true, false, List, [], ◌∷◌, length, reverse, Option, Some, None, option_map, slice_get, if◌then◌else◌}
-use Rattle.std.specs.BTreeMap.{BTreeMap}
-use Rattle.std.specs.BTreeMap as tree
-use Rattle.std.specs.Ordering.{nat_cmp}
+use Rattle.std.specs.Prelude.{ℕ, ◌≡◌, ◌≢◌, ◌+◌, ◌<◌, ◌≤◌, ◌==◌, ◌⊎◌, ◌↔◌, Bool, true, false, List, [], ◌∷◌, length, reverse, Option, Some, None, option_and_then, option_map, slice_get, if◌then◌else◌}
 use Rattle.il_image.specs.declared.instr.Instr.{Instr}
 use Rattle.il_image.specs.declared.instr.Instr.TheVariants.{Halt, Push, Drop, Slot, Not, Combine, Compute, Compare, Widen, Jump, Timer}
 use Rattle.il_image.specs.declared.kind.Kind.{Kind}
@@ -45,8 +42,12 @@ mark_of f = record { kinds = reverse f.kinds.items; longest = f.longest }
 abbrev pub Marks : Type 0
 Marks = ℕ → Option Mark
 
-unfoldable pub marks_of : BTreeMap ℕ Frame → Marks
-marks_of pending place = option_map mark_of (tree.get nat_cmp pending place)
+-- the frame that is pending at a place, if there is one
+abbrev pub frame_at : List (Option Frame) → ℕ → Option Frame
+frame_at pending place = option_and_then (λ o. o) (slice_get pending place)
+
+unfoldable pub marks_of : List (Option Frame) → Marks
+marks_of pending place = option_map mark_of (frame_at pending place)
 
 -- what is known of one place beside what is known of the others
 abbrev pub beside : {A : Type 0} → ℕ → Option A → (ℕ → Option A) → ℕ → Option A

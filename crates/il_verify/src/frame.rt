@@ -1,15 +1,13 @@
 // The frames of the places that are still to come.
-ghost use Rattle.std.specs.Prelude.{ℕ, ◌≡◌, ◌≢◌, ◌+◌, ◌<◌, ◌^◌, Some, None, length, reverse, OnOk, IfOk, IfErr, IfSome, IsSome, option_map, true};
-ghost use Rattle.std.specs.BTreeMap.{get_by};
-ghost use Rattle.std.specs.Ordering.{nat_cmp};
-ghost use Rattle.il_verify.specs.Frames.{Clashing, Falls, Grows, JumpClash, Jumps, Mark, Pends, beside, goes_on, joins, mark_of, marks_of};
+ghost use Rattle.std.specs.Prelude.{ℕ, ◌-◌, ◌≡◌, ◌≢◌, ◌+◌, ◌<◌, ◌^◌, Some, None, length, reverse, OnOk, IfOk, IfErr, IfSome, IsSome, option_map, true};
+ghost use Rattle.il_verify.specs.declared.frame.Frame.{Frame};
+ghost use Rattle.il_verify.specs.Frames.{Clashing, Falls, Grows, JumpClash, Jumps, Mark, Pends, beside, frame_at, goes_on, joins, mark_of, marks_of};
 
 use crate::fault::VerifyFault;
 use il_image::instr::Instr;
 use il_image::kind::{Kind, join};
 use il_image::opcode::When;
 use std::alloc::{AllocError, Global};
-use std::collections::BTreeMap;
 
 /// What is known of the stack before an instruction, and the longest path to it.
 #[derive(Drop)]
@@ -51,23 +49,50 @@ fn meet(frame: &mut Frame, kinds: &[Kind], longest: u32) -> Result<(), VerifyFau
     Ok(())
 }
 
+// Makes room up to a place, where nothing is pending so far.
+fn grow(pending: &mut Vec<Option<Frame>>, place: usize) -> Result<(), AllocError>
+    requires { place < 2 ^ 64 - 1 }
+    ensures room { OnOk result (place < length pending.new.items) }
+    ensures same { OnOk result ((q : ℕ) → marks_of pending.new.items q ≡ marks_of pending.old.items q) }
+{
+    for _ in pending.len()..place + 1 {
+        pending.push(None)?;
+    }
+    Ok(())
+}
+
+// A path comes to a place where a frame may be pending.
+fn arrive(
+    alloc: Global,
+    slot: &mut Option<Frame>,
+    kinds: &[Kind],
+    longest: u32,
+) -> Result<(), VerifyFault>
+    ensures ok { OnOk result ((frame : Frame) × (slot.new ≡ Some frame) × Grows (record { kinds = reverse kinds.now; longest = longest }) (option_map mark_of slot.old) (mark_of frame)) }
+    ensures err { IfErr result (λ f. f ≢ VerifyFault.OutOfMemory → (f ≡ VerifyFault.DepthClash) × Clashing (option_map mark_of slot.old) (reverse kinds.now)) }
+{
+    if let Some(frame) = slot {
+        return meet(frame, kinds, longest);
+    }
+    let kinds = copy_of(alloc, kinds)?;
+    *slot = Some(Frame { kinds, longest });
+    Ok(())
+}
+
 // A path comes to a place by a jump.
 fn pend(
     alloc: Global,
-    pending: &mut BTreeMap<usize, Frame>,
+    pending: &mut Vec<Option<Frame>>,
     place: usize,
     kinds: &[Kind],
     longest: u32,
 ) -> Result<(), VerifyFault>
-    ensures ok { OnOk result (Pends (marks_of pending.old) (marks_of pending.new) place (record { kinds = reverse kinds.now; longest = longest })) }
-    ensures err { IfErr result (λ f. f ≢ VerifyFault.OutOfMemory → (f ≡ VerifyFault.DepthClash) × Clashing (marks_of pending.old place) (reverse kinds.now)) }
+    requires { place < 2 ^ 64 - 1 }
+    ensures ok { OnOk result (Pends (marks_of pending.old.items) (marks_of pending.new.items) place (record { kinds = reverse kinds.now; longest = longest })) }
+    ensures err { IfErr result (λ f. f ≢ VerifyFault.OutOfMemory → (f ≡ VerifyFault.DepthClash) × Clashing (marks_of pending.old.items place) (reverse kinds.now)) }
 {
-    if let Some(frame) = pending.get_mut(&place) {
-        return meet(frame, kinds, longest);
-    }
-    let kinds = copy_of(alloc, kinds)?;
-    pending.insert(place, Frame { kinds, longest })?;
-    Ok(())
+    grow(pending, place)?;
+    arrive(alloc, &mut pending[place], kinds, longest)
 }
 
 /// A path comes to where an instruction jumps, if it does.
@@ -77,11 +102,11 @@ pub(crate) fn jump(
     next: usize,
     kinds: &[Kind],
     longest: u32,
-    pending: &mut BTreeMap<usize, Frame>,
+    pending: &mut Vec<Option<Frame>>,
 ) -> Result<(), VerifyFault>
     requires { next < 2 ^ 63 }
-    ensures ok { OnOk result (Jumps instr next (record { kinds = reverse kinds.now; longest = longest }) (marks_of pending.old) (marks_of pending.new)) }
-    ensures err { IfErr result (λ f. f ≢ VerifyFault.OutOfMemory → (f ≡ VerifyFault.DepthClash) × JumpClash instr next (marks_of pending.old) (reverse kinds.now)) }
+    ensures ok { OnOk result (Jumps instr next (record { kinds = reverse kinds.now; longest = longest }) (marks_of pending.old.items) (marks_of pending.new.items)) }
+    ensures err { IfErr result (λ f. f ≢ VerifyFault.OutOfMemory → (f ≡ VerifyFault.DepthClash) × JumpClash instr next (marks_of pending.old.items) (reverse kinds.now)) }
 {
     match instr {
         Instr::Jump(_, distance) => {
@@ -101,14 +126,15 @@ pub(crate) fn goes_on(instr: Instr) -> bool
     }
 }
 
-// What is pending at a place, which no longer is. Mostly nothing is, and the least place tells so.
-fn taken(pending: &mut BTreeMap<usize, Frame>, place: usize) -> Option<Frame>
-    ensures value { result ≡ get_by (nat_cmp place) pending.old }
-    ensures others { (q : ℕ) → (q ≡ place → ⊥) → marks_of pending.new q ≡ marks_of pending.old q }
+// What is pending at a place, which no longer is.
+fn taken(pending: &mut Vec<Option<Frame>>, place: usize) -> Option<Frame>
+    ensures value { result ≡ frame_at pending.old.items place }
+    ensures others { (q : ℕ) → (q ≡ place → ⊥) → marks_of pending.new.items q ≡ marks_of pending.old.items q }
 {
-    match pending.first_key_value() {
-        Some((first, _)) if *first <= place => pending.remove(&place),
-        _ => None,
+    if place < pending.len() {
+        pending[place].take()
+    } else {
+        None
     }
 }
 
@@ -117,10 +143,10 @@ pub(crate) fn fall(
     instr: Instr,
     next: usize,
     frame: Frame,
-    pending: &mut BTreeMap<usize, Frame>,
+    pending: &mut Vec<Option<Frame>>,
 ) -> Result<Option<Frame>, VerifyFault>
-    ensures ok { IfOk result (λ behind. Falls instr next (mark_of frame) (marks_of pending.old) (beside next (option_map mark_of behind) (marks_of pending.new))) }
-    ensures err { IfErr result (λ f. (f ≡ VerifyFault.DepthClash) × ((goes_on instr ≡ true) × Clashing (marks_of pending.old next) (mark_of frame).kinds)) }
+    ensures ok { IfOk result (λ behind. Falls instr next (mark_of frame) (marks_of pending.old.items) (beside next (option_map mark_of behind) (marks_of pending.new.items))) }
+    ensures err { IfErr result (λ f. (f ≡ VerifyFault.DepthClash) × ((goes_on instr ≡ true) × Clashing (marks_of pending.old.items next) (mark_of frame).kinds)) }
 {
     let old = taken(pending, next);
     if !goes_on(instr) {

@@ -14,7 +14,6 @@ use il_image::image::Image;
 use il_image::instr::Instr;
 use il_image::read::instr_at;
 use std::alloc::Global;
-use std::collections::BTreeMap;
 
 /// What is measured of code in which no fault was found.
 #[derive(Drop)]
@@ -70,7 +69,7 @@ pub(crate) fn pass(alloc: Global, image: &Image, plan: &Plan) -> Result<Measures
     ensures memory { IfErr result (λ s. s.fault ≡ VerifyFault.OutOfMemory → s.place ≡ 0) }
 {
     let code = image.code();
-    let mut pending = BTreeMap::new(alloc);
+    let mut pending = Vec::new(alloc);
     let mut frame = Some(Frame {
         kinds: Vec::new(alloc),
         longest: 1,

@@ -105,7 +105,7 @@ fn check(alloc: Global, image: &Image, points: &[Point]) -> Result<Measures, Sto
 /// Accepts an image exactly where it fits the bay with these points, a table of kinds agrees with its code, and no instruction writes a
 /// point that may only be read; want of memory aside. Another is refused with its first fault in the format's order: what does not fit the
 /// bay, or else that there is no code, or else the first fault of the first place that has one. A refused image comes back as it was. It
-/// takes time in proportion to the code, times the logarithm of the places that jumps name and that aren't reached yet.
+/// takes time in proportion to the code, and room for an empty frame for each octet up to the furthest place that a jump names.
 pub fn verify(alloc: Global, image: Image, points: &[Point]) -> Result<Verified, Refused>
     ensures same { IfOk result (λ v. v ≡ image) }
     ensures accepted { IfOk result (λ v. IsVerified points.now image) }

@@ -12,7 +12,6 @@ use crate::plan::{Plan, is_place};
 use il_image::image::Image;
 use il_image::instr::Instr;
 use std::alloc::Global;
-use std::collections::BTreeMap;
 
 // Whether an instruction jumps to a place, if it jumps.
 fn jumps_right(code: &[u8], starts: &[bool], instr: Instr, next: usize) -> bool
@@ -51,14 +50,14 @@ pub(crate) fn visit(
     instr: Instr,
     next: usize,
     frame: Frame,
-    pending: &mut BTreeMap<usize, Frame>,
+    pending: &mut Vec<Option<Frame>>,
 ) -> Result<Option<Frame>, VerifyFault>
     requires plan { IsPlan image.now plan.now }
     requires fits { next < 2 ^ 63 }
     requires short { frame.longest < 2 ^ 32 - 1 }
-    ensures ok { IfOk result (λ behind. Visits image.now instr next (mark_of frame) (marks_of pending.old)
-        (beside next (option_map mark_of behind) (marks_of pending.new))) }
-    ensures err { IfErr result (λ f. f ≢ VerifyFault.OutOfMemory → FailsVisit image.now instr next (mark_of frame) (marks_of pending.old) f) }
+    ensures ok { IfOk result (λ behind. Visits image.now instr next (mark_of frame) (marks_of pending.old.items)
+        (beside next (option_map mark_of behind) (marks_of pending.new.items))) }
+    ensures err { IfErr result (λ f. f ≢ VerifyFault.OutOfMemory → FailsVisit image.now instr next (mark_of frame) (marks_of pending.old.items) f) }
 {
     let Frame { kinds, longest } = frame;
     let mut kinds = kinds;

@@ -1,6 +1,13 @@
-use Rattle.std.proofs.Common.{None}
+use Rattle.std.proofs.Common.{◌≤◌, ap, arith, length, sym}
+use Rattle.std.specs.Prelude.{option_and_then}
+use Rattle.std.proofs.lemmas.Option.{slice_get_past}
 use Rattle.il_verify.proofs.MapLemmas.{others_stay}
 use Rattle.il_verify.proofs.frame.taken.Goals as goal
 
-pub returns-in-Some-clause-others : goal.returns-in-Some-clause-others
-returns-in-Some-clause-others c = others_stay c.args.pending.now c.remove.new.self c.args.place None c.remove.ensures.updates
+pub returns-then-place-len-clause-others : goal.returns-then-place-len-clause-others
+returns-then-place-len-clause-others c = others_stay c.args.pending.now.items c.args.place c.take.new.self
+
+pub returns-else-place-len-clause-value : goal.returns-else-place-len-clause-value
+returns-else-place-len-clause-value c =
+    let past : length c.args.pending.now.items ≤ c.args.place = search arith in
+    sym (ap (option_and_then (λ o. o)) (slice_get_past c.args.pending.now.items c.args.place past))

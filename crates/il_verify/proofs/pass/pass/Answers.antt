@@ -15,16 +15,16 @@ use Rattle.il_verify.proofs.pass.pass.Goals as goal
 
 pub loop-place-init : goal.loop-place-init
 loop-place-init c =
-    begins c.args.image.now (mark_of (record { kinds = c.new.result; longest = 1 })) (marks_of c.new-pending.result) c.requires.some (ap reverse c.new.ensures.items) refl
-    (λ q. no_marks c.new-pending.result q c.new-pending.ensures.empty)
+    begins c.args.image.now (mark_of (record { kinds = c.new.result; longest = 1 })) (marks_of c.new-pending.result.items) c.requires.some (ap reverse c.new.ensures.items) refl
+    (λ q. no_marks c.new-pending.result.items q c.new-pending.ensures.items)
 
 pub returns-in_default-clause-err : goal.returns-in_default-clause-err
 returns-in_default-clause-err c = λ ne.
     let image = c.args.image.now in
     let place = c.loop-place.place in
-    let marks = beside place (option_map mark_of c.loop-place.frame) (marks_of c.loop-place.pending) in
+    let marks = beside place (option_map mark_of c.loop-place.frame) (marks_of c.loop-place.pending.items) in
     let less : place < length image.code = subst (λ (code : List ℕ). place < length code) c.code-code.ensures.value c.loop-place-test.true in
-    let none : marks place ≡ None = beside_here place place (option_map mark_of c.loop-place.frame) (marks_of c.loop-place.pending) refl ∙ ap (option_map mark_of) c.in_default.is in
+    let none : marks place ≡ None = beside_here place place (option_map mark_of c.loop-place.frame) (marks_of c.loop-place.pending.items) refl ∙ ap (option_map mark_of) c.in_default.is in
     let fails = fails_unreached image place c.loop-place.budget c.loop-place.depth marks c.loop-place.invariant less none in
     let there : c.stop_at.result.place ≡ place = c.stop_at.ensures.place (λ e. cc) in
     subst (λ (f : VerifyFault). FailsAt image f c.stop_at.result.place) (sym c.stop_at.ensures.fault) (subst (FailsAt image Unreachable) (sym there) fails)
@@ -43,8 +43,8 @@ overflow_cast-len c =
     let image = c.args.image.now in
     let place = c.loop-place.place in
     let come = mark_of c.in-Some.here in
-    let marks = beside place (option_map mark_of c.loop-place.frame) (marks_of c.loop-place.pending) in
-    let is : marks place ≡ Some come = beside_here place place (option_map mark_of c.loop-place.frame) (marks_of c.loop-place.pending) refl ∙ ap (option_map mark_of) c.in-Some.is in
+    let marks = beside place (option_map mark_of c.loop-place.frame) (marks_of c.loop-place.pending.items) in
+    let is : marks place ≡ Some come = beside_here place place (option_map mark_of c.loop-place.frame) (marks_of c.loop-place.pending.items) refl ∙ ap (option_map mark_of) c.in-Some.is in
     let short : length come.kinds ≤ 32 = (here_short image place c.loop-place.budget c.loop-place.depth marks come c.loop-place.invariant is).1 in
     let size : length come.kinds ≡ length c.in-Some.here.kinds.items = length-reverse c.in-Some.here.kinds.items in
     let its = c.len.ensures in
@@ -55,8 +55,8 @@ visit-requires-clause-short c =
     let image = c.args.image.now in
     let place = c.loop-place.place in
     let come = mark_of c.in-Some.here in
-    let marks = beside place (option_map mark_of c.loop-place.frame) (marks_of c.loop-place.pending) in
-    let is : marks place ≡ Some come = beside_here place place (option_map mark_of c.loop-place.frame) (marks_of c.loop-place.pending) refl ∙ ap (option_map mark_of) c.in-Some.is in
+    let marks = beside place (option_map mark_of c.loop-place.frame) (marks_of c.loop-place.pending.items) in
+    let is : marks place ≡ Some come = beside_here place place (option_map mark_of c.loop-place.frame) (marks_of c.loop-place.pending.items) refl ∙ ap (option_map mark_of) c.in-Some.is in
     let short : come.longest ≤ place + 1 = (here_short image place c.loop-place.budget c.loop-place.depth marks come c.loop-place.invariant is).0 in
     let less : place < length image.code = subst (λ (code : List ℕ). place < length code) c.code-code.ensures.value c.loop-place-test.true in
     let size = c.requires.format.size in
@@ -67,7 +67,7 @@ returns-in-Err-clause-err c = λ ne.
     let image = c.args.image.now in
     let place = c.loop-place.place in
     let come = mark_of c.in-Some.here in
-    let old = marks_of c.loop-place.pending in
+    let old = marks_of c.loop-place.pending.items in
     let less : place < length image.code = subst (λ (code : List ℕ). place < length code) c.code-code.ensures.value c.loop-place-test.true in
     let here = subst (λ (code : List ℕ). instr_at code place ≡ Some (c.in-Some-instr_at.instr, c.in-Some-instr_at.next)) c.code-code.ensures.value (sym c.in-Some-instr_at.ensures.value) in
     let p = subst (λ (o : Option Frame). Passing image place c.loop-place.budget c.loop-place.depth (beside place (option_map mark_of o) old)) c.in-Some.is c.loop-place.invariant in
@@ -83,8 +83,8 @@ loop-place-preserved c =
     let place = c.loop-place.place in
     let next = c.in-Some-instr_at.next in
     let come = mark_of c.in-Some.here in
-    let old = marks_of c.loop-place.pending in
-    let new = marks_of c.visit.new.pending in
+    let old = marks_of c.loop-place.pending.items in
+    let new = marks_of c.visit.new.pending.items in
     let behind = option_map mark_of c.in-Ok.behind in
     let here = subst (λ (code : List ℕ). instr_at code place ≡ Some (c.in-Some-instr_at.instr, next)) c.code-code.ensures.value (sym c.in-Some-instr_at.ensures.value) in
     let p = subst (λ (o : Option Frame). Passing image place c.loop-place.budget c.loop-place.depth (beside place (option_map mark_of o) old)) c.in-Some.is c.loop-place.invariant in
@@ -99,6 +99,6 @@ loop-place-preserved c =
 pub returns-clause-ok : goal.returns-clause-ok
 returns-clause-ok c =
     let image = c.args.image.now in
-    let marks = beside c.loop-place.place (option_map mark_of c.loop-place.frame) (marks_of c.loop-place.pending) in
+    let marks = beside c.loop-place.place (option_map mark_of c.loop-place.frame) (marks_of c.loop-place.pending.items) in
     let past : length image.code ≤ c.loop-place.place = subst (λ (code : List ℕ). length code ≤ c.loop-place.place) c.code-code.ensures.value c.loop-place-test.false in
     measured image c.loop-place.place c.loop-place.budget c.loop-place.depth marks c.loop-place.invariant past c.requires.some

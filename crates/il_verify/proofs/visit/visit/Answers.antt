@@ -11,8 +11,8 @@ returns-in-Err-fall-clause-err c = λ ne.
     let kinds = reverse c.args.frame.kinds.items in
     let gives = reverse c.judge.new.kinds.items in
     let come : Mark = record { kinds = gives; longest = c.args.frame.longest + 1 } in
-    let old = marks_of c.args.pending.now in
-    let mid = marks_of c.jump.new.pending in
+    let old = marks_of c.args.pending.now.items in
+    let mid = marks_of c.jump.new.pending.items in
     let jumps = subst (λ (items : List Kind). Jumps c.args.instr c.args.next (record { kinds = reverse items; longest = c.args.frame.longest + 1 }) old mid) c.as_slice-3.ensures.value c.in-Ok-jump.ensures.ok in
     let h = c.in-Err-fall.ensures.err in
     inr (inr (
@@ -34,8 +34,8 @@ returns-clause-ok c =
     let slots = c.as_slice.ensures.value ∙ c.requires.plan.slots in
     let kinds = reverse c.args.frame.kinds.items in
     let gives = reverse c.judge.new.kinds.items in
-    let old = marks_of c.args.pending.now in
-    let mid = marks_of c.jump.new.pending in
+    let old = marks_of c.args.pending.now.items in
+    let mid = marks_of c.jump.new.pending.items in
     record {
       gives = gives;
       faultless = fault_there image c.as_slice.result.now c.args.plan.now.timers c.args.instr kinds None slots c.requires.plan.timers c.in-Ok.ensures.faultless;
