@@ -3,6 +3,7 @@ pub mod FrameLemmas
 pub mod JudgeLemmas
 pub mod LengthLemmas
 pub mod MapLemmas
+pub mod OneLemmas
 pub mod OrderLemmas
 pub mod PassLemmas
 pub mod SizeLemmas

@@ -8,6 +8,7 @@ use Rattle.il_image.specs.declared.instr.Instr.{Instr}
 use Rattle.il_image.specs.declared.kind.Kind.{Kind}
 use Rattle.il_verify.specs.declared.frame.Frame.{Frame}
 use Rattle.il_verify.specs.Refusals.{JumpsTo}
+use Rattle.il_verify.proofs.OrderLemmas.{set_elsewhere, set_here}
 use Rattle.il_verify.specs.Frames.{Clashing, Falls, Grows, Jumps, Mark, Marks, Pends, beside, frame_at, goes_on, mark_of, marks_of}
 
 here_is : (p q : ℕ) → q ≡ p → (q == p) ≡ true
@@ -21,18 +22,6 @@ beside_here p q mark marks e = ap (λ (b : Bool). cond b mark (marks q)) (here_i
 
 pub beside_other : {A : Type 0} (p q : ℕ) (mark : Option A) (marks : ℕ → Option A) → (q ≡ p → ⊥) → beside p mark marks q ≡ marks q
 beside_other p q mark marks ne = ap (λ (b : Bool). cond b mark (marks q)) (not_here p q ne)
-
-set_there : {A : Type 0} (xs : List A) (place : ℕ) (x : A) → place < length xs → slice_get (slice_set xs place x) place ≡ Some x
-set_there [] place x less = absurd (omega arith)
-set_there (y ∷ xs) zero x less = refl
-set_there (y ∷ xs) (suc place) x less = set_there xs place x (omega arith)
-
-set_other : {A : Type 0} (xs : List A) (place q : ℕ) (x : A) → (q ≡ place → ⊥) → slice_get (slice_set xs place x) q ≡ slice_get xs q
-set_other [] place q x ne = refl
-set_other (y ∷ xs) zero zero x ne = absurd (ne refl)
-set_other (y ∷ xs) zero (suc q) x ne = refl
-set_other (y ∷ xs) (suc place) zero x ne = refl
-set_other (y ∷ xs) (suc place) (suc q) x ne = set_other xs place q x (λ e. ne (ap suc e))
 
 none_more : {A : Type 0} (xs : List (Option A)) (q : ℕ) → option_and_then (λ o. o) (slice_get (xs ++ None ∷ []) q) ≡ option_and_then (λ o. o) (slice_get xs q)
 none_more [] zero = refl
@@ -50,11 +39,11 @@ no_marks m place e = ap (λ (l : List (Option Frame)). option_map mark_of (frame
 
 pub others_stay : (old : List (Option Frame)) (place : ℕ) (w : Option Frame) (q : ℕ) → (q ≡ place → ⊥) → marks_of (slice_set old place w) q ≡ marks_of old q
 unfolding marks_of
-others_stay old place w q ne = ap (λ (o : Option (Option Frame)). option_map mark_of (option_and_then (λ x. x) o)) (set_other old place q w ne)
+others_stay old place w q ne = ap (λ (o : Option (Option Frame)). option_map mark_of (option_and_then (λ x. x) o)) (set_elsewhere old place q w ne)
 
 now_is : (old : List (Option Frame)) (place : ℕ) (w : Option Frame) → place < length old → marks_of (slice_set old place w) place ≡ option_map mark_of w
 unfolding marks_of
-now_is old place w less = ap (λ (o : Option (Option Frame)). option_map mark_of (option_and_then (λ x. x) o)) (set_there old place w less)
+now_is old place w less = ap (λ (o : Option (Option Frame)). option_map mark_of (option_and_then (λ x. x) o)) (set_here old place w less)
 
 -- a place behind the others, where nothing is pending
 pub one_more : (old : List (Option Frame)) (q : ℕ) → marks_of (old ++ None ∷ []) q ≡ marks_of old q

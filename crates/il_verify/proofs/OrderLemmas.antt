@@ -128,12 +128,12 @@ is_there code c n place e within = there_case code place (instr_at code place) r
 
 -- ---- the marks of places
 
-set_here : {A : Type 0} (xs : List A) (i : ℕ) (v : A) → i < length xs → slice_get (set xs i v) i ≡ Some v
+pub set_here : {A : Type 0} (xs : List A) (i : ℕ) (v : A) → i < length xs → slice_get (set xs i v) i ≡ Some v
 set_here [] i v h = absurd (omega arith)
 set_here (x ∷ xs) zero v h = refl
 set_here (x ∷ xs) (suc i) v h = set_here xs i v (omega arith)
 
-set_elsewhere : {A : Type 0} (xs : List A) (i j : ℕ) (v : A) → (j ≡ i → ⊥) → slice_get (set xs i v) j ≡ slice_get xs j
+pub set_elsewhere : {A : Type 0} (xs : List A) (i j : ℕ) (v : A) → (j ≡ i → ⊥) → slice_get (set xs i v) j ≡ slice_get xs j
 set_elsewhere [] i j v ne = refl
 set_elsewhere (x ∷ xs) zero zero v ne = absurd (ne refl)
 set_elsewhere (x ∷ xs) zero (suc j) v ne = refl

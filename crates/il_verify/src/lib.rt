@@ -8,12 +8,14 @@
 // - `frame`: the frames of the places that are still to come.
 // - `visit`: one place of the code.
 // - `pass`: the pass over all places.
+// - `laws`: what holds of the definitions that the contracts cite.
 // - `verify`: `verify`, and the verified image that it gives.
 #![tactic(auto)]
 
 pub(crate) mod effect;
 pub mod fault;
 pub(crate) mod frame;
+pub mod laws;
 pub(crate) mod pass;
 pub(crate) mod plan;
 pub(crate) mod points;
