@@ -463,11 +463,11 @@ module _ (types : List ElementaryType) (count now next p : ℕ) (others slots : 
 
   does_widen : (z : ℤ) (k : Kind) → HasKind (Long z) k → IsValue (Short z) → Does types count now (Widen IntToDint) next p (Short z ∷ others) slots timers (k ∷ rest)
   unfolding act
-  does_widen z k is good = record { ready = tt; to = next; new_cells = Long z ∷ others; new_slots = slots; new_timers = timers; goes_on = refl; leads_to = refl; words_are = refl; fit = ((is, widened_short z good), fit); typed = typed }
+  does_widen z k is good = record { ready = omega arith; to = next; new_cells = Long z ∷ others; new_slots = slots; new_timers = timers; goes_on = refl; leads_to = refl; words_are = refl; fit = ((is, widened_short z good), fit); typed = typed }
 
   does_widen_long : (z : ℤ) (k : Kind) → HasKind (Wide z) k → IsValue (Long z) → Does types count now (Widen DintToLint) next p (Long z ∷ others) slots timers (k ∷ rest)
   unfolding act
-  does_widen_long z k is good = record { ready = tt; to = next; new_cells = Wide z ∷ others; new_slots = slots; new_timers = timers; goes_on = refl; leads_to = refl; words_are = refl; fit = ((is, widened_long z good), fit); typed = typed }
+  does_widen_long z k is good = record { ready = omega arith; to = next; new_cells = Wide z ∷ others; new_slots = slots; new_timers = timers; goes_on = refl; leads_to = refl; words_are = refl; fit = ((is, widened_long z good), fit); typed = typed }
 
 -- ---- each instruction that is allowed
 

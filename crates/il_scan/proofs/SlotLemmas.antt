@@ -1,5 +1,5 @@
 -- Inputs, outputs and first values, told by words and by the values that they stand for.
-use Rattle.std.proofs.Common.{◌≡◌, ℕ, zero, suc, ◌+◌, ◌<◌, ◌≤◌, ℤ, pos, Bool, true, false, not, cond, List, [], ◌∷◌, ◌++◌, length, map, take, drop, refl, sym, ap, subst, ◌∙◌, arith, Option, Some, None}
+use Rattle.std.proofs.Common.{◌≡◌, ℕ, zero, suc, ◌+◌, ◌<◌, ◌≤◌, ℤ, pos, Bool, true, false, not, cond, List, [], ◌∷◌, ◌++◌, length, map, take, drop, refl, sym, ap, subst, ◌∙◌, arith, Option, Some, None, ◌&&◌}
 use Rattle.std.specs.Prelude.{IsSome, slice_get, slice_set, slice_index_or}
 use Rattle.std.proofs.lemmas.List.{take-append-drop}
 use Rattle.bay_base.specs.declared.types.ElementaryType.{ElementaryType}
@@ -15,7 +15,11 @@ use Rattle.il_image.specs.Tables.{slot_types}
 use Rattle.il_verify.specs.Judging.{is_read_only}
 use Rattle.il_verify.specs.Slots.{point_slot, slots_of, variable_slot}
 use Rattle.il_verify.proofs.EffectLemmas.{some_same}
-use Rattle.il_scan.specs.Scans.{AreInputs, first_input, first_slots, first_value, outputs_of, read_only, type_of_point, with_inputs, writable_count}
+use Rattle.il_image.proofs.KindLemmas.{same_is, same_self}
+use Rattle.bay_base.specs.Types.{same_type}
+use Rattle.std.proofs.lemmas.Bool.{and_parts}
+use Rattle.std.specs.Prelude.{is_some}
+use Rattle.il_scan.specs.Scans.{AreInputs, are_inputs, begins_with, first_input, first_slots, first_value, is_of, outputs_of, read_only, type_of_point, with_inputs, writable_count}
 use Rattle.il_scan.specs.Standing.{AreWords, IsHeld, IsTimer, given_by}
 use Rattle.il_scan.specs.Words.{AreTyped, StandFor, value_at, values_of, words_of}
 
@@ -333,3 +337,32 @@ first_stand image words h e = record { are = e ∙ first_words image.points imag
 
 pub times_first : (timers : List Timer) (kinds : List TimerKind) → timers ≡ map first_state kinds → Each IsTimer timers
 times_first timers kinds e = subst (Each IsTimer) (sym e) (timers_first kinds)
+
+-- ---- the test of inputs
+
+of_type : (t : ElementaryType) (v : Value) → (is_of t v ≡ true → (type_of v ≡ t) × IsValue v) × ((type_of v ≡ t) × IsValue v → is_of t v ≡ true)
+of_type t v = (
+  λ e.
+      (let parts = and_parts (same_type (type_of v) t) (is_some (value_of t (number_of v))) e in
+      let same : type_of v ≡ t = same_is (type_of v) t parts.0 in
+      (same, subst (λ (u : ElementaryType). is_some (value_of u (number_of v)) ≡ true) (sym same) parts.1)),
+  λ h.
+      (let test : same_type (type_of v) t ≡ true = subst (λ (u : ElementaryType). same_type (type_of v) u ≡ true) h.0 (same_self (type_of v)) in
+      let some : is_some (value_of t (number_of v)) ≡ true = subst (λ (u : ElementaryType). is_some (value_of u (number_of v)) ≡ true) h.0 h.1 in
+      rw (test, some) refl),
+)
+
+tested_case : (b : Bool) (p : ImagePoint) (points : List ImagePoint) (inputs : List Value) → ((left : List Value) → (are_inputs points left ≡ true → AreInputs points left) × (AreInputs points left → are_inputs points left ≡ true))
+    → (cond b (are_inputs points inputs) (begins_with p.elementary inputs && are_inputs points (drop 1 inputs)) ≡ true → AreTyped (map type_of_point (cond (not b) (p ∷ read_only points) (read_only points))) inputs)
+    × (AreTyped (map type_of_point (cond (not b) (p ∷ read_only points) (read_only points))) inputs → cond b (are_inputs points inputs) (begins_with p.elementary inputs && are_inputs points (drop 1 inputs)) ≡ true)
+tested_case true p points inputs rest = rest inputs
+tested_case false p points [] rest = (λ e. absurd cc, λ h. absurd h)
+tested_case false p points (i ∷ inputs) rest = (
+  λ e. (let parts = and_parts (is_of p.elementary i) (are_inputs points inputs) e in ((of_type p.elementary i).0 parts.0, (rest inputs).0 parts.1)),
+  λ h. (let first = (of_type p.elementary i).1 h.0 in let more = (rest inputs).1 h.1 in rw (first, more) refl),
+)
+
+pub tested : (points : List ImagePoint) (inputs : List Value) → (are_inputs points inputs ≡ true → AreInputs points inputs) × (AreInputs points inputs → are_inputs points inputs ≡ true)
+tested [] [] = (λ e. tt, λ h. refl)
+tested [] (i ∷ inputs) = (λ e. absurd cc, λ h. absurd h)
+tested (p ∷ points) inputs = tested_case p.writable p points inputs (λ left. tested points left)

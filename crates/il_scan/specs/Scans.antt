@@ -1,5 +1,5 @@
 -- What a scan of a machine is.
-use Rattle.std.specs.Prelude.{ℕ, zero, suc, ◌≡◌, ◌+◌, ◌≤◌, false, not, List, [], ◌∷◌, length, map, filter, drop, slice_get, Some, if◌then◌else◌}
+use Rattle.std.specs.Prelude.{ℕ, zero, suc, ◌≡◌, ◌+◌, ◌≤◌, ◌&&◌, Bool, true, false, is_some, not, List, [], ◌∷◌, length, map, filter, drop, slice_get, Some, if◌then◌else◌}
 use Rattle.bay_base.specs.declared.types.ElementaryType.{ElementaryType}
 use Rattle.bay_base.specs.declared.types.ElementaryType.TheVariants as elementary
 use Rattle.il_image.specs.declared.image.ImagePoint.{ImagePoint}
@@ -10,6 +10,8 @@ use Rattle.std.specs.Prelude.{pos}
 use Rattle.il_image.specs.Images.{Image}
 use Rattle.il_image.specs.Machine.{Goes, Halted, State, run, start, turn}
 use Rattle.il_image.specs.Timers.{first_state}
+use Rattle.il_image.specs.Values.{number_of, type_of, value_of}
+use Rattle.bay_base.specs.Types.{same_type}
 use Rattle.il_verify.specs.Verdicts.{IsBudget, IsDepth}
 use Rattle.il_scan.specs.Words.{AreTyped}
 
@@ -49,6 +51,21 @@ type_of_point p = p.elementary
 -- There is one input for each point that may only be read, in the table's order, and it is of its type.
 abbrev pub AreInputs : List ImagePoint → List Value → Type 0
 AreInputs points inputs = AreTyped (map type_of_point (read_only points)) inputs
+
+-- The value is one of the type.
+abbrev pub is_of : ElementaryType → Value → Bool
+is_of t v = same_type (type_of v) t && is_some (value_of t (number_of v))
+
+-- the first of the inputs is of the type
+abbrev pub begins_with : ElementaryType → List Value → Bool
+begins_with t [] = false
+begins_with t (input ∷ inputs) = is_of t input
+
+-- the test of `AreInputs`
+abbrev pub are_inputs : List ImagePoint → List Value → Bool
+are_inputs [] [] = true
+are_inputs [] (input ∷ inputs) = false
+are_inputs (p ∷ points) inputs = if p.writable then are_inputs points inputs else (begins_with p.elementary inputs && are_inputs points (drop 1 inputs))
 
 -- the first of the inputs, or else what was there
 abbrev pub first_input : {A : Type 0} → List A → A → A

@@ -75,6 +75,7 @@ fn relate(stack: &mut Stack, comparison: Comparison)
 /// WIDEN, WIDENL: the word of a number is the same in each width.
 #[inline(always)]
 fn widen(_stack: &mut Stack)
+    requires { 0 < length (reverse _stack.old.items) }
     ensures { reverse _stack.new.items ≡ reverse _stack.old.items }
 {}
 

@@ -1,5 +1,5 @@
 // The machine, which runs a verified image scan by scan.
-ghost use Rattle.std.specs.Prelude.{◌≡◌, IfErr, IfOk, length};
+ghost use Rattle.std.specs.Prelude.{◌≡◌, ◌↔◌, IfErr, IfOk, IsTrue, length};
 ghost use Rattle.std.specs.Borrow.{sem};
 ghost use Rattle.std.specs.Io.BufRead.{Rests};
 ghost use Rattle.il_scan.specs.Scans.{AreInputs, Scans, held_first, writable_count};
@@ -8,7 +8,9 @@ ghost use Rattle.il_scan.specs.contracts.machine.Machine.{the_row};
 ghost use Rattle.il_verify.specs.Verdicts.{IsSafe};
 
 use crate::run::run;
-use crate::slots::{first_slots, first_timers, give_outputs, room_for_outputs, take_inputs};
+use crate::slots::{
+    are_inputs, first_slots, first_timers, give_outputs, room_for_outputs, take_inputs,
+};
 use il_image::image::Image;
 use il_image::timer::Timer;
 use il_image::value::Value;
@@ -121,6 +123,13 @@ impl Machine {
         ensures { result.now ≡ self.now.image }
     {
         &self.verified
+    }
+
+    /// Whether a scan can take these inputs: there is one for each point that may only be read, in the image's order, of its type.
+    pub fn fits(&self, inputs: &[Value]) -> bool
+        ensures { IsTrue result ↔ AreInputs self.now.image.points inputs.now }
+    {
+        are_inputs(self.verified.image().points(), inputs)
     }
 
     /// One scan: the points that may only be read take the inputs, of which there is one for each in the image's order, of its type; the

@@ -2,6 +2,7 @@
 ghost use Rattle.std.specs.Prelude.{◌≡◌, ◌+◌, ◌<◌, ◌≤◌, ◌++◌, IfOk, IsSome, OnOk, drop, if◌then◌else◌, length, map, pos, slice_set};
 ghost use Rattle.il_image.specs.Timers.{first_state};
 ghost use Rattle.il_image.specs.Values as values;
+ghost use Rattle.il_scan.specs.Scans as scans;
 ghost use Rattle.il_scan.specs.Scans.{first_input, with_inputs, writable_count};
 ghost use Rattle.il_scan.specs.Standing.{AreWords, given_by};
 ghost use Rattle.il_scan.specs.Words.{slot_at, value_at, words_of};
@@ -11,6 +12,51 @@ use il_image::image::{Image, ImagePoint};
 use il_image::timer::{Timer, TimerKind};
 use il_image::value::Value;
 use std::alloc::{AllocError, Global};
+
+/// Whether the value is one of the type.
+fn is_of(elementary: ElementaryType, value: Value) -> bool
+    ensures { result ≡ scans.is_of elementary value }
+{
+    value.type_of() == elementary && Value::of(elementary, value.number()).is_some()
+}
+
+/// Whether the first of the inputs is there, and is of the type.
+fn begins_with(elementary: ElementaryType, inputs: &[Value]) -> bool
+    ensures { result ≡ scans.begins_with elementary inputs.now }
+{
+    match inputs {
+        [input, ..] => is_of(elementary, *input),
+        [] => false,
+    }
+}
+
+/// The inputs behind the first.
+fn behind(inputs: &[Value]) -> &[Value]
+    ensures { result.now ≡ drop 1 inputs.now }
+{
+    match inputs {
+        [_, later @ ..] => later,
+        [] => inputs,
+    }
+}
+
+/// Whether there is one input for each point that may only be read, in their order, of its type.
+pub(crate) fn are_inputs(points: &[ImagePoint], inputs: &[Value]) -> bool
+    ensures { result ≡ scans.are_inputs points.now inputs.now }
+{
+    let mut rest = points;
+    let mut left = inputs;
+    while let [point, others @ ..] = rest {
+        if !point.writable {
+            if !begins_with(point.elementary, left) {
+                return false;
+            }
+            left = behind(left);
+        }
+        rest = others;
+    }
+    left.len() == 0
+}
 
 /// Puts the first of the inputs into the slot of a point that may only be read, and gives the inputs that are left.
 fn take_input<'a>(point: &ImagePoint, inputs: &'a [Value], slot: &mut i64) -> &'a [Value]
