@@ -12,18 +12,6 @@ use il_image::instr::Instr;
 use il_image::opcode::{Connective, SlotUse, TimerUse, When};
 use il_image::timer::Timer;
 
-/// AND, OR or XOR of the words of two BOOLs.
-#[inline(always)]
-fn join(connective: Connective, first: i64, second: i64) -> i64
-    ensures { result ≡ joined connective first second }
-{
-    match connective {
-        Connective::And => { if first == 0 { 0 } else { second } }
-        Connective::Or => { if first == 0 { second } else { 1 } }
-        Connective::Xor => i64::from(first != second),
-    }
-}
-
 /// NOT: the top is negated.
 #[inline(always)]
 fn negate(stack: &mut Stack)
@@ -35,19 +23,57 @@ fn negate(stack: &mut Stack)
     push(stack, i64::from(word == 0));
 }
 
-/// AND, OR, XOR: two BOOLs become one.
+/// AND: two BOOLs become one.
+#[inline(always)]
+fn and(stack: &mut Stack)
+    requires depth { length (reverse stack.old.items) ≤ 32 }
+    requires two { 1 < length (reverse stack.old.items) }
+    ensures { reverse stack.new.items ≡ joined Connective.And (spec.first (reverse stack.old.items)) (spec.top (reverse stack.old.items)) ∷ drop 2 (reverse stack.old.items) }
+{
+    let second = pop(stack);
+    let first = pop(stack);
+    push(stack, if first == 0 { 0 } else { second });
+}
+
+/// OR: two BOOLs become one.
+#[inline(always)]
+fn or(stack: &mut Stack)
+    requires depth { length (reverse stack.old.items) ≤ 32 }
+    requires two { 1 < length (reverse stack.old.items) }
+    ensures { reverse stack.new.items ≡ joined Connective.Or (spec.first (reverse stack.old.items)) (spec.top (reverse stack.old.items)) ∷ drop 2 (reverse stack.old.items) }
+{
+    let second = pop(stack);
+    let first = pop(stack);
+    push(stack, if first == 0 { second } else { 1 });
+}
+
+/// XOR: two BOOLs become one.
+#[inline(always)]
+fn xor(stack: &mut Stack)
+    requires depth { length (reverse stack.old.items) ≤ 32 }
+    requires two { 1 < length (reverse stack.old.items) }
+    ensures { reverse stack.new.items ≡ joined Connective.Xor (spec.first (reverse stack.old.items)) (spec.top (reverse stack.old.items)) ∷ drop 2 (reverse stack.old.items) }
+{
+    let second = pop(stack);
+    let first = pop(stack);
+    push(stack, i64::from(first != second));
+}
+
+/// AND, OR or XOR.
 #[inline(always)]
 fn combine(stack: &mut Stack, connective: Connective)
     requires depth { length (reverse stack.old.items) ≤ 32 }
     requires two { 1 < length (reverse stack.old.items) }
     ensures { reverse stack.new.items ≡ joined connective (spec.first (reverse stack.old.items)) (spec.top (reverse stack.old.items)) ∷ drop 2 (reverse stack.old.items) }
 {
-    let second = pop(stack);
-    let first = pop(stack);
-    push(stack, join(connective, first, second));
+    match connective {
+        Connective::And => and(stack),
+        Connective::Or => or(stack),
+        Connective::Xor => xor(stack),
+    }
 }
 
-/// ADD, SUB, MUL, DIV, MOD: two numbers of the width become one.
+/// One of ADD, SUB, MUL, DIV, MOD: two numbers of the width become one.
 #[inline(always)]
 fn calculate(stack: &mut Stack, operation: Operation, width: Width)
     requires depth { length (reverse stack.old.items) ≤ 32 }
@@ -60,7 +86,24 @@ fn calculate(stack: &mut Stack, operation: Operation, width: Width)
     push(stack, compute(operation, width, first, second));
 }
 
-/// GT, GE, EQ, NE, LE, LT: two values of one type become a BOOL.
+/// ADD, SUB, MUL, DIV or MOD. Each is a call of its own, so that what is done is known where the opcode is.
+#[inline(always)]
+fn calculate_by(stack: &mut Stack, operation: Operation, width: Width)
+    requires depth { length (reverse stack.old.items) ≤ 32 }
+    requires two { 1 < length (reverse stack.old.items) }
+    requires divisor { DividesBy operation (spec.top (reverse stack.old.items)) }
+    ensures { reverse stack.new.items ≡ computed operation width (spec.first (reverse stack.old.items)) (spec.top (reverse stack.old.items)) ∷ drop 2 (reverse stack.old.items) }
+{
+    match operation {
+        Operation::Add => calculate(stack, Operation::Add, width),
+        Operation::Sub => calculate(stack, Operation::Sub, width),
+        Operation::Mul => calculate(stack, Operation::Mul, width),
+        Operation::Div => calculate(stack, Operation::Div, width),
+        Operation::Mod => calculate(stack, Operation::Mod, width),
+    }
+}
+
+/// One of GT, GE, EQ, NE, LE, LT: two values of one type become a BOOL.
 #[inline(always)]
 fn relate(stack: &mut Stack, comparison: Comparison)
     requires depth { length (reverse stack.old.items) ≤ 32 }
@@ -70,6 +113,23 @@ fn relate(stack: &mut Stack, comparison: Comparison)
     let second = pop(stack);
     let first = pop(stack);
     push(stack, i64::from(compare(comparison, first, second)));
+}
+
+/// GT, GE, EQ, NE, LE or LT.
+#[inline(always)]
+fn relate_by(stack: &mut Stack, comparison: Comparison)
+    requires depth { length (reverse stack.old.items) ≤ 32 }
+    requires two { 1 < length (reverse stack.old.items) }
+    ensures { reverse stack.new.items ≡ word_of (compared comparison (spec.first (reverse stack.old.items)) (spec.top (reverse stack.old.items))) ∷ drop 2 (reverse stack.old.items) }
+{
+    match comparison {
+        Comparison::Gt => relate(stack, Comparison::Gt),
+        Comparison::Ge => relate(stack, Comparison::Ge),
+        Comparison::Eq => relate(stack, Comparison::Eq),
+        Comparison::Ne => relate(stack, Comparison::Ne),
+        Comparison::Le => relate(stack, Comparison::Le),
+        Comparison::Lt => relate(stack, Comparison::Lt),
+    }
 }
 
 /// WIDEN, WIDENL: the word of a number is the same in each width.
@@ -134,10 +194,8 @@ fn set_input(stack: &mut Stack, timers: &mut [Timer], number: u16)
     ensures timers { timers.new ≡ slice_set timers.old number (record (timer_at timers.old number) { input = is_true (spec.top (reverse stack.old.items)) }) }
 {
     let word = pop(stack);
-    let place = usize::from(number);
-    let mut timer = timers[place];
+    let timer = &mut timers[usize::from(number)];
     timer.input = word != 0;
-    timers[place] = timer;
 }
 
 /// SETPT: the timer takes the top as PT.
@@ -151,10 +209,8 @@ fn set_preset(stack: &mut Stack, timers: &mut [Timer], number: u16)
     ensures timers { timers.new ≡ slice_set timers.old number (record (timer_at timers.old number) { preset = unsigned_abs (spec.top (reverse stack.old.items)) }) }
 {
     let word = pop(stack);
-    let place = usize::from(number);
-    let mut timer = timers[place];
+    let timer = &mut timers[usize::from(number)];
     timer.preset = word as u32;
-    timers[place] = timer;
 }
 
 /// RUN: one call of the timer at this moment.
@@ -163,10 +219,7 @@ fn run(timers: &mut [Timer], number: u16, now: u64)
     requires { number < length timers.old }
     ensures { timers.new ≡ slice_set timers.old number (time.called (timer_at timers.old number) now) }
 {
-    let place = usize::from(number);
-    let mut timer = timers[place];
-    timer.call(now);
-    timers[place] = timer;
+    timers[usize::from(number)].call(now);
 }
 
 /// LOADQ: Q goes on the stack.
@@ -219,8 +272,8 @@ pub(crate) fn act(
         Instr::Slot(SlotUse::ResetIf, number) => set_if(stack, slots, number, 0),
         Instr::Not => negate(stack),
         Instr::Combine(connective) => combine(stack, connective),
-        Instr::Compute(operation, width) => calculate(stack, operation, width),
-        Instr::Compare(comparison) => relate(stack, comparison),
+        Instr::Compute(operation, width) => calculate_by(stack, operation, width),
+        Instr::Compare(comparison) => relate_by(stack, comparison),
         Instr::Widen(_) => widen(stack),
         Instr::Jump(When::Always, distance) => return Some(next + usize::from(distance)),
         Instr::Jump(When::IfTrue, distance) => {

@@ -15,10 +15,7 @@ pub(crate) fn pop(stack: &mut Stack) -> i64
     ensures is { reverse stack.old.items ≡ result ∷ reverse stack.new.items }
     ensures room { length (reverse stack.new.items) < 32 }
 {
-    match stack.pop() {
-        Some(word) => word,
-        None => unreachable!(),
-    }
+    stack.swap_remove(stack.len() - 1)
 }
 
 /// Puts a word on the stack.
@@ -36,8 +33,6 @@ pub(crate) fn top(stack: &Stack) -> i64
     requires { 0 < length (reverse stack.now.items) }
     ensures { result ≡ spec.top (reverse stack.now.items) }
 {
-    match stack.as_slice().last() {
-        Some(word) => *word,
-        None => unreachable!(),
-    }
+    let words = stack.as_slice();
+    words[words.len() - 1]
 }
