@@ -16,7 +16,8 @@ use std::alloc::Global;
 use std::env;
 use std::io::Read;
 
-const USAGE: &str = "usage: machine_bench decode ROUNDS, machine_bench verify ROUNDS, or machine_bench scan ROUNDS";
+const USAGE: &str =
+    "usage: machine_bench decode ROUNDS, machine_bench verify ROUNDS, or machine_bench scan ROUNDS";
 
 // Reads the octets so many times, and gives the number of octets of code that were read in all.
 fn decode_often(alloc: Global, octets: &[u8], rounds: u32) -> Result<u64> {
