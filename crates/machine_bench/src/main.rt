@@ -1,18 +1,23 @@
-// Reads an image so many times, and verifies it each time or not, and prints what comes of it. A benchmark times it from outside.
+// Reads an image so many times, and verifies it each time or not, or runs it so many times, and prints what comes of it. A benchmark times
+// it from outside.
 //
 //     machine_bench decode ROUNDS      the octets of the image come on standard input
 //     machine_bench verify ROUNDS      likewise; each image that was read is verified
+//     machine_bench scan ROUNDS        likewise; the image is read and verified once, and scanned so many times, each 1 ms after the last
 #![tactic(auto)]
 
 use anyhow::{Context, Result, bail};
 use bay_config::bay::Point;
 use il_image::decode::decode;
+use il_image::value::Value;
+use il_scan::machine::Machine;
 use il_verify::verify::verify;
 use std::alloc::Global;
 use std::env;
 use std::io::Read;
 
-const USAGE: &str = "usage: machine_bench decode ROUNDS, or machine_bench verify ROUNDS";
+const USAGE: &str =
+    "usage: machine_bench decode ROUNDS, machine_bench verify ROUNDS, or machine_bench scan ROUNDS";
 
 // Reads the octets so many times, and gives the number of octets of code that were read in all.
 fn decode_often(alloc: Global, octets: &[u8], rounds: u32) -> Result<u64> {
@@ -38,6 +43,29 @@ fn verify_often(alloc: Global, octets: &[u8], rounds: u32) -> Result<u64> {
     Ok(total)
 }
 
+// Verifies the octets, and scans them so many times, and gives the sum of the steps.
+fn scan_often(alloc: Global, octets: &[u8], rounds: u32) -> Result<u64> {
+    let points: Vec<Point> = Vec::new(alloc);
+    let inputs: Vec<Value> = Vec::new(alloc);
+    let verified = match verify(alloc, decode(alloc, octets)?, points.as_slice()) {
+        Ok(verified) => verified,
+        Err(refused) => return Err(refused.fault.into()),
+    };
+    let mut machine = match Machine::new(alloc, verified) {
+        Ok(machine) => machine,
+        Err(_) => bail!("out of memory"),
+    };
+    let mut total = 0_u64;
+    for round in 0..rounds {
+        if !machine.fits(inputs.as_slice()) {
+            bail!("the image has points");
+        }
+        let scan = machine.scan(inputs.as_slice(), u64::from(round));
+        total = total.wrapping_add(u64::from(scan.steps));
+    }
+    Ok(total)
+}
+
 fn run(rt: &(impl Input + AllocGlobal + Print), words: &[&str]) -> Result<()> {
     let (job, rounds) = match words {
         [_, job, rounds] => (*job, rounds.parse::<u32>().context(USAGE)?),
@@ -48,6 +76,7 @@ fn run(rt: &(impl Input + AllocGlobal + Print), words: &[&str]) -> Result<()> {
     let total = match job {
         "decode" => decode_often(rt.alloc(), octets.as_slice(), rounds)?,
         "verify" => verify_often(rt.alloc(), octets.as_slice(), rounds)?,
+        "scan" => scan_often(rt.alloc(), octets.as_slice(), rounds)?,
         _ => bail!("{USAGE}"),
     };
     println!(rt; "total {total}")?;

@@ -1,23 +1,27 @@
-// Verifies the images that come on standard input, and prints how many there were; the first that is judged otherwise
-// than it says is told, and the program fails.
+// Verifies the images that come on standard input, and scans them, and prints how many images and scans there were; the
+// first that comes out otherwise than it says is told, and the program fails.
 //
 // A line is a note behind `#`; `front HEX`, what images begin with, up to their code's length, until another takes its
-// place; or an image's verdict and its code: `accepted DEPTH BUDGET CODE`, `refused NUMBER PLACE CODE`, with `-` for no
-// code.
+// place; an image's verdict and its code: `accepted DEPTH BUDGET CODE`, `refused NUMBER PLACE CODE`, with `-` for no
+// code; `machine CODE`, the machine that is scanned from then on; or a scan of it: `scan MS STEPS INPUTS OUTPUTS`, with
+// the numbers of the values parted by commas, and `-` for none.
 #![tactic(auto)]
 
 use anyhow::{Context, Result, bail};
 use bay_config::bay::Point;
 use bay_config::read::read_bay;
 use il_image::decode::decode;
+use il_image::value::Value;
+use il_scan::machine::Machine;
 use il_verify::verify::verify;
 use std::alloc::Global;
 use std::io::Read;
 
-/// A bay of one switch, QA1.
+/// A bay of two switches, QA1 and QB1.
 const BAY: &str =
     "bay = { domain = \"B\", vendor = \"V\", model = \"M\", revision = \"1\", scan_max_age_ms = 0 }
-switch = [{ id = \"QA1\", kind = \"breaker\", control = \"status\" }]
+switch = [{ id = \"QA1\", kind = \"breaker\", control = \"status\" },
+ { id = \"QB1\", kind = \"disconnector\", control = \"status\" }]
 ";
 
 /// What the next images begin with, in hexadecimal digits.
@@ -63,15 +67,21 @@ fn is_judged(
     }
 }
 
+/// The octets of the image with this code, behind the front.
+fn image_of(alloc: Global, front: &Front, code: &str) -> Result<Vec<u8>> {
+    let code = octets_of(alloc, code)?;
+    let mut octets = octets_of(alloc, front.hex)?;
+    octets.extend_from_slice(&u16::try_from(code.len())?.to_be_bytes())?;
+    octets.extend_from_slice(code.as_slice())?;
+    Ok(octets)
+}
+
 /// The case of a line, behind the front of its image.
 fn check(alloc: Global, points: &[Point], front: &Front, line: &str) -> Result<()> {
     let (verdict, rest) = first_word(line);
     let (first, rest) = first_word(rest);
     let (second, code) = first_word(rest);
-    let code = octets_of(alloc, code)?;
-    let mut octets = octets_of(alloc, front.hex)?;
-    octets.extend_from_slice(&u16::try_from(code.len())?.to_be_bytes())?;
-    octets.extend_from_slice(code.as_slice())?;
+    let octets = image_of(alloc, front, code)?;
     let (first, second) = (first.parse::<u64>()?, second.parse::<u64>()?);
     let accepted = verdict == "accepted";
     if !is_judged(alloc, points, octets.as_slice(), accepted, first, second)? {
@@ -80,23 +90,96 @@ fn check(alloc: Global, points: &[Point], front: &Front, line: &str) -> Result<(
     Ok(())
 }
 
+/// The machine of the image with this code, behind the front.
+fn machine_of(alloc: Global, points: &[Point], front: &Front, code: &str) -> Result<Machine> {
+    let octets = image_of(alloc, front, code)?;
+    match verify(alloc, decode(alloc, octets.as_slice())?, points) {
+        Ok(verified) => match Machine::new(alloc, verified) {
+            Ok(machine) => Ok(machine),
+            Err(_) => bail!("out of memory"),
+        },
+        Err(refused) => Err(refused.fault.into()),
+    }
+}
+
+/// The values of the points that may only be read, from their numbers.
+fn inputs_of(alloc: Global, machine: &Machine, numbers: &str) -> Result<Vec<Value>> {
+    let mut inputs = Vec::new(alloc);
+    let mut words = numbers.split(",");
+    for point in machine.verified().image().points() {
+        if !point.writable {
+            let number = words.next().unwrap_or("").parse::<i64>()?;
+            match Value::of(point.elementary, number) {
+                Some(value) => inputs.push(value)?,
+                None => bail!("{numbers}"),
+            }
+        }
+    }
+    Ok(inputs)
+}
+
+/// Whether the values have these numbers.
+fn have(values: &[Value], numbers: &str) -> bool {
+    let mut words = numbers.split(",");
+    for value in values {
+        let same = match words.next().unwrap_or("").parse::<i64>() {
+            Ok(number) => number == value.number(),
+            Err(_) => false,
+        };
+        if !same {
+            return false;
+        }
+    }
+    true
+}
+
+/// A scan of the machine, with what it takes and gives.
+fn scan(alloc: Global, machine: &mut Machine, line: &str) -> Result<()> {
+    let (now, rest) = first_word(line);
+    let (steps, rest) = first_word(rest);
+    let (inputs, outputs) = first_word(rest);
+    let (now, steps) = (now.parse::<u64>()?, steps.parse::<u64>()?);
+    let values = inputs_of(alloc, machine, inputs)?;
+    if !machine.fits(values.as_slice()) {
+        bail!("{line}");
+    }
+    let scan = machine.scan(values.as_slice(), now);
+    let is_so = u64::from(scan.steps) == steps && have(scan.outputs, outputs);
+    if !is_so {
+        bail!("{line}");
+    }
+    Ok(())
+}
+
 fn main(rt: HostRuntime) -> Result<()> {
     let bay = read_bay(rt.alloc(), BAY)?;
+    let points = bay.points.as_slice();
     let mut text = String::new(rt.alloc());
     rt.reader().read_to_string(&mut text)?;
-    let mut front = Front { hex: "" };
+    let mut front = Front {
+        hex: "494c424302000000000000",
+    };
+    let mut machine = machine_of(rt.alloc(), points, &front, "01")?;
     let mut images = 0u32;
+    let mut scans = 0u32;
     for line in text.as_str().lines() {
         let (word, rest) = first_word(line);
         match word {
             "#" => {}
             "front" => front.hex = rest,
+            "machine" => {
+                machine = machine_of(rt.alloc(), points, &front, rest).context(line)?;
+            }
+            "scan" => {
+                scan(rt.alloc(), &mut machine, rest).context(line)?;
+                scans = scans.saturating_add(1);
+            }
             _ => {
-                check(rt.alloc(), bay.points.as_slice(), &front, line).context(line)?;
+                check(rt.alloc(), points, &front, line).context(line)?;
                 images = images.saturating_add(1);
             }
         }
     }
-    println!(&rt; "{images} images are judged as they should be")?;
+    println!(&rt; "{images} images are judged and {scans} scans come out as they should")?;
     Ok(())
 }

@@ -1,0 +1,12 @@
+use Rattle.std.proofs.Common.{◌-◌, length, reverse}
+use Rattle.il_scan.specs.Standing.{first_state}
+use Rattle.il_scan.specs.Words.{words}
+use Rattle.il_scan.proofs.RunLemmas.{Comes}
+use Rattle.il_scan.proofs.run.run.Given as goal
+
+abbrev pub invariant-loop-next : goal.invariant-loop-next
+invariant-loop-next l = Comes l.image l.now (first_state l.image l.fn.slots l.fn.timers) l.place l.steps (words (reverse l.stack.items) l.slots l.timers)
+
+-- the octets that are left
+abbrev pub decreases-loop-next : goal.decreases-loop-next
+decreases-loop-next l = length l.code - l.place

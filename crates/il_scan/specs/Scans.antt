@@ -1,0 +1,116 @@
+-- What a scan of a machine is.
+use Rattle.std.specs.Prelude.{ℕ, zero, suc, ◌≡◌, ◌+◌, ◌≤◌, ◌&&◌, Bool, true, false, is_some, not, List, [], ◌∷◌, length, map, filter, drop, slice_get, Some, if◌then◌else◌}
+use Rattle.bay_base.specs.declared.types.ElementaryType.{ElementaryType}
+use Rattle.bay_base.specs.declared.types.ElementaryType.TheVariants as elementary
+use Rattle.il_image.specs.declared.image.ImagePoint.{ImagePoint}
+use Rattle.il_image.specs.declared.timer.Timer.{Timer}
+use Rattle.il_image.specs.declared.value.Value.{Value}
+use Rattle.il_image.specs.declared.value.Value.TheVariants.{Truth, Short, Long, Wide, Span}
+use Rattle.std.specs.Prelude.{pos}
+use Rattle.il_image.specs.Images.{Image}
+use Rattle.il_image.specs.Machine.{Goes, Halted, State, run, start, turn}
+use Rattle.il_image.specs.Timers.{first_state}
+use Rattle.il_image.specs.Values.{number_of, type_of, value_of}
+use Rattle.bay_base.specs.Types.{same_type}
+use Rattle.il_verify.specs.Verdicts.{IsBudget, IsDepth}
+use Rattle.il_scan.specs.Words.{AreTyped}
+
+-- what callers see of a machine: its verified image, and what its slots and its timers hold between scans
+pub record Held : Type 0 where
+  pub image : Image
+  pub slots : List Value
+  pub timers : List Timer
+
+-- ---- the first state
+
+-- FALSE, or 0 of a type
+abbrev pub first_value : ElementaryType → Value
+first_value elementary.Bool = Truth false
+first_value elementary.Int = Short (pos 0)
+first_value elementary.Dint = Long (pos 0)
+first_value elementary.Lint = Wide (pos 0)
+first_value elementary.Time = Span 0
+
+-- the points' slots, and behind them the variables' with their initial values
+abbrev pub first_slots : List ImagePoint → List Value → List Value
+first_slots [] variables = variables
+first_slots (p ∷ points) variables = first_value p.elementary ∷ first_slots points variables
+
+abbrev pub held_first : Image → Held
+held_first image = record { image = image; slots = first_slots image.points image.variables; timers = map first_state image.timers }
+
+-- ---- inputs and outputs
+
+-- the points that may only be read, and those that may be written, in the table's order
+abbrev pub read_only : List ImagePoint → List ImagePoint
+read_only points = filter (λ p. not p.writable) points
+
+abbrev pub type_of_point : ImagePoint → ElementaryType
+type_of_point p = p.elementary
+
+-- There is one input for each point that may only be read, in the table's order, and it is of its type.
+abbrev pub AreInputs : List ImagePoint → List Value → Type 0
+AreInputs points inputs = AreTyped (map type_of_point (read_only points)) inputs
+
+-- The value is one of the type.
+abbrev pub is_of : ElementaryType → Value → Bool
+is_of t v = same_type (type_of v) t && is_some (value_of t (number_of v))
+
+-- the first of the inputs is of the type
+abbrev pub begins_with : ElementaryType → List Value → Bool
+begins_with t [] = false
+begins_with t (input ∷ inputs) = is_of t input
+
+-- the test of `AreInputs`
+abbrev pub are_inputs : List ImagePoint → List Value → Bool
+are_inputs [] [] = true
+are_inputs [] (input ∷ inputs) = false
+are_inputs (p ∷ points) inputs = if p.writable then are_inputs points inputs else (begins_with p.elementary inputs && are_inputs points (drop 1 inputs))
+
+-- the first of the inputs, or else what was there
+abbrev pub first_input : {A : Type 0} → List A → A → A
+first_input [] old = old
+first_input (input ∷ inputs) old = input
+
+-- the slots with the inputs in the slots of the points that may only be read
+abbrev pub with_inputs : {A : Type 0} → List ImagePoint → List A → List A → List A
+with_inputs [] inputs slots = slots
+with_inputs (p ∷ points) inputs [] = []
+with_inputs (p ∷ points) inputs (slot ∷ slots) =
+    (if p.writable then slot else first_input inputs slot) ∷ with_inputs points (if p.writable then inputs else drop 1 inputs) slots
+
+-- the number of points that may be written
+abbrev pub writable_count : List ImagePoint → ℕ
+writable_count [] = 0
+writable_count (p ∷ points) = (if p.writable then 1 else 0) + writable_count points
+
+-- the slots of the points that may be written
+abbrev pub outputs_of : {A : Type 0} → List ImagePoint → List A → List A
+outputs_of [] slots = []
+outputs_of (p ∷ points) [] = []
+outputs_of (p ∷ points) (slot ∷ slots) = if p.writable then slot ∷ outputs_of points slots else outputs_of points slots
+
+-- ---- a scan
+
+-- where the run of a scan starts
+abbrev pub started : Held → List Value → State
+started held inputs = start (with_inputs held.image.points inputs held.slots) held.timers
+
+-- No state of a run of at most so many steps has more cells than this on its stack.
+abbrev pub IsWithin : List ℕ → ℕ → ℕ → ℕ → State → Type 0
+IsWithin code now depth zero s = length s.cells ≤ depth
+IsWithin code now depth (suc most) s = (length s.cells ≤ depth) × ((next : State) → turn code now s ≡ Goes next → IsWithin code now depth most next)
+
+-- The machine's run from these inputs at this moment ends at HALT, after so many steps, with these slots and timers.
+pub record Scans (old : Held) (inputs : List Value) (now : ℕ) (new : Held) (steps : ℕ) (outputs : List Value) : Type 0 where
+  -- the image stays
+  pub image : new.image ≡ old.image
+  -- the run is over at HALT within the budget, and no step of it is a trap
+  pub halts : (budget : ℕ) → IsBudget old.image.code budget → run old.image.code now budget (started old inputs) 0 ≡ Halted new.slots new.timers steps
+  pub within : (budget : ℕ) → IsBudget old.image.code budget → steps ≤ budget
+  -- the stack is never deeper than the image's depth
+  pub depth : (most : ℕ) (steps : ℕ) → IsDepth old.image most → IsWithin old.image.code now most steps (started old inputs)
+  -- a point that may only be read keeps its input
+  pub keeps : (n : ℕ) (p : ImagePoint) → slice_get old.image.points n ≡ Some p → p.writable ≡ false → slice_get new.slots n ≡ slice_get (started old inputs).slots n
+  -- the outputs are the points that may be written
+  pub given : outputs ≡ outputs_of old.image.points new.slots

@@ -1,0 +1,107 @@
+-- Where the machine of typed values stands in verified code, and what one step of the machine of words has to do there.
+use Rattle.std.specs.Prelude.{ℕ, ℤ, ◌≡◌, ◌≤◌, IsSome, if◌then◌else◌, true, List, [], ◌∷◌, length, slice_get, Option, Some, None}
+use Rattle.bay_base.specs.declared.types.ElementaryType.{ElementaryType}
+use Rattle.il_image.specs.declared.kind.Kind.{Kind}
+use Rattle.il_image.specs.declared.timer.Timer.{Timer}
+use Rattle.il_image.specs.declared.value.Value.{Value}
+use Rattle.il_image.specs.Images.{Each, Image, IsValue}
+use Rattle.il_image.specs.Kinds.{HasKind}
+use Rattle.il_image.specs.Machine.{Goes, Halted, Halts, State, run, start, turn}
+use Rattle.il_image.specs.Tables.{Agrees, IsHalt, IsSuccessor, Table, slot_types}
+use Rattle.il_verify.specs.Judging.{is_read_only}
+use Rattle.il_verify.specs.Slots.{slots_of}
+use Rattle.il_verify.specs.Verdicts.{IsBudget, IsDepth, KeepsReadOnly}
+use Rattle.il_image.specs.declared.image.ImagePoint.{ImagePoint}
+use Rattle.il_image.specs.Values.{value_of}
+use Rattle.il_scan.specs.Scans.{Held, IsWithin, writable_count}
+use Rattle.il_scan.specs.Words.{AreTyped, StandFor, Words, value_at, values_of, words, words_of}
+
+-- Each value is of the kind at its place, and a value of its type.
+abbrev pub Fit : List Value → List Kind → Type 0
+Fit [] [] = Unit {0}
+Fit (v ∷ values) (k ∷ kinds) = (HasKind v k × IsValue v) × Fit values kinds
+Fit [] (k ∷ kinds) = ⊥
+Fit (v ∷ values) [] = ⊥
+
+-- PT and ET are values of TIME.
+abbrev pub IsTimer : Timer → Type 0
+IsTimer t = (t.preset ≤ 0x7FFF_FFFF) × (t.elapsed ≤ 0x7FFF_FFFF)
+
+-- The slots hold values of these types, and there are so many timers.
+pub record Typed (types : List ElementaryType) (count : ℕ) (slots : List Value) (timers : List Timer) : Type 0 where
+  pub of_types : AreTyped types slots
+  pub so_many : length timers ≡ count
+  pub times : Each IsTimer timers
+
+-- An agreeing table allows the cells at the place, and the code writes what it may.
+pub record Standing (image : Image) (s : State) : Type 0 where
+  pub table : Table
+  pub agrees : Agrees image table
+  pub writes : KeepsReadOnly image
+  pub kinds : List Kind
+  pub here : table s.place ≡ Some kinds
+  pub fit : Fit s.cells kinds
+  pub typed : Typed (slot_types image) (length image.timers) s.slots s.timers
+
+-- the words that stand for a state's values, and its timers
+abbrev pub words_at : State → Words
+words_at s = words (words_of s.cells) (words_of s.slots) s.timers
+
+-- The words stand for a state at this place of the code.
+pub record StandsAt (image : Image) (place : ℕ) (w : Words) (s : State) : Type 0 where
+  pub standing : Standing image s
+  pub there : s.place ≡ place
+  pub are : words_at s ≡ w
+
+-- The slots of points that may only be read are the same.
+abbrev pub KeepsSlots : Image → Words → Words → Type 0
+KeepsSlots image old new = (n : ℕ) → is_read_only (slots_of image) n ≡ true → slice_get new.slots n ≡ slice_get old.slots n
+
+-- What the machine of typed values does from the state, words have come to: it halts where there is no next place, and else goes there.
+abbrev pub Turns : Image → ℕ → State → Option ℕ → Words → Type 0
+Turns image now s None after = (turn image.code now s ≡ Halts) × (after ≡ words_at s) × IsHalt image.code s.place
+Turns image now s (Some to) after =
+    IsSuccessor image.code s.place to × ((t : State) × (turn image.code now s ≡ Goes t) × StandsAt image to after t) × KeepsSlots image (words_at s) after
+
+-- ---- between runs
+
+-- The words stand for values of the slots' types, and the timers are the image's.
+pub record IsHeld (image : Image) (slots : List ℤ) (timers : List Timer) : Type 0 where
+  pub stand : StandFor (slot_types image) slots (values_of (slot_types image) slots)
+  pub so_many : length timers ≡ length image.timers
+  pub times : Each IsTimer timers
+
+-- where a run starts, told by words
+abbrev pub first_state : Image → List ℤ → List Timer → State
+first_state image slots timers = start (values_of (slot_types image) slots) timers
+
+-- The run of the image's code from these slots and timers ends with the others, after so many steps.
+pub record RunsTo (image : Image) (now : ℕ) (slots : List ℤ) (timers : List Timer) (new_slots : List ℤ) (new_timers : List Timer) (steps : ℕ) : Type 0 where
+  pub halts : (budget : ℕ) → IsBudget image.code budget → run image.code now budget (first_state image slots timers) 0 ≡ Halted (values_of (slot_types image) new_slots) new_timers steps
+  pub within : (budget : ℕ) → IsBudget image.code budget → steps ≤ budget
+  pub depth : (most : ℕ) (count : ℕ) → IsDepth image most → IsWithin image.code now most count (first_state image slots timers)
+  pub keeps : (n : ℕ) → is_read_only (slots_of image) n ≡ true → slice_get new_slots n ≡ slice_get slots n
+  pub held : IsHeld image new_slots new_timers
+
+-- ---- the machine
+
+-- what callers see of words and timers
+abbrev pub held : Image → List ℤ → List Timer → Held
+held image slots timers = record { image = image; slots = values_of (slot_types image) slots; timers = timers }
+
+-- what a machine keeps: there is an output for each point that may be written
+pub record IsKept (image : Image) (slots : List ℤ) (timers : List Timer) (outputs : List Value) : Type 0 where
+  pub held : IsHeld image slots timers
+  pub room : length outputs ≡ writable_count image.points
+
+-- There is a word for each point, and it stands for a value of its type.
+abbrev pub AreWords : List ImagePoint → List ℤ → Type 0
+AreWords [] words = Unit {0}
+AreWords (p ∷ points) [] = ⊥
+AreWords (p ∷ points) (w ∷ words) = IsSome (value_of p.elementary w) × AreWords points words
+
+-- the values of the points that may be written
+abbrev pub given_by : List ImagePoint → List ℤ → List Value
+given_by [] words = []
+given_by (p ∷ points) [] = []
+given_by (p ∷ points) (w ∷ words) = if p.writable then value_at p.elementary w ∷ given_by points words else given_by points words

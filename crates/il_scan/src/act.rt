@@ -1,0 +1,292 @@
+// What each instruction does to the stack, the slots and the timers.
+ghost use Rattle.std.specs.Prelude.{◌≡◌, ◌+◌, ◌^◌, ◌<◌, ◌≤◌, ◌∷◌, length, reverse, slice_set, drop, pos, unsigned_abs, if◌then◌else◌};
+ghost use Rattle.std.specs.Ordering.{int_eq};
+ghost use Rattle.il_image.specs.Arithmetic.{DividesBy, compared, computed};
+ghost use Rattle.il_image.specs.Timers as time;
+ghost use Rattle.il_scan.specs.Words as spec;
+ghost use Rattle.il_scan.specs.Words.{IsReady, IsSpan, is_true, joined, slot_at, timer_at, word_of, worked, words};
+
+use crate::stack::{Stack, pop, push, top};
+use il_image::arithmetic::{Comparison, Operation, Width, compare, compute};
+use il_image::instr::Instr;
+use il_image::opcode::{Connective, SlotUse, TimerUse, When};
+use il_image::timer::Timer;
+
+/// NOT: the top is negated.
+#[inline(always)]
+fn negate(stack: &mut Stack)
+    requires depth { length (reverse stack.old.items) ≤ 32 }
+    requires some { 0 < length (reverse stack.old.items) }
+    ensures { reverse stack.new.items ≡ word_of (int_eq (spec.top (reverse stack.old.items)) (pos 0)) ∷ drop 1 (reverse stack.old.items) }
+{
+    let word = pop(stack);
+    push(stack, i64::from(word == 0));
+}
+
+/// AND: two BOOLs become one.
+#[inline(always)]
+fn and(stack: &mut Stack)
+    requires depth { length (reverse stack.old.items) ≤ 32 }
+    requires two { 1 < length (reverse stack.old.items) }
+    ensures { reverse stack.new.items ≡ joined Connective.And (spec.first (reverse stack.old.items)) (spec.top (reverse stack.old.items)) ∷ drop 2 (reverse stack.old.items) }
+{
+    let second = pop(stack);
+    let first = pop(stack);
+    push(stack, if first == 0 { 0 } else { second });
+}
+
+/// OR: two BOOLs become one.
+#[inline(always)]
+fn or(stack: &mut Stack)
+    requires depth { length (reverse stack.old.items) ≤ 32 }
+    requires two { 1 < length (reverse stack.old.items) }
+    ensures { reverse stack.new.items ≡ joined Connective.Or (spec.first (reverse stack.old.items)) (spec.top (reverse stack.old.items)) ∷ drop 2 (reverse stack.old.items) }
+{
+    let second = pop(stack);
+    let first = pop(stack);
+    push(stack, if first == 0 { second } else { 1 });
+}
+
+/// XOR: two BOOLs become one.
+#[inline(always)]
+fn xor(stack: &mut Stack)
+    requires depth { length (reverse stack.old.items) ≤ 32 }
+    requires two { 1 < length (reverse stack.old.items) }
+    ensures { reverse stack.new.items ≡ joined Connective.Xor (spec.first (reverse stack.old.items)) (spec.top (reverse stack.old.items)) ∷ drop 2 (reverse stack.old.items) }
+{
+    let second = pop(stack);
+    let first = pop(stack);
+    push(stack, i64::from(first != second));
+}
+
+/// AND, OR or XOR.
+#[inline(always)]
+fn combine(stack: &mut Stack, connective: Connective)
+    requires depth { length (reverse stack.old.items) ≤ 32 }
+    requires two { 1 < length (reverse stack.old.items) }
+    ensures { reverse stack.new.items ≡ joined connective (spec.first (reverse stack.old.items)) (spec.top (reverse stack.old.items)) ∷ drop 2 (reverse stack.old.items) }
+{
+    match connective {
+        Connective::And => and(stack),
+        Connective::Or => or(stack),
+        Connective::Xor => xor(stack),
+    }
+}
+
+/// One of ADD, SUB, MUL, DIV, MOD: two numbers of the width become one.
+#[inline(always)]
+fn calculate(stack: &mut Stack, operation: Operation, width: Width)
+    requires depth { length (reverse stack.old.items) ≤ 32 }
+    requires two { 1 < length (reverse stack.old.items) }
+    requires divisor { DividesBy operation (spec.top (reverse stack.old.items)) }
+    ensures { reverse stack.new.items ≡ computed operation width (spec.first (reverse stack.old.items)) (spec.top (reverse stack.old.items)) ∷ drop 2 (reverse stack.old.items) }
+{
+    let second = pop(stack);
+    let first = pop(stack);
+    push(stack, compute(operation, width, first, second));
+}
+
+/// ADD, SUB, MUL, DIV or MOD. Each is a call of its own, so that what is done is known where the opcode is.
+#[inline(always)]
+fn calculate_by(stack: &mut Stack, operation: Operation, width: Width)
+    requires depth { length (reverse stack.old.items) ≤ 32 }
+    requires two { 1 < length (reverse stack.old.items) }
+    requires divisor { DividesBy operation (spec.top (reverse stack.old.items)) }
+    ensures { reverse stack.new.items ≡ computed operation width (spec.first (reverse stack.old.items)) (spec.top (reverse stack.old.items)) ∷ drop 2 (reverse stack.old.items) }
+{
+    match operation {
+        Operation::Add => calculate(stack, Operation::Add, width),
+        Operation::Sub => calculate(stack, Operation::Sub, width),
+        Operation::Mul => calculate(stack, Operation::Mul, width),
+        Operation::Div => calculate(stack, Operation::Div, width),
+        Operation::Mod => calculate(stack, Operation::Mod, width),
+    }
+}
+
+/// One of GT, GE, EQ, NE, LE, LT: two values of one type become a BOOL.
+#[inline(always)]
+fn relate(stack: &mut Stack, comparison: Comparison)
+    requires depth { length (reverse stack.old.items) ≤ 32 }
+    requires two { 1 < length (reverse stack.old.items) }
+    ensures { reverse stack.new.items ≡ word_of (compared comparison (spec.first (reverse stack.old.items)) (spec.top (reverse stack.old.items))) ∷ drop 2 (reverse stack.old.items) }
+{
+    let second = pop(stack);
+    let first = pop(stack);
+    push(stack, i64::from(compare(comparison, first, second)));
+}
+
+/// GT, GE, EQ, NE, LE or LT.
+#[inline(always)]
+fn relate_by(stack: &mut Stack, comparison: Comparison)
+    requires depth { length (reverse stack.old.items) ≤ 32 }
+    requires two { 1 < length (reverse stack.old.items) }
+    ensures { reverse stack.new.items ≡ word_of (compared comparison (spec.first (reverse stack.old.items)) (spec.top (reverse stack.old.items))) ∷ drop 2 (reverse stack.old.items) }
+{
+    match comparison {
+        Comparison::Gt => relate(stack, Comparison::Gt),
+        Comparison::Ge => relate(stack, Comparison::Ge),
+        Comparison::Eq => relate(stack, Comparison::Eq),
+        Comparison::Ne => relate(stack, Comparison::Ne),
+        Comparison::Le => relate(stack, Comparison::Le),
+        Comparison::Lt => relate(stack, Comparison::Lt),
+    }
+}
+
+/// WIDEN, WIDENL: the word of a number is the same in each width.
+#[inline(always)]
+fn widen(_stack: &mut Stack)
+    requires { 0 < length (reverse _stack.old.items) }
+    ensures { reverse _stack.new.items ≡ reverse _stack.old.items }
+{}
+
+/// LOAD: a slot's word goes on the stack.
+#[inline(always)]
+fn load(stack: &mut Stack, slots: &[i64], number: u16)
+    requires room { length (reverse stack.old.items) < 32 }
+    requires there { number < length slots.now }
+    ensures { reverse stack.new.items ≡ slot_at slots.now number ∷ reverse stack.old.items }
+{
+    push(stack, slots[usize::from(number)]);
+}
+
+/// STORE: the slot takes the top.
+#[inline(always)]
+fn store(stack: &Stack, slots: &mut [i64], number: u16)
+    requires some { 0 < length (reverse stack.now.items) }
+    requires there { number < length slots.old }
+    ensures { slots.new ≡ slice_set slots.old number (spec.top (reverse stack.now.items)) }
+{
+    slots[usize::from(number)] = top(stack);
+}
+
+/// SETIF, RESETIF: the slot takes TRUE or FALSE where the top is TRUE.
+#[inline(always)]
+fn set_if(stack: &Stack, slots: &mut [i64], number: u16, word: i64)
+    requires some { 0 < length (reverse stack.now.items) }
+    requires there { number < length slots.old }
+    ensures { slots.new ≡ slice_set slots.old number (if int_eq (spec.top (reverse stack.now.items)) (pos 0) then slot_at slots.old number else word) }
+{
+    let place = usize::from(number);
+    let old = slots[place];
+    slots[place] = if top(stack) == 0 { old } else { word };
+}
+
+/// The place of the next instruction behind a conditional jump: the first where the top is FALSE.
+#[inline(always)]
+fn choose(stack: &Stack, where_false: usize, where_true: usize) -> usize
+    requires { 0 < length (reverse stack.now.items) }
+    ensures { result ≡ (if int_eq (spec.top (reverse stack.now.items)) (pos 0) then where_false else where_true) }
+{
+    if top(stack) == 0 {
+        where_false
+    } else {
+        where_true
+    }
+}
+
+/// SETIN: the timer takes the top as IN.
+#[inline(always)]
+fn set_input(stack: &mut Stack, timers: &mut [Timer], number: u16)
+    requires depth { length (reverse stack.old.items) ≤ 32 }
+    requires some { 0 < length (reverse stack.old.items) }
+    requires there { number < length timers.old }
+    ensures stack { reverse stack.new.items ≡ drop 1 (reverse stack.old.items) }
+    ensures timers { timers.new ≡ slice_set timers.old number (record (timer_at timers.old number) { input = is_true (spec.top (reverse stack.old.items)) }) }
+{
+    let word = pop(stack);
+    let timer = &mut timers[usize::from(number)];
+    timer.input = word != 0;
+}
+
+/// SETPT: the timer takes the top as PT.
+#[inline(always)]
+fn set_preset(stack: &mut Stack, timers: &mut [Timer], number: u16)
+    requires depth { length (reverse stack.old.items) ≤ 32 }
+    requires some { 0 < length (reverse stack.old.items) }
+    requires there { number < length timers.old }
+    requires span { IsSpan (spec.top (reverse stack.old.items)) }
+    ensures stack { reverse stack.new.items ≡ drop 1 (reverse stack.old.items) }
+    ensures timers { timers.new ≡ slice_set timers.old number (record (timer_at timers.old number) { preset = unsigned_abs (spec.top (reverse stack.old.items)) }) }
+{
+    let word = pop(stack);
+    let timer = &mut timers[usize::from(number)];
+    timer.preset = word as u32;
+}
+
+/// RUN: one call of the timer at this moment.
+#[inline(always)]
+fn run(timers: &mut [Timer], number: u16, now: u64)
+    requires { number < length timers.old }
+    ensures { timers.new ≡ slice_set timers.old number (time.called (timer_at timers.old number) now) }
+{
+    timers[usize::from(number)].call(now);
+}
+
+/// LOADQ: Q goes on the stack.
+#[inline(always)]
+fn load_output(stack: &mut Stack, timers: &[Timer], number: u16)
+    requires room { length (reverse stack.old.items) < 32 }
+    requires there { number < length timers.now }
+    ensures { reverse stack.new.items ≡ word_of (timer_at timers.now number).output ∷ reverse stack.old.items }
+{
+    let timer = timers[usize::from(number)];
+    push(stack, i64::from(timer.output));
+}
+
+/// LOADET: ET goes on the stack.
+#[inline(always)]
+fn load_elapsed(stack: &mut Stack, timers: &[Timer], number: u16)
+    requires room { length (reverse stack.old.items) < 32 }
+    requires there { number < length timers.now }
+    ensures { reverse stack.new.items ≡ pos (timer_at timers.now number).elapsed ∷ reverse stack.old.items }
+{
+    let timer = timers[usize::from(number)];
+    push(stack, i64::from(timer.elapsed));
+}
+
+/// Does the instruction with this place behind it, at this moment, and gives the place of the next one if there is one.
+#[inline(always)]
+pub(crate) fn act(
+    now: u64,
+    instr: Instr,
+    next: usize,
+    stack: &mut Stack,
+    slots: &mut [i64],
+    timers: &mut [Timer],
+) -> Option<usize>
+    requires next { next < 2 ^ 63 }
+    requires depth { length (reverse stack.old.items) ≤ 32 }
+    requires ready { IsReady instr (words (reverse stack.old.items) slots.old timers.old) }
+    ensures to { result ≡ spec.leads instr next (reverse stack.old.items) }
+    ensures words { words (reverse stack.new.items) slots.new timers.new ≡ worked now instr (words (reverse stack.old.items) slots.old timers.old) }
+{
+    match instr {
+        Instr::Halt => return None,
+        Instr::Push(value) => push(stack, value.number()),
+        Instr::Drop => {
+            pop(stack);
+        }
+        Instr::Slot(SlotUse::Load, number) => load(stack, slots, number),
+        Instr::Slot(SlotUse::Store, number) => store(stack, slots, number),
+        Instr::Slot(SlotUse::SetIf, number) => set_if(stack, slots, number, 1),
+        Instr::Slot(SlotUse::ResetIf, number) => set_if(stack, slots, number, 0),
+        Instr::Not => negate(stack),
+        Instr::Combine(connective) => combine(stack, connective),
+        Instr::Compute(operation, width) => calculate_by(stack, operation, width),
+        Instr::Compare(comparison) => relate_by(stack, comparison),
+        Instr::Widen(_) => widen(stack),
+        Instr::Jump(When::Always, distance) => return Some(next + usize::from(distance)),
+        Instr::Jump(When::IfTrue, distance) => {
+            return Some(choose(stack, next, next + usize::from(distance)));
+        }
+        Instr::Jump(When::IfFalse, distance) => {
+            return Some(choose(stack, next + usize::from(distance), next));
+        }
+        Instr::Timer(TimerUse::SetInput, number) => set_input(stack, timers, number),
+        Instr::Timer(TimerUse::SetPreset, number) => set_preset(stack, timers, number),
+        Instr::Timer(TimerUse::Run, number) => run(timers, number, now),
+        Instr::Timer(TimerUse::LoadOutput, number) => load_output(stack, timers, number),
+        Instr::Timer(TimerUse::LoadElapsed, number) => load_elapsed(stack, timers, number),
+    }
+    Some(next)
+}

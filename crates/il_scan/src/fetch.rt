@@ -1,0 +1,134 @@
+// The instruction at a place of verified code, read with no test of what is there.
+ghost use Rattle.std.specs.Prelude.{◌≡◌, ◌+◌, ◌≤◌, ◌<◌, IsOk, IsSome, Ok, Some, drop, length};
+ghost use Rattle.std.specs.Int.{w16, from_be_bytes};
+ghost use Rattle.il_image.specs.declared.opcode.Version.TheVariants.{Two};
+ghost use Rattle.il_image.specs.Octets.{octet_count, size_of};
+ghost use Rattle.il_image.specs.Reading.{instr_at, operand_from, signed_at, value_at, width_at};
+
+use bay_base::types::ElementaryType;
+use il_image::arithmetic::Width;
+use il_image::instr::Instr;
+use il_image::opcode::Opcode;
+use il_image::value::Value;
+
+/// The number in two octets.
+#[inline(always)]
+fn number(code: &[u8], at: usize) -> u16
+    requires { at + 2 ≤ length code.now }
+    ensures { result ≡ from_be_bytes w16 (drop at code.now) }
+{
+    u16::from_be_bytes([code[at], code[at + 1]])
+}
+
+/// The number of a value of the type, in two's complement.
+#[inline(always)]
+fn signed(elementary: ElementaryType, code: &[u8], at: usize) -> i64
+    requires { at + octet_count (size_of elementary) ≤ length code.now }
+    ensures { signed_at (size_of elementary) (drop at code.now) ≡ Ok (result, drop (at + octet_count (size_of elementary)) code.now) }
+{
+    match elementary {
+        ElementaryType::Bool => i64::from(i8::from_be_bytes([code[at]])),
+        ElementaryType::Int => i64::from(i16::from_be_bytes([code[at], code[at + 1]])),
+        ElementaryType::Dint => i64::from(i32::from_be_bytes([
+            code[at],
+            code[at + 1],
+            code[at + 2],
+            code[at + 3],
+        ])),
+        ElementaryType::Time => i64::from(i32::from_be_bytes([
+            code[at],
+            code[at + 1],
+            code[at + 2],
+            code[at + 3],
+        ])),
+        ElementaryType::Lint => i64::from_be_bytes([
+            code[at],
+            code[at + 1],
+            code[at + 2],
+            code[at + 3],
+            code[at + 4],
+            code[at + 5],
+            code[at + 6],
+            code[at + 7],
+        ]),
+    }
+}
+
+/// The number of octets of a value of the type.
+#[inline(always)]
+fn size(elementary: ElementaryType) -> usize
+    ensures value { result ≡ octet_count (size_of elementary) }
+    ensures few { result ≤ 8 }
+{
+    match elementary {
+        ElementaryType::Bool => 1,
+        ElementaryType::Int => 2,
+        ElementaryType::Dint | ElementaryType::Time => 4,
+        ElementaryType::Lint => 8,
+    }
+}
+
+/// The value of the type that stands at a place.
+#[inline(always)]
+fn value(elementary: ElementaryType, code: &[u8], at: usize) -> Value
+    requires { IsOk (value_at (size_of elementary) elementary (drop at code.now)) }
+    ensures { value_at (size_of elementary) elementary (drop at code.now) ≡ Ok (result, drop (at + octet_count (size_of elementary)) code.now) }
+{
+    match Value::of(elementary, signed(elementary, code, at)) {
+        Some(value) => value,
+        None => unreachable!(),
+    }
+}
+
+/// The width at a place.
+#[inline(always)]
+fn width(code: &[u8], at: usize) -> Width
+    requires { IsOk (width_at Two (drop at code.now)) }
+    ensures { width_at Two (drop at code.now) ≡ Ok (result, drop (at + 1) code.now) }
+{
+    match code[at] {
+        0x02 => Width::Int,
+        0x03 => Width::Dint,
+        0x05 => Width::Lint,
+        _ => unreachable!(),
+    }
+}
+
+/// The instruction of an opcode whose operand stands at a place, and the place behind it.
+#[inline(always)]
+fn operand(opcode: Opcode, code: &[u8], at: usize) -> (Instr, usize)
+    requires whole { IsOk (operand_from Two opcode (drop at code.now)) }
+    requires within { at ≤ length code.now }
+    ensures value { operand_from Two opcode (drop at code.now) ≡ Ok (result.0, drop result.1 code.now) }
+    ensures within { result.1 ≤ length code.now }
+{
+    match opcode {
+        Opcode::Halt => (Instr::Halt, at),
+        Opcode::Push(elementary) => (
+            Instr::Push(value(elementary, code, at)),
+            at + size(elementary),
+        ),
+        Opcode::Drop => (Instr::Drop, at),
+        Opcode::Slot(slot_use) => (Instr::Slot(slot_use, number(code, at)), at + 2),
+        Opcode::Not => (Instr::Not, at),
+        Opcode::Combine(connective) => (Instr::Combine(connective), at),
+        Opcode::Compute(operation) => (Instr::Compute(operation, width(code, at)), at + 1),
+        Opcode::Compare(comparison) => (Instr::Compare(comparison), at),
+        Opcode::Widen(widening) => (Instr::Widen(widening), at),
+        Opcode::Jump(when) => (Instr::Jump(when, number(code, at)), at + 2),
+        Opcode::Timer(timer_use) => (Instr::Timer(timer_use, number(code, at)), at + 2),
+    }
+}
+
+/// The instruction at a place where one stands, and the place behind it.
+#[inline(always)]
+pub(crate) fn fetch(code: &[u8], place: usize) -> (Instr, usize)
+    requires { IsSome (instr_at code.now place) }
+    ensures value { instr_at code.now place ≡ Some result }
+    ensures within { result.1 ≤ length code.now }
+{
+    match Opcode::of(code[place]) {
+        Some(opcode) => operand(opcode, code, place + 1),
+        None => unreachable!(),
+    }
+}

@@ -1,0 +1,17 @@
+// The virtual machine that runs verified images. It tests nothing that the verifier has shown: no type, no depth, no divisor, no
+// slot, no timer and no place. A value on its stack or in a slot is a word of 64 bits, the value's number, without its type.
+//
+// - `stack`: the operand stack.
+// - `fetch`: the instruction at a place.
+// - `act`: what each instruction does.
+// - `run`: a run of the code, from its first instruction to a HALT.
+// - `slots`: inputs and outputs, and what slots hold at first.
+// - `machine`: the machine, and its scans.
+#![tactic(auto)]
+
+pub(crate) mod act;
+pub(crate) mod fetch;
+pub mod machine;
+pub(crate) mod run;
+pub(crate) mod slots;
+pub(crate) mod stack;

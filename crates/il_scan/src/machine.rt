@@ -1,0 +1,155 @@
+// The machine, which runs a verified image scan by scan.
+ghost use Rattle.std.specs.Prelude.{◌≡◌, ◌↔◌, IfErr, IfOk, IsTrue, length};
+ghost use Rattle.std.specs.Borrow.{sem};
+ghost use Rattle.std.specs.Io.BufRead.{Rests};
+ghost use Rattle.il_scan.specs.Scans.{AreInputs, Scans, held_first, writable_count};
+ghost use Rattle.il_scan.specs.Standing.{IsHeld, held};
+ghost use Rattle.il_scan.specs.contracts.machine.Machine.{the_row};
+ghost use Rattle.il_verify.specs.Verdicts.{IsSafe};
+
+use crate::run::run;
+use crate::slots::{
+    are_inputs, first_slots, first_timers, give_outputs, room_for_outputs, take_inputs,
+};
+use il_image::image::Image;
+use il_image::timer::Timer;
+use il_image::value::Value;
+use il_verify::verify::Verified;
+use std::alloc::{AllocError, Global};
+use std::marker::Model;
+
+/// A machine with a verified image, its slots and its timers. Contracts see the slots as typed values.
+#[derive(Drop)]
+pub struct Machine {
+    verified: Verified,
+    slots: Vec<i64>,
+    timers: Vec<Timer>,
+    outputs: Vec<Value>,
+}
+
+impl Model for Machine {
+    ghost use Rattle.il_scan.specs.Scans.{Held};
+    ghost use Rattle.il_scan.specs.Standing.{IsKept, held};
+
+    ghost Value = { Held };
+
+    ghost view = { λ m. held m.verified m.slots.items m.timers.items };
+
+    ghost invariant = { λ m. IsKept m.verified m.slots.items m.timers.items m.outputs.items };
+}
+
+/// What a scan gives.
+#[derive(Drop)]
+pub struct Scan<'a> {
+    /// The number of instructions that were executed, HALT among them.
+    pub steps: u32,
+    /// The values of the points that may be written, in the image's order.
+    pub outputs: &'a [Value],
+}
+
+/// The slots, the timers and the room for outputs of a machine.
+#[derive(Drop)]
+struct Memory {
+    slots: Vec<i64>,
+    timers: Vec<Timer>,
+    outputs: Vec<Value>,
+}
+
+/// The memory of a machine at first.
+fn memory_of(alloc: Global, image: &Image) -> Result<Memory, AllocError>
+    ensures first { IfOk result (λ m. held image.now m.slots.items m.timers.items ≡ held_first image.now) }
+    ensures held { IfOk result (λ m. IsHeld image.now m.slots.items m.timers.items) }
+    ensures room { IfOk result (λ m. length m.outputs.items ≡ writable_count image.now.points) }
+{
+    let slots = first_slots(alloc, image)?;
+    let timers = first_timers(alloc, image.timers())?;
+    let outputs = room_for_outputs(alloc, image.points())?;
+    Ok(Memory {
+        slots,
+        timers,
+        outputs,
+    })
+}
+
+/// A scan over words: takes the inputs, runs the code, and gives the outputs.
+fn run_once(
+    image: &Image,
+    inputs: &[Value],
+    now: u64,
+    slots: &mut [i64],
+    timers: &mut [Timer],
+    outputs: &mut [Value],
+) -> u32
+    requires safe { IsSafe image.now }
+    requires inputs { AreInputs image.now.points inputs.now }
+    requires held { IsHeld image.now slots.old timers.old }
+    requires room { length outputs.old ≡ writable_count image.now.points }
+    ensures scans { Scans (held image.now slots.old timers.old) inputs.now now (held image.now slots.new timers.new) result outputs.new }
+    ensures held { IsHeld image.now slots.new timers.new }
+{
+    let points = image.points();
+    take_inputs(points, inputs, slots);
+    let steps = run(image, now, slots, timers);
+    give_outputs(points, slots, outputs);
+    steps
+}
+
+impl Machine {
+    /// A machine whose variables have their initial values, whose points are FALSE or 0, and whose timers were never called. For want of
+    /// memory the verified image comes back.
+    pub fn new(alloc: Global, verified: Verified) -> Result<Machine, Verified>
+        ensures ok { IfOk result (λ m. m ≡ held_first verified) }
+        ensures back { IfErr result (λ v. v ≡ verified) }
+    {
+        match memory_of(alloc, verified.image()) {
+            Ok(
+                Memory {
+                    slots,
+                    timers,
+                    outputs,
+                },
+            ) => Ok(Machine {
+                verified,
+                slots,
+                timers,
+                outputs,
+            }),
+            Err(_) => Err(verified),
+        }
+    }
+
+    /// The verified image that the machine runs.
+    pub fn verified(&self) -> &Verified
+        ensures { result.now ≡ self.now.image }
+    {
+        &self.verified
+    }
+
+    /// Whether a scan can take these inputs: there is one for each point that may only be read, in the image's order, of its type.
+    pub fn fits(&self, inputs: &[Value]) -> bool
+        ensures { IsTrue result ↔ AreInputs self.now.image.points inputs.now }
+    {
+        are_inputs(self.verified.image().points(), inputs)
+    }
+
+    /// One scan: the points that may only be read take the inputs, of which there is one for each in the image's order, of its type; the
+    /// code runs once from its first instruction to a HALT, at the moment `now` in milliseconds; and the points that may be written are
+    /// the outputs. It refuses nothing and takes no memory. A timer's start after the moment counts as no time gone.
+    pub fn scan(&mut self, inputs: &[Value], now: u64) -> Scan<'_>
+        requires { AreInputs self.old.image.points inputs.now }
+        ensures* after { sem 𝓛 (Rests the_row self.entry (λ last. Scans self.old inputs.now now last result.steps result.outputs.now)) }
+    {
+        let steps = run_once(
+            self.verified.image(),
+            inputs,
+            now,
+            self.slots.as_mut_slice(),
+            self.timers.as_mut_slice(),
+            self.outputs.as_mut_slice(),
+        );
+        Scan {
+            steps,
+            outputs: self.outputs.as_slice(),
+        }
+    }
+}

@@ -1,0 +1,51 @@
+// A run of verified code, from its first instruction to a HALT.
+ghost use Rattle.std.specs.Prelude.{◌≡◌, ◌<◌, length, reverse};
+ghost use Rattle.il_image.specs.Machine.{State};
+ghost use Rattle.il_scan.specs.Standing.{IsHeld, RunsTo, StandsAt, Turns};
+ghost use Rattle.il_scan.specs.Words.{words};
+ghost use Rattle.il_verify.specs.Verdicts.{IsSafe};
+
+use crate::act::act;
+use crate::fetch::fetch;
+use crate::stack::Stack;
+use arrayvec::ArrayVec;
+use il_image::image::Image;
+use il_image::timer::Timer;
+
+/// Does the instruction at a place, and gives the place of the next one if there is one.
+#[inline(always)]
+fn turn(
+    _image: &Image,
+    code: &[u8],
+    now: u64,
+    place: usize,
+    stack: &mut Stack,
+    slots: &mut [i64],
+    timers: &mut [Timer],
+) -> Option<usize>
+    requires code { code.now ≡ _image.now.code }
+    requires stands { (s : State) × StandsAt _image.now place (words (reverse stack.old.items) slots.old timers.old) s }
+    ensures within { place < length _image.now.code }
+    ensures turns { (s : State) → StandsAt _image.now place (words (reverse stack.old.items) slots.old timers.old) s →
+        Turns _image.now now s result (words (reverse stack.new.items) slots.new timers.new) }
+{
+    let (instr, next) = fetch(code, place);
+    act(now, instr, next, stack, slots, timers)
+}
+
+/// Runs the code over the slots and the timers at this moment, and counts its instructions.
+pub(crate) fn run(image: &Image, now: u64, slots: &mut [i64], timers: &mut [Timer]) -> u32
+    requires safe { IsSafe image.now }
+    requires held { IsHeld image.now slots.old timers.old }
+    ensures { RunsTo image.now now slots.old timers.old slots.new timers.new result }
+{
+    let code = image.code();
+    let mut stack: Stack = ArrayVec::new();
+    let mut place = 0;
+    let mut steps = 0;
+    while let Some(next) = turn(image, code, now, place, &mut stack, slots, timers) {
+        place = next;
+        steps += 1;
+    }
+    steps + 1
+}
