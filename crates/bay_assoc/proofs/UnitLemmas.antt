@@ -76,7 +76,7 @@ enough (suc n) (suc m) (octet ∷ octets) a b = same_front n m (unit_at (octet �
 
 -- ---- one unit more
 
-no_units : units_in [] ≡ Some []
+pub no_units : units_in [] ≡ Some []
 unfolding units_in
 no_units = none_left 0
 

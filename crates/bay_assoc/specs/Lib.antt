@@ -7,6 +7,10 @@ pub mod Results
 pub mod Session
 pub mod SessionReading
 pub mod SessionViews
+pub mod SpelledHearing
+pub mod SpelledSession
+pub mod SpelledValues
 pub mod Tags
+pub mod TakesMemory
 pub mod Texts
 pub mod Views

@@ -1,7 +1,9 @@
 // An association as its user sees it.
-ghost use Rattle.std.specs.Prelude.{◌≡◌, ◌^◌, ◌<◌, ◌↔◌, Ok, length, IfOk, IfSome, IsSome, IsTrue};
+ghost use Rattle.std.specs.Prelude.{◌≡◌, ◌^◌, ◌<◌, ◌↔◌, Ok, length, IfOk, IfSome, IsErrOf, IsSome, IsTrue};
 ghost use Rattle.bay_assoc.specs.Hearing.{mms, hearing};
 ghost use Rattle.bay_assoc.specs.Hears.{link_of, Hears};
+ghost use Rattle.bay_assoc.specs.Session.{spdu_in};
+ghost use Rattle.bay_assoc.specs.TakesMemory.{TakesMemory};
 ghost use Rattle.bay_assoc.specs.Texts.{user_text, transfer_text};
 
 use crate::fault::AssocFault;
@@ -42,7 +44,9 @@ impl Assoc {
     /// A refusal is for good: later TSDUs are answered `Failed`, as they are after want of memory. After a release and an
     /// abort every TSDU is refused.
     pub fn on_tsdu<'a>(&mut self, tsdu: &'a [u8]) -> Result<Heard<'a>, AssocFault>
-        ensures { Hears self.old tsdu.now result self.new }
+        ensures heard { Hears self.old tsdu.now result self.new }
+        // Memory is wanting only where an answer is due.
+        ensures memory { IsErrOf result AssocFault.OutOfMemory → TakesMemory self.old (spdu_in tsdu.now) }
     {
         let phase = self.phase;
         self.phase = Phase::Failed;

@@ -1,7 +1,10 @@
 // The phases of an association, and what is heard of a TSDU in each.
-ghost use Rattle.std.specs.Prelude.{◌≡◌, ◌∷◌, [], option_map, IfOk};
+ghost use Rattle.std.specs.Prelude.{◌≡◌, ◌∷◌, [], Some, option_map, IfOk, IsErrOf};
 ghost use Rattle.bay_base.specs.Exact.{Gives};
 ghost use Rattle.bay_assoc.specs.Hearing.{is_id, acse_of, mms_of, accepted_of, acse_value, mms_value, size_of, outstanding_of, nesting_of, agreed_of, answer_text, connected, finished, transferred, heard_idle, heard_open, hearing};
+ghost use Rattle.bay_assoc.specs.Results.{Holds};
+ghost use Rattle.bay_assoc.specs.Session.{spdu_in};
+ghost use Rattle.bay_assoc.specs.TakesMemory.{TakesMemory};
 ghost use Rattle.bay_assoc.specs.Views.{carried_view, connect_view, spdu_view, hearing_of};
 
 use crate::acse::{associate_in, release_in};
@@ -96,7 +99,7 @@ fn accepted_of(contexts: &[Context]) -> Option<Accepted>
 
 // The value in the context of ACSE.
 fn acse_value<'a>(contexts: Accepted, carried: Carried<'a>) -> Result<&'a [u8], AssocFault>
-    ensures { Gives AssocFault.OutOfMemory (λ octets. octets.now) result (acse_value contexts (carried_view carried.entry)) }
+    ensures { Holds (λ octets. octets.now) result (acse_value contexts (carried_view carried.entry)) }
 {
     if is_id(carried.id, contexts.acse) {
         Ok(carried.value)
@@ -109,7 +112,8 @@ fn acse_value<'a>(contexts: Accepted, carried: Carried<'a>) -> Result<&'a [u8], 
 
 // The value in the context of MMS.
 fn mms_value<'a>(contexts: Accepted, carried: Carried<'a>) -> Result<&'a [u8], AssocFault>
-    ensures { Gives AssocFault.OutOfMemory (λ octets. octets.now) result (mms_value contexts (carried_view carried.entry)) }
+    ensures value { Holds (λ octets. octets.now) result (mms_value contexts (carried_view carried.entry)) }
+    ensures memory { IsErrOf result AssocFault.OutOfMemory → ⊥ }
 {
     if is_id(carried.id, contexts.mms) {
         Ok(carried.value)
@@ -237,7 +241,8 @@ fn finished<'a>(
 // Data.
 #[tactic(auto, unfolding(crate::specs::Hearing::transferred))]
 fn transferred<'a>(link: Link, user: &'a [u8]) -> Result<(Heard<'a>, Phase), AssocFault>
-    ensures { Gives AssocFault.OutOfMemory (λ x. (hearing_of x.0, x.1)) result (transferred link user.now) }
+    ensures heard { Holds (λ x. (hearing_of x.0, x.1)) result (transferred link user.now) }
+    ensures memory { IsErrOf result AssocFault.OutOfMemory → ⊥ }
 {
     let carried = user_in(user).ok_or(AssocFault::BadPresentation)?;
     let pdu = mms_value(link.contexts, carried)?;
@@ -246,7 +251,8 @@ fn transferred<'a>(link: Link, user: &'a [u8]) -> Result<(Heard<'a>, Phase), Ass
 
 // What is heard of an SPDU before the association.
 fn heard_idle<'a>(alloc: Global, spdu: Spdu<'a>) -> Result<(Heard<'a>, Phase), AssocFault>
-    ensures { Gives AssocFault.OutOfMemory (λ x. (hearing_of x.0, x.1)) result (heard_idle (spdu_view spdu.entry)) }
+    ensures heard { Gives AssocFault.OutOfMemory (λ x. (hearing_of x.0, x.1)) result (heard_idle (spdu_view spdu.entry)) }
+    ensures memory { IsErrOf result AssocFault.OutOfMemory → TakesMemory Phase.Idle (Some (spdu_view spdu.entry)) }
 {
     match spdu {
         Spdu::Connect(user) => connected(alloc, user),
@@ -263,7 +269,8 @@ fn heard_open<'a>(
     link: Link,
     spdu: Spdu<'a>,
 ) -> Result<(Heard<'a>, Phase), AssocFault>
-    ensures { Gives AssocFault.OutOfMemory (λ x. (hearing_of x.0, x.1)) result (heard_open link (spdu_view spdu.entry)) }
+    ensures heard { Gives AssocFault.OutOfMemory (λ x. (hearing_of x.0, x.1)) result (heard_open link (spdu_view spdu.entry)) }
+    ensures memory { IsErrOf result AssocFault.OutOfMemory → TakesMemory (Phase.Open link) (Some (spdu_view spdu.entry)) }
 {
     match spdu {
         Spdu::Finish(user) => finished(alloc, link, user),
@@ -280,7 +287,8 @@ pub(crate) fn hear<'a>(
     phase: Phase,
     tsdu: &'a [u8],
 ) -> Result<(Heard<'a>, Phase), AssocFault>
-    ensures { Gives AssocFault.OutOfMemory (λ x. (hearing_of x.0, x.1)) result (hearing phase tsdu.now) }
+    ensures heard { Gives AssocFault.OutOfMemory (λ x. (hearing_of x.0, x.1)) result (hearing phase tsdu.now) }
+    ensures memory { IsErrOf result AssocFault.OutOfMemory → TakesMemory phase (spdu_in tsdu.now) }
 {
     match phase {
         Phase::Idle => heard_idle(alloc, spdu_in(tsdu).ok_or(AssocFault::BadSession)?),

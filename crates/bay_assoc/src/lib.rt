@@ -10,6 +10,7 @@ mod acse;
 pub mod assoc;
 pub mod fault;
 pub mod hearing;
+pub mod laws;
 mod presentation;
 mod request;
 mod session;
