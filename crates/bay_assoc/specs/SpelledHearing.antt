@@ -37,7 +37,8 @@ pub record IsAnswered (octets text : List ℕ) (link : Link) : Type 0 where
 abbrev pub IsReleased : List ℕ → List ℕ → Link → Option (List ℕ) → Type 0
 IsReleased octets text link None = IsSpdu octets (finish None) × (text ≡ 0x0A ∷ 0 ∷ [])
 IsReleased octets text link (Some user) =
-    (value : List ℕ) × IsSpdu octets (finish (Some user)) × IsUser user (record { id = pos link.contexts.acse; value = value }) × IsRelease value × (text ≡ disconnect_text (user_text link.contexts.acse release_text))
+    (value : List ℕ) × IsSpdu octets (finish (Some user)) × IsUser user (record { id = pos link.contexts.acse; value = value }) × IsRelease value
+    × (text ≡ disconnect_text (user_text link.contexts.acse release_text))
 
 -- Before the association a request for one or an abort is heard; in an open one a PDU of MMS, a request for a release or an abort.
 abbrev pub IsHeard : Phase → List ℕ → Hearing → Phase → Type 0
