@@ -1,4 +1,5 @@
 pub mod ContentLemmas
+pub mod KnownLemmas
 pub mod ListingLemmas
 pub mod OctetLemmas
 pub mod ReadLemmas

@@ -167,14 +167,14 @@ pub record Passed {B : Type 0} (f : Part → Option B) (whole rest : List ℕ) (
   pub read : values_in whole ≡ onto front (values_in rest)
   pub each : all_of f front ≡ Some done
 
-onto_nil : (o : Option (List Part)) → o ≡ onto [] o
+pub onto_nil : (o : Option (List Part)) → o ≡ onto [] o
 onto_nil None = refl
 onto_nil (Some parts) = refl
 
 pub passed_first : {B : Type 0} (f : Part → Option B) (whole : List ℕ) → Passed f whole whole []
 passed_first f whole = record { front = []; read = onto_nil (values_in whole); each = refl }
 
-onto_onto : (front : List Part) (part : Part) (o : Option (List Part)) → onto front (onto (part ∷ []) o) ≡ onto (front ++ part ∷ []) o
+pub onto_onto : (front : List Part) (part : Part) (o : Option (List Part)) → onto front (onto (part ∷ []) o) ≡ onto (front ++ part ∷ []) o
 onto_onto front part None = refl
 onto_onto front part (Some parts) = ap Some (sym (append_assoc front (part ∷ []) parts))
 

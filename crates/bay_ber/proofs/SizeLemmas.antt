@@ -30,6 +30,12 @@ length-element tag content = omega (arith, length-append (length_octets (length 
 pub length_few : (count : ℕ) (old new : List ℕ) → new ≡ old ++ length_octets count → length new ≤ length old + 5
 length_few count old new is = rw is (omega (arith, length-append old (length_octets count), length-length_octets count))
 
+-- how much longer octets are behind which a value was written
+pub grows : (tag : Tag) (old new first middle last : List ℕ) → new ≡ old ++ element tag (first ++ middle ++ last) → length new ≤ length old + (length first + length middle + length last) + 6
+grows tag old new first middle last is =
+    let content = first ++ middle ++ last in
+    rw is (omega (arith, length-append old (element tag content), length-element tag content, length-append (first ++ middle) last, length-append first middle))
+
 pub length-element-is : (tag : Tag) (content : List ℕ) → length (element tag content) ≡ element_length (length content)
 unfolding element
 length-element-is tag content =

@@ -1,5 +1,6 @@
 -- Values one after another.
-use Rattle.std.specs.Prelude.{ℕ, zero, suc, ◌≡◌, List, [], ◌∷◌, ◌++◌, length, Option, Some, None, option_map, Result, Ok, Err, nat_lt, if◌then◌else◌}
+use Rattle.std.specs.Prelude.{ℕ, zero, suc, ◌≡◌, Bool, List, [], ◌∷◌, ◌++◌, length, filter, Option, Some, None, option_map, Result, Ok, Err, nat_lt, if◌then◌else◌}
+use Rattle.std.specs.List.{list_any}
 use Rattle.bay_ber.specs.declared.fault.BerFault.{BerFault}
 use Rattle.bay_ber.specs.declared.tag.Tag.{Tag}
 use Rattle.bay_ber.specs.declared.values.Value.{Value}
@@ -67,6 +68,18 @@ at_most_five parts = if nat_lt (length parts) 6 then Some parts else None
 -- the values that the octets are, if they are at most five
 abbrev pub few_in : List ℕ → Option (List Part)
 few_in octets = values_in octets >>= at_most_five
+
+-- whether the value's tag is one of these
+abbrev pub is_known : List Tag → Part → Bool
+is_known tags part = list_any (λ tag. same_tag part.tag tag) tags
+
+-- a value behind others, if its tag is one of these
+abbrev pub with_known : List Tag → List Part → Part → List Part
+with_known tags known part = if is_known tags part then known ++ part ∷ [] else known
+
+-- of the values that the octets are, those whose tags are among these, in order, if they are at most five
+unfoldable pub known_in : List Tag → List ℕ → Option (List Part)
+known_in tags octets = values_in octets >>= λ parts. at_most_five (filter (is_known tags) parts)
 
 -- what each value is read as, if each is
 abbrev pub all_of : {B : Type 0} → (Part → Option B) → List Part → Option (List B)

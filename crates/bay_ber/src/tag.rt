@@ -35,6 +35,28 @@ impl Tag {
         }
     }
 
+    /// A universal tag on a value that is made of values.
+    pub const fn universal_constructed(number: u8) -> Tag
+        ensures { result ≡ record { class = Class.Universal; constructed = true; number = number } }
+    {
+        Tag {
+            class: Class::Universal,
+            constructed: true,
+            number,
+        }
+    }
+
+    /// An application tag on a value that is made of values.
+    pub const fn application_constructed(number: u8) -> Tag
+        ensures { result ≡ record { class = Class.Application; constructed = true; number = number } }
+    {
+        Tag {
+            class: Class::Application,
+            constructed: true,
+            number,
+        }
+    }
+
     /// The tag of a sequence (X.690 8.9).
     pub const fn sequence() -> Tag
         ensures { result ≡ record { class = Class.Universal; constructed = true; number = 16 } }

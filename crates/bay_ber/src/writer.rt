@@ -160,10 +160,18 @@ impl Writer {
         }
     }
 
+    /// A writer that goes on behind these octets.
+    pub fn behind(octets: Vec<u8>) -> Self
+        ensures { result ≡ octets.items }
+    {
+        Writer { octets }
+    }
+
     /// Writes an integer in the fewest octets (X.690 8.3).
     pub fn int(&mut self, tag: Tag, value: i64) -> Result<(), AllocError>
         requires { tag.number < 31 }
         ensures ok { OnOk result (self.new ≡ self.old ++ element tag (integer_octets value)) }
+        ensures few { OnOk result (length self.new ≤ length self.old + 14) }
         ensures err { OnErr result (self.new ≡ self.old) }
     {
         self.element(tag, &[], without_needless(&value.to_be_bytes()), &[])
@@ -201,6 +209,7 @@ impl Writer {
         requires tag { tag.number < 31 }
         requires short { length octets.now < 2 ^ 32 }
         ensures ok { OnOk result (self.new ≡ self.old ++ element tag octets.now) }
+        ensures few { OnOk result (length self.new ≤ length self.old + length octets.now + 6) }
         ensures err { OnErr result (self.new ≡ self.old) }
     {
         self.element(tag, &[], octets, &[])
@@ -221,6 +230,7 @@ impl Writer {
         requires tag { tag.number < 31 }
         requires short { length inner.now < 2 ^ 32 }
         ensures ok { OnOk result (self.new ≡ self.old ++ element tag inner.now) }
+        ensures few { OnOk result (length self.new ≤ length self.old + length inner.now + 6) }
         ensures err { OnErr result (self.new ≡ self.old) }
     {
         self.element(tag, &[], inner, &[])
@@ -233,6 +243,7 @@ impl Writer {
         requires start { start ≤ length self.old }
         requires short { length self.old < start + 2 ^ 32 }
         ensures ok { OnOk result (self.new ≡ take start self.old ++ element tag (drop start self.old)) }
+        ensures few { OnOk result (length self.new ≤ length self.old + 6) }
         ensures err { OnErr result (self.new ≡ self.old) }
     {
         let written = self.octets.len();
@@ -274,6 +285,7 @@ impl Writer {
         requires low { tag.number < 31 }
         requires short { length first.now + length middle.now + length last.now < 2 ^ 32 }
         ensures ok { OnOk result (self.new ≡ self.old ++ element tag (first.now ++ middle.now ++ last.now)) }
+        ensures few { OnOk result (length self.new ≤ length self.old + (length first.now + length middle.now + length last.now) + 6) }
         ensures err { OnErr result (self.new ≡ self.old) }
     {
         let written = self.octets.len();

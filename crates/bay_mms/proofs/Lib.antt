@@ -1,3 +1,4 @@
+pub mod AgreedLemmas
 pub mod ConfirmedLemmas
 pub mod DataLemmas
 pub mod LawLemmas

@@ -1,14 +1,13 @@
 -- Requests, part by part.
-use Rattle.std.proofs.Common.{◌≡◌, ℕ, suc, ◌-◌, ◌<◌, ◌≤◌, Bool, true, false, cond, ltb, option_map, Vec, Global, rules, List, [], ◌∷◌, ◌++◌, length, map, filter, Option, Some, None, Ok, Err, refl, sym, ap, ◌∙◌, append_assoc, arith, ◌⊎◌, inl, inr}
+use Rattle.std.proofs.Common.{◌≡◌, ℕ, suc, ◌-◌, ◌<◌, ◌≤◌, true, false, cond, ltb, option_map, Vec, Global, rules, List, [], ◌∷◌, length, map, Option, Some, None, Ok, Err, refl, sym, ap, ◌∙◌, arith, ◌⊎◌, inl, inr}
 use Rattle.std.specs.List.{list_any}
 use Rattle.std.specs.Option.{ok_or}
 use Rattle.std.proofs.lemmas.Bool.{lt-ltb, le-ltb}
-use Rattle.std.proofs.lemmas.List.{length-append, length-map, append-nil}
+use Rattle.std.proofs.lemmas.List.{length-map}
 use Rattle.bay_base.specs.Exact.{Gives}
-use Rattle.std.proofs.lemmas.List.Elements.{filter-append}
 use Rattle.bay_ber.specs.Options.{◌>>=◌}
 use Rattle.bay_ber.specs.Tags.{same_tag}
-use Rattle.bay_ber.specs.Values.{Part, onto, values_in, each_in}
+use Rattle.bay_ber.specs.Values.{Part, each_in}
 use Rattle.bay_mms.specs.Data as mms
 use Rattle.bay_mms.specs.Data.{Datum}
 use Rattle.bay_mms.specs.Tags.{constructed}
@@ -20,7 +19,7 @@ use Rattle.bay_mms.specs.RequestViews.{naming, variable}
 use Rattle.bay_mms.specs.declared.access.Variable as code
 use Rattle.bay_mms.specs.declared.fault.Refusal.{Refusal}
 use Rattle.bay_mms.specs.declared.fault.Refusal.TheVariants.{Bad, Unknown, Many, OutOfMemory}
-use Rattle.bay_mms.specs.Grammar.{any_alternate, judged, datum_as, simple_as, is_detail, with_known, detail_of, detail_in}
+use Rattle.bay_mms.specs.Grammar.{any_alternate, judged, datum_as, simple_as}
 
 -- ---- lists of variables
 
@@ -100,70 +99,3 @@ view_structure parts = search (rules, given.the_lemmas)
 pub too_deep : (depth : ℕ) (part : Part) → depth ≡ 0 → spelled (datum_as depth part) ≡ Err Bad
 unfolding datum_as
 too_deep depth part none = rw none refl
-
--- ---- the fields of an initiate's detail that are known
-
-pub record Known (whole rest : List ℕ) (known : List Part) : Type 0 where
-  pub front : List Part
-  pub read : values_in whole ≡ onto front (values_in rest)
-  pub is : known ≡ filter is_detail front
-  pub few : length known ≤ 5
-
-abbrev judged_detail : Option (List Part) → Option ℕ
-judged_detail o = o >>= λ parts. detail_of (filter is_detail parts)
-
-onto_none : (o : Option (List Part)) → o ≡ onto [] o
-onto_none None = refl
-onto_none (Some parts) = refl
-
-pub known_first : (whole : List ℕ) → Known whole whole []
-known_first whole = record { front = []; read = onto_none (values_in whole); is = refl; few = omega arith }
-
-onto_more : (front : List Part) (part : Part) (o : Option (List Part)) → onto front (onto (part ∷ []) o) ≡ onto (front ++ part ∷ []) o
-onto_more front part None = refl
-onto_more front part (Some parts) = ap Some (sym (append_assoc front (part ∷ []) parts))
-
-filter_in : (front : List Part) (part : Part) → is_detail part ≡ true → filter is_detail (front ++ part ∷ []) ≡ filter is_detail front ++ part ∷ []
-filter_in front part is = filter-append is_detail front (part ∷ []) ∙ ap (λ (ps : List Part). filter is_detail front ++ ps) (rw is refl)
-
-filter_out : (front : List Part) (part : Part) → is_detail part ≡ false → filter is_detail (front ++ part ∷ []) ≡ filter is_detail front
-filter_out front part isnt = filter-append is_detail front (part ∷ []) ∙ ap (λ (ps : List Part). filter is_detail front ++ ps) (rw isnt refl) ∙ append-nil (filter is_detail front)
-
-filter_more : (front : List Part) (part : Part) (b : Bool) → is_detail part ≡ b → cond b (filter is_detail front ++ part ∷ []) (filter is_detail front) ≡ filter is_detail (front ++ part ∷ [])
-filter_more front part true is = sym (filter_in front part is)
-filter_more front part false isnt = sym (filter_out front part isnt)
-
-pub known_more : (whole rest new : List ℕ) (known more : List Part) (part : Part) → Known whole rest known → values_in rest ≡ onto (part ∷ []) (values_in new) → more ≡ with_known known part → length more ≤ 5 → Known whole new more
-known_more whole rest new known more part k step is few = record {
-  front = k.front ++ part ∷ [];
-  read = k.read ∙ ap (onto k.front) step ∙ onto_more k.front part (values_in new);
-  is = is ∙ ap (λ (ps : List Part). with_known ps part) k.is ∙ filter_more k.front part (is_detail part) refl;
-  few = few;
-}
-
-pub known_end : (whole rest : List ℕ) (known : List Part) → Known whole rest known → values_in rest ≡ Some [] → detail_in whole ≡ detail_of known
-unfolding detail_in
-known_end whole rest known k last =
-    ap judged_detail (k.read ∙ ap (onto k.front) last) ∙ ap (λ (ps : List Part). detail_of (filter is_detail ps)) (append-nil k.front) ∙ ap detail_of (sym k.is)
-
-detail_many : (ps : List Part) → 4 ≤ length ps → detail_of ps ≡ None
-detail_many [] many = refl
-detail_many (a ∷ []) many = refl
-detail_many (a ∷ b ∷ []) many = refl
-detail_many (a ∷ b ∷ d ∷ []) many = absurd (omega arith)
-detail_many (a ∷ b ∷ d ∷ e ∷ ps) many = refl
-
-full_at : (front : List Part) (part : Part) (o : Option (List Part)) → 4 ≤ length (filter is_detail front) → judged_detail (onto front (onto (part ∷ []) o)) ≡ None
-full_at front part None many = refl
-full_at front part (Some later) many =
-    let e = filter-append is_detail front (part ∷ later) in
-    detail_many (filter is_detail (front ++ part ∷ later)) (omega (arith, ap length e, length-append (filter is_detail front) (filter is_detail (part ∷ later))))
-
-pub known_full : (whole rest new : List ℕ) (known : List Part) (part : Part) → Known whole rest known → values_in rest ≡ onto (part ∷ []) (values_in new) → 5 ≤ length known → detail_in whole ≡ None
-unfolding detail_in
-known_full whole rest new known part k step full =
-    ap judged_detail (k.read ∙ ap (onto k.front) step) ∙ full_at k.front part (values_in new) (omega (arith, ap length k.is))
-
-pub known_stop : (whole rest : List ℕ) (known : List Part) → Known whole rest known → values_in rest ≡ None → detail_in whole ≡ None
-unfolding detail_in
-known_stop whole rest known k stop = ap judged_detail (k.read ∙ ap (onto k.front) stop)

@@ -1,5 +1,5 @@
 -- How requests are spelled (ISO 9506-2, with the profile of IEC 61850-8-1), by the values that octets are.
-use Rattle.std.specs.Prelude.{ℕ, zero, suc, ℤ, pos, negsuc, ◌*◌, ◌/◌, ◌==◌, ◌&&◌, ◌||◌, Bool, true, false, not, Option, Some, None, Result, Ok, Err, List, [], ◌∷◌, ◌++◌, length, map, filter, nat_lt, if◌then◌else◌}
+use Rattle.std.specs.Prelude.{ℕ, zero, suc, ℤ, pos, negsuc, ◌*◌, ◌/◌, ◌==◌, ◌&&◌, ◌||◌, Bool, true, false, not, Option, Some, None, Result, Ok, Err, List, [], ◌∷◌, length, map, nat_lt, if◌then◌else◌}
 use Rattle.bay_ber.specs.declared.fault.BerFault.{BerFault}
 use Rattle.bay_ber.specs.declared.tag.Class.TheVariants.{ContextSpecific}
 use Rattle.bay_ber.specs.declared.tag.Tag.{Tag}
@@ -7,7 +7,7 @@ use Rattle.bay_ber.specs.Tags.{same_class, same_tag}
 use Rattle.bay_ber.specs.Options.{◌>>=◌}
 use Rattle.bay_ber.specs.Content.{BitString, integer_in, bits_in, truth_in}
 use Rattle.bay_ber.specs.Reading.{Reading, tlv_at}
-use Rattle.bay_ber.specs.Values.{Part, part_in, values_in, value_in, few_in, each_in, under}
+use Rattle.bay_ber.specs.Values.{Part, part_in, value_in, few_in, known_in, each_in, under}
 use Rattle.bay_mms.specs.Data as mms
 use Rattle.bay_mms.specs.Data.{Datum}
 use Rattle.bay_mms.specs.Views.{data_before}
@@ -200,9 +200,6 @@ some_of (negsuc n) = None
 unfoldable pub outstanding_as : Tag → Part → Option ℤ
 outstanding_as tag part = integer_under tag part >>= some_of
 
-abbrev pub is_detail : Part → Bool
-is_detail part = same_tag part.tag (context 0) || (same_tag part.tag (context 1) || same_tag part.tag (context 2))
-
 -- the first three bits of octets
 abbrev pub three_bits : List ℕ → Option ℕ
 three_bits [] = None
@@ -227,13 +224,9 @@ detail_of (version ∷ parameters ∷ services ∷ []) = do
   Some first
 detail_of parts = None
 
--- a field behind those that are known, if it is one
-abbrev pub with_known : List Part → Part → List Part
-with_known known part = if is_detail part then known ++ part ∷ [] else known
-
 -- the three fields that are known stand in their order, others anywhere
 unfoldable pub detail_in : List ℕ → Option ℕ
-detail_in octets = values_in octets >>= λ parts. detail_of (filter is_detail parts)
+detail_in octets = known_in (context 0 ∷ context 1 ∷ context 2 ∷ []) octets >>= detail_of
 
 abbrev pub size_of : Option Part → Option (Option ℤ)
 size_of None = Some None
@@ -263,6 +256,10 @@ initiate_of parts = None
 
 abbrev pub proposal_in : List ℕ → Option Proposal
 proposal_in octets = few_in octets >>= initiate_of
+
+-- the proposal of an initiate that octets are
+unfoldable pub initiate_in : List ℕ → Option Proposal
+initiate_in octets = value_in octets >>= under (constructed 8) >>= proposal_in
 
 -- ---- the request
 

@@ -1,14 +1,15 @@
 // The request that opens an association (ISO 9506-2, InitiateRequestPDU).
-ghost use Rattle.std.specs.Prelude.{◌≡◌, ◌≤◌, true, length, map, option_map, OnSome, IfNone};
+ghost use Rattle.std.specs.Prelude.{◌≡◌, map, option_map};
 ghost use Rattle.std.specs.Option.{option_copied};
 ghost use Rattle.bay_ber.specs.Content.{bits_of};
 ghost use Rattle.bay_ber.specs.Values.{part_of};
-ghost use Rattle.bay_mms.specs.Grammar.{some_of, integer_under, outstanding_as, is_detail, parameters_of, parameters_as, services_as, with_known, detail_of, detail_in, size_of, nesting_of, proposal_of, initiate_of};
+ghost use Rattle.bay_mms.specs.Grammar.{some_of, integer_under, outstanding_as, parameters_of, parameters_as, services_as, detail_of, detail_in, size_of, nesting_of, proposal_of, initiate_of};
 
 use crate::request::Proposal;
 use bay_ber::content::{Bits, bits_of, int_of};
+use bay_ber::known::known_values;
 use bay_ber::tag::Tag;
-use bay_ber::values::{Few, Value, Values};
+use bay_ber::values::Value;
 
 // The integer under a tag.
 #[tactic(auto, unfolding(crate::specs::Grammar::integer_under))]
@@ -78,43 +79,14 @@ fn detail_of(parts: &[Value<'_>]) -> Option<u8>
     }
 }
 
-// Whether a field of the detail is one that is known.
-fn is_detail(value: &Value<'_>) -> bool
-    ensures { result ≡ is_detail (part_of value.now) }
-{
-    value.tag.is(Tag::context(0)) || value.tag.is(Tag::context(1)) || value.tag.is(Tag::context(2))
-}
-
-// Puts a field behind those that are known, if it is one; None where they are five.
-fn add_known<'a>(known: &mut Few<'a>, value: Value<'a>) -> Option<()>
-    requires { length known.old ≤ 5 }
-    ensures some { OnSome result ((known.new ≡ with_known known.old (part_of value.entry)) × (length known.new ≤ 5)) }
-    ensures none { IfNone result ((is_detail (part_of value.entry) ≡ true) × (5 ≤ length known.old)) }
-{
-    if is_detail(&value) {
-        known.push(value)?;
-    }
-    Some(())
-}
-
 // The version, the parameters and the services (ISO 9506-2, InitRequestDetail), among other fields.
+#[tactic(auto, unfolding(crate::specs::Grammar::detail_in))]
 fn detail_in(octets: &[u8]) -> Option<u8>
     ensures { result ≡ detail_in octets.now }
 {
-    let mut known = Few::new();
-    let mut values = Values::new(octets);
-    loop {
-        match values.next_value() {
-            Ok(Some(value)) => {
-                match add_known(&mut known, value) {
-                    Some(()) => {}
-                    None => return None,
-                }
-            }
-            Ok(None) => return detail_of(known.as_slice()),
-            Err(_) => return None,
-        }
-    }
+    let tags = [Tag::context(0), Tag::context(1), Tag::context(2)];
+    let known = known_values(octets, &tags)?;
+    detail_of(known.as_slice())
 }
 
 // The size that is proposed, if one is.

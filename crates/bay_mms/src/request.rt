@@ -4,7 +4,7 @@ ghost use Rattle.bay_base.specs.Exact.{Gives};
 ghost use Rattle.bay_ber.specs.Reading.{tlv_at};
 ghost use Rattle.bay_ber.specs.Values.{part_of};
 ghost use Rattle.bay_mms.specs.Requests as asked;
-ghost use Rattle.bay_mms.specs.Grammar.{or_bad, front_of, proposal_in, service_as, nothing, id_of, id_as, fault_of, with_id, confirmed_of, message_as, id_in, answer_to};
+ghost use Rattle.bay_mms.specs.Grammar.{or_bad, front_of, proposal_in, initiate_in, service_as, nothing, id_of, id_as, fault_of, with_id, confirmed_of, message_as, id_in, answer_to};
 ghost use Rattle.bay_mms.specs.RequestViews.{asking, message};
 
 use crate::data::Data;
@@ -168,6 +168,15 @@ fn proposal_in(content: &[u8]) -> Option<Proposal>
 {
     let parts = few_values(content)?;
     initiate_of(parts.as_slice())
+}
+
+/// What an initiate that the octets are proposes (ISO 9506-2, InitiateRequestPDU); None where they are none. It takes no memory.
+#[tactic(auto, unfolding(crate::specs::Grammar::initiate_in))]
+pub fn read_initiate(octets: &[u8]) -> Option<Proposal>
+    ensures { result ≡ initiate_in octets.now }
+{
+    let value = whole_value(octets)?;
+    proposal_in(value.under(Tag::context_constructed(8))?)
 }
 
 fn conclude(known: Option<u32>, content: &[u8]) -> Result<Request<'_>, MmsFault>

@@ -1,5 +1,5 @@
 // Responses, and their canonical texts.
-ghost use Rattle.std.specs.Prelude.{◌≡◌, ◌≤◌, ◌<◌, ◌++◌, false, length, take, drop, pos, All, OnOk};
+ghost use Rattle.std.specs.Prelude.{◌≡◌, ◌≤◌, ◌<◌, ◌++◌, false, length, take, drop, pos, All, IfOk, OnOk};
 ghost use Rattle.bay_base.specs.Exact.{Gives};
 ghost use Rattle.bay_ber.specs.Writing.{element, integer_octets, truth_octets};
 ghost use Rattle.bay_tree.specs.Rows.{IsHandle};
@@ -413,4 +413,17 @@ pub fn write_response(alloc: Global, response: &Response<'_>) -> Result<Vec<u8>,
     let mut writer = Writer::new(alloc);
     put_response(&mut writer, response)?;
     Ok(writer.finish())
+}
+
+/// The answer to an initiate (ISO 9506-2, InitiateResponsePDU), which is the one canonical spelling and has at most 200 octets.
+pub fn write_agreed(alloc: Global, agreed: Agreed) -> Result<Vec<u8>, AllocError>
+    ensures text { IfOk result (λ octets. octets.items ≡ agreed_text agreed) }
+    ensures few { IfOk result (λ octets. length octets.items ≤ 200) }
+{
+    let mut writer = Writer::new(alloc);
+    match put_agreed(&mut writer, agreed) {
+        Ok(()) => Ok(writer.finish()),
+        Err(WriteFault::OutOfMemory) => Err(AllocError),
+        Err(WriteFault::TooLong) => unreachable!(),
+    }
 }

@@ -1,9 +1,9 @@
 use Rattle.std.proofs.Common.{length}
-use Rattle.bay_mms.proofs.RequestLemmas.{Known}
-use Rattle.bay_mms.proofs.initiate.detail_in.Given as goal
+use Rattle.bay_assoc.proofs.ContextLemmas.{Flags}
+use Rattle.bay_assoc.proofs.presentation.offers_ber.Given as goal
 
 abbrev pub invariant-loop-value : goal.invariant-loop-value
-invariant-loop-value l = Known l.octets l.values l.known
+invariant-loop-value l = Flags l.octets l.values l.found
 
 abbrev pub decreases-loop-value : goal.decreases-loop-value
 decreases-loop-value l = length l.values

@@ -1,0 +1,150 @@
+// One connection of a device that answers Identify and Conclude, through transport and association.
+ghost use Rattle.std.specs.Prelude.{◌≤◌, length, IfOk, IfSome};
+
+use anyhow::{Result, bail};
+use bay_assoc::assoc::Assoc;
+use bay_assoc::hearing::Heard;
+use bay_mms::request::{Call, Request, read_request};
+use bay_mms::response::{Response, Service, write_response};
+use bay_transport::transport::{Fed, Got, Transport};
+use std::alloc::Global;
+
+/// A connection, and what it did: S and the octets that were sent, A for an abort, E for an end, F and a fault's number.
+#[derive(Drop)]
+pub struct Connection {
+    alloc: Global,
+    transport: Transport,
+    assoc: Assoc,
+    log: Vec<u8>,
+}
+
+/// The response to a request.
+fn response_to(alloc: Global, pdu: &[u8]) -> Result<Vec<u8>> {
+    let response = match read_request(alloc, pdu)? {
+        Request::Conclude => Response::Conclude,
+        Request::Confirmed {
+            id,
+            call: Call::Identify,
+        } => Response::Confirmed {
+            id,
+            service: Service::Identify {
+                vendor: "Demo",
+                model: "BC1",
+                revision: "1.0",
+            },
+        },
+        Request::Initiate(_) | Request::Confirmed { .. } => bail!("another request"),
+    };
+    Ok(write_response(alloc, &response)?)
+}
+
+/// The TSDU of a response.
+fn wrapped(assoc: &Assoc, pdu: &[u8]) -> Result<Vec<u8>> {
+    if !assoc.is_open() || pdu.len() > assoc.pdu_size() as usize || pdu.len() > 65_000 {
+        bail!("a response that may not be sent");
+    }
+    Ok(assoc.wrap(pdu)?)
+}
+
+/// The TSDU that answers a TSDU, if one does.
+fn reply(
+    alloc: Global,
+    assoc: &mut Assoc,
+    tsdu: &[u8],
+    log: &mut Vec<u8>,
+) -> Result<Option<Vec<u8>>> {
+    match assoc.on_tsdu(tsdu) {
+        Ok(Heard::Answer(octets)) => Ok(Some(octets)),
+        Ok(Heard::Released(octets)) => Ok(Some(octets)),
+        Ok(Heard::Mms(pdu)) => {
+            let response = response_to(alloc, pdu)?;
+            Ok(Some(wrapped(assoc, response.as_slice())?))
+        }
+        Ok(Heard::Aborted) => {
+            log.push(b'A')?;
+            Ok(None)
+        }
+        Err(fault) => {
+            log.extend_from_slice(&[b'F', fault.code().unwrap_or(0)])?;
+            Ok(None)
+        }
+    }
+}
+
+impl Connection {
+    /// A connection under the number 1.
+    pub fn new(alloc: Global) -> Connection {
+        Connection {
+            alloc,
+            transport: Transport::new(alloc, 1),
+            assoc: Assoc::new(alloc),
+            log: Vec::new(alloc),
+        }
+    }
+
+    /// What it did so far.
+    pub fn log(&self) -> &[u8] {
+        self.log.as_slice()
+    }
+
+    fn send(&mut self, tsdu: &[u8]) -> Result<()> {
+        if self.transport.agreed_size().is_none() || tsdu.len() > 70_000 {
+            bail!("a TSDU that may not be sent");
+        }
+        let frames = self.transport.wrap(tsdu)?;
+        self.log.push(b'S')?;
+        self.log.extend_from_slice(frames.as_slice())?;
+        Ok(())
+    }
+
+    /// Takes a piece up to what it completes first: how many octets were taken, or none where the connection is over.
+    fn take(&mut self, piece: &[u8]) -> Result<Option<usize>>
+        ensures { IfOk result (λ taken. IfSome taken (λ used. used ≤ length piece.now)) }
+    {
+        let mut answer = None;
+        let used = match self.transport.feed(piece) {
+            Ok(Fed { used, got }) => {
+                match got {
+                    Got::More => {}
+                    Got::Answer(octets) => {
+                        self.log.push(b'S')?;
+                        self.log.extend_from_slice(octets)?;
+                    }
+                    Got::Tsdu(tsdu) => {
+                        answer = reply(self.alloc, &mut self.assoc, tsdu, &mut self.log)?;
+                    }
+                    Got::Ended => {
+                        self.log.push(b'E')?;
+                        return Ok(None);
+                    }
+                }
+                used
+            }
+            Err(fault) => {
+                self.log
+                    .extend_from_slice(&[b'F', fault.code().unwrap_or(0)])?;
+                return Ok(None);
+            }
+        };
+        if let Some(tsdu) = answer {
+            self.send(tsdu.as_slice())?;
+        }
+        Ok(Some(used))
+    }
+
+    /// Takes all octets, in pieces of at most so many.
+    pub fn feed(&mut self, octets: &[u8], size: usize) -> Result<()> {
+        let mut at = 0;
+        'pieces: for _ in 0..octets.len() {
+            if at == octets.len() {
+                break;
+            }
+            let end = at + size.min(octets.len() - at);
+            match self.take(&octets[at..end])? {
+                Some(used) => at += used,
+                None => break,
+            }
+        }
+        Ok(())
+    }
+}

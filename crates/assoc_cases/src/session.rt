@@ -1,0 +1,101 @@
+// The messages of a session and what they come to.
+use crate::connection::Connection;
+use anyhow::{Result, bail};
+use std::alloc::Global;
+
+/// A message: where its last octet stands in the session, and what it comes to.
+#[derive(Drop)]
+struct Message {
+    end: usize,
+    log: Vec<u8>,
+}
+
+/// The octets of a session, and its messages in order.
+#[derive(Drop)]
+pub struct Session {
+    alloc: Global,
+    octets: Vec<u8>,
+    messages: Vec<Message>,
+}
+
+/// A TSDU in one data TPDU.
+pub fn data_frame(alloc: Global, tsdu: &[u8]) -> Result<Vec<u8>> {
+    if tsdu.len() > 60_000 {
+        bail!("a TSDU for several frames");
+    }
+    let [high, low] = ((tsdu.len() + 7) as u16).to_be_bytes();
+    let mut frame = Vec::new(alloc);
+    frame.extend_from_slice(&[3, 0, high, low, 2, 0xF0, 0x80])?;
+    frame.extend_from_slice(tsdu)?;
+    Ok(frame)
+}
+
+impl Session {
+    /// A session without messages.
+    pub fn new(alloc: Global) -> Session {
+        Session {
+            alloc,
+            octets: Vec::new(alloc),
+            messages: Vec::new(alloc),
+        }
+    }
+
+    /// Forgets the messages.
+    pub fn clear(&mut self) {
+        self.octets.clear();
+        self.messages.clear();
+    }
+
+    /// The octets of its messages.
+    pub fn octets(&self) -> &[u8] {
+        self.octets.as_slice()
+    }
+
+    /// One message more.
+    pub fn message(&mut self, octets: &[u8]) -> Result<()> {
+        self.octets.extend_from_slice(octets)?;
+        let message = Message {
+            end: self.octets.len(),
+            log: Vec::new(self.alloc),
+        };
+        self.messages.push(message)?;
+        Ok(())
+    }
+
+    /// What the last message comes to.
+    pub fn comes_to(&mut self, mark: u8, octets: &[u8]) -> Result<()> {
+        if let Some(message) = self.messages.last_mut() {
+            message.log.push(mark)?;
+            message.log.extend_from_slice(octets)?;
+        }
+        Ok(())
+    }
+
+    /// What the messages come to of which so many octets have come.
+    fn wanted(&self, count: usize) -> Result<Vec<u8>> {
+        let mut log = Vec::new(self.alloc);
+        for message in self.messages.as_slice() {
+            if message.end <= count {
+                log.extend_from_slice(message.log.as_slice())?;
+            }
+        }
+        Ok(log)
+    }
+
+    /// Each front of the session, in one piece and in single octets, comes to just what the messages come to that are complete
+    /// in it.
+    pub fn check(&self) -> Result<()> {
+        let octets = self.octets.as_slice();
+        for count in 0..octets.len() + 1 {
+            let wanted = self.wanted(count)?;
+            let mut whole = Connection::new(self.alloc);
+            whole.feed(&octets[..count], count)?;
+            let mut single = Connection::new(self.alloc);
+            single.feed(&octets[..count], 1)?;
+            if whole.log() != wanted.as_slice() || single.log() != wanted.as_slice() {
+                bail!("the first {count} octets");
+            }
+        }
+        Ok(())
+    }
+}

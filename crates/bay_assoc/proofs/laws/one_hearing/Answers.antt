@@ -1,0 +1,8 @@
+use Rattle.bay_assoc.proofs.HearingLemmas.{heard_so, one_way}
+use Rattle.bay_assoc.proofs.laws.one_hearing.Goals as goal
+
+pub returns-clause-heard : goal.returns-clause-heard
+returns-clause-heard c = heard_so
+
+pub returns-clause-one : goal.returns-clause-one
+returns-clause-one c = one_way

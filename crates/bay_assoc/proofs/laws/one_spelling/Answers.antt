@@ -1,0 +1,15 @@
+use Rattle.bay_assoc.proofs.SpduLemmas.{spdu_again}
+use Rattle.bay_assoc.proofs.ValueLemmas.{user_read, request_read, associate_read}
+use Rattle.bay_assoc.proofs.laws.one_spelling.Goals as goal
+
+pub returns-clause-spdu : goal.returns-clause-spdu
+returns-clause-spdu c = spdu_again
+
+pub returns-clause-user : goal.returns-clause-user
+returns-clause-user c = user_read
+
+pub returns-clause-request : goal.returns-clause-request
+returns-clause-request c = request_read
+
+pub returns-clause-associate : goal.returns-clause-associate
+returns-clause-associate c = associate_read

@@ -1,0 +1,138 @@
+-- What an association hears of a TSDU, and in which phase it is then.
+use Rattle.std.specs.Prelude.{ℕ, ℤ, pos, negsuc, ◌==◌, Bool, false, min, List, [], ◌∷◌, find, Option, Some, None, option_map, Result, Ok, Err, nat_lt, if◌then◌else◌}
+use Rattle.bay_ber.specs.Options.{◌>>=◌}
+use Rattle.bay_mms.specs.declared.request.Proposal.{Proposal}
+use Rattle.bay_mms.specs.declared.response.Agreed.{Agreed}
+use Rattle.bay_mms.specs.Grammar.{initiate_in}
+use Rattle.bay_mms.specs.Responses.{agreed_text}
+use Rattle.bay_assoc.specs.declared.fault.AssocFault.{AssocFault}
+use Rattle.bay_assoc.specs.declared.fault.AssocFault.TheVariants as fault
+use Rattle.bay_assoc.specs.declared.presentation.Context.{Context}
+use Rattle.bay_assoc.specs.declared.hearing.Accepted.{Accepted}
+use Rattle.bay_assoc.specs.declared.hearing.Link.{Link}
+use Rattle.bay_assoc.specs.declared.hearing.Phase.{Phase}
+use Rattle.bay_assoc.specs.declared.hearing.Phase.TheVariants.{Idle, Open, Over, Failed}
+use Rattle.bay_assoc.specs.Results.{◌>>◌, wanted}
+use Rattle.bay_assoc.specs.Session.{Spdu, connect, accept, finish, disconnect, abort, transfer, spdu_in}
+use Rattle.bay_assoc.specs.Presentation.{Carried, Connect, user_in, request_in}
+use Rattle.bay_assoc.specs.Acse.{associate_in, release_in}
+use Rattle.bay_assoc.specs.Texts.{accept_text, disconnect_text, user_text, connected_text, associated_text, release_text}
+
+-- what is heard: a request for an association, with its answer; an MMS PDU; a request for a release, with its answer; or an
+-- abort
+pub data Hearing : Type 0 where
+  answer : List ℕ → Hearing
+  mms : List ℕ → Hearing
+  released : List ℕ → Hearing
+  aborted : Hearing
+
+-- ---- contexts
+
+abbrev pub is_id : ℤ → ℕ → Bool
+is_id (pos n) id = n == id
+is_id (negsuc n) id = false
+
+-- the first context of ACSE and the first of MMS that are offered with the Basic Encoding Rules
+abbrev pub acse_of : List Context → Option ℕ
+acse_of contexts = option_map (λ c. c.id) (find (λ c. c.is_acse) contexts)
+
+abbrev pub mms_of : List Context → Option ℕ
+mms_of contexts = option_map (λ c. c.id) (find (λ c. c.is_mms) contexts)
+
+unfoldable pub accepted_of : List Context → Option Accepted
+accepted_of contexts = do
+  first ← acse_of contexts
+  second ← mms_of contexts
+  Some (record { acse = first; mms = second })
+
+-- the value in the context of ACSE; one in that of MMS is spelled as none of ACSE's, and another context was not accepted
+abbrev pub acse_value : Accepted → Carried → Result (List ℕ) AssocFault
+acse_value a c = if is_id c.id a.acse then Ok c.value else (if is_id c.id a.mms then Err fault.BadAcse else Err fault.NoContext)
+
+-- the value in the context of MMS
+abbrev pub mms_value : Accepted → Carried → Result (List ℕ) AssocFault
+mms_value a c = if is_id c.id a.mms then Ok c.value else (if is_id c.id a.acse then Err fault.BadAcse else Err fault.NoContext)
+
+-- ---- what is agreed
+
+-- the octets of the largest PDU: at least 256, and at most 65,000, which is also what is agreed where none is proposed
+abbrev pub size_of : Option ℤ → Option ℕ
+size_of None = Some 65000
+size_of (Some (pos n)) = if nat_lt n 256 then None else Some (min n 65000)
+size_of (Some (negsuc n)) = None
+
+-- at most 5 requests outstanding
+abbrev pub outstanding_of : ℤ → ℕ
+outstanding_of (pos n) = min n 5
+outstanding_of (negsuc n) = 0
+
+-- data nest at most 10 deep
+abbrev pub nesting_of : ℤ → ℤ
+nesting_of (pos n) = pos (min n 10)
+nesting_of (negsuc n) = negsuc n
+
+abbrev pub agreed_of : Proposal → Option Agreed
+agreed_of p = size_of p.size >>= λ size. Some (record {
+  size = size;
+  calling = outstanding_of p.calling;
+  called = outstanding_of p.called;
+  nesting = option_map nesting_of p.nesting;
+  parameters = p.parameters;
+})
+
+-- ---- SPDUs
+
+-- the TSDU that answers a request
+abbrev pub answer_text : Connect → Accepted → Agreed → List ℕ
+answer_text c a agreed = accept_text (connected_text c.called c.contexts a (associated_text a.mms (agreed_text agreed)))
+
+-- A request for a connection, layer by layer: presentation, ACSE, MMS.
+unfoldable pub connected : List ℕ → Result (Hearing × Phase) AssocFault
+connected user =
+    wanted fault.BadPresentation (request_in user) >> λ request.
+    wanted fault.NoContext (accepted_of request.contexts) >> λ a.
+    acse_value a request.user >> λ value.
+    wanted fault.BadAcse (associate_in value) >> λ information.
+    mms_value a information >> λ pdu.
+    wanted fault.BadAcse (initiate_in pdu) >> λ proposal.
+    wanted fault.PduSizeTooSmall (agreed_of proposal) >> λ agreed.
+    Ok (answer (answer_text request a agreed), Open (record { contexts = a; size = agreed.size }))
+
+-- a release, with a request of ACSE's or without user data
+unfoldable pub finished : Link → Option (List ℕ) → Result (Hearing × Phase) AssocFault
+finished link None = Ok (released (0x0A ∷ 0 ∷ []), Over)
+finished link (Some user) =
+    wanted fault.BadPresentation (user_in user) >> λ c.
+    acse_value link.contexts c >> λ value.
+    wanted fault.BadAcse (release_in value) >> λ ignored.
+    Ok (released (disconnect_text (user_text link.contexts.acse release_text)), Over)
+
+-- data
+unfoldable pub transferred : Link → List ℕ → Result (Hearing × Phase) AssocFault
+transferred link user =
+    wanted fault.BadPresentation (user_in user) >> λ c.
+    mms_value link.contexts c >> λ pdu.
+    Ok (mms pdu, Open link)
+
+abbrev pub heard_idle : Spdu → Result (Hearing × Phase) AssocFault
+heard_idle (connect user) = connected user
+heard_idle accept = Err fault.OutOfPhase
+heard_idle (finish user) = Err fault.OutOfPhase
+heard_idle disconnect = Err fault.OutOfPhase
+heard_idle abort = Ok (aborted, Over)
+heard_idle (transfer user) = Err fault.OutOfPhase
+
+abbrev pub heard_open : Link → Spdu → Result (Hearing × Phase) AssocFault
+heard_open link (connect user) = Err fault.OutOfPhase
+heard_open link accept = Err fault.OutOfPhase
+heard_open link (finish user) = finished link user
+heard_open link disconnect = Err fault.OutOfPhase
+heard_open link abort = Ok (aborted, Over)
+heard_open link (transfer user) = transferred link user
+
+-- what is heard of a TSDU in a phase, and the phase after it
+unfoldable pub hearing : Phase → List ℕ → Result (Hearing × Phase) AssocFault
+hearing Idle octets = wanted fault.BadSession (spdu_in octets) >> heard_idle
+hearing (Open link) octets = wanted fault.BadSession (spdu_in octets) >> heard_open link
+hearing Over octets = Err fault.OutOfPhase
+hearing Failed octets = Err fault.Failed

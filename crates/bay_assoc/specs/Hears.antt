@@ -1,0 +1,22 @@
+-- What a call answers of a TSDU, and which phase it leaves.
+use Rattle.std.specs.Prelude.{ℕ, ◌≡◌, ◌⊎◌, List, Option, Some, None, Result, Ok, Err}
+use Rattle.bay_assoc.specs.declared.fault.AssocFault.{AssocFault}
+use Rattle.bay_assoc.specs.declared.fault.AssocFault.TheVariants.{OutOfMemory}
+use Rattle.bay_assoc.specs.declared.hearing.Link.{Link}
+use Rattle.bay_assoc.specs.declared.hearing.Heard.{Heard}
+use Rattle.bay_assoc.specs.declared.hearing.Phase.{Phase}
+use Rattle.bay_assoc.specs.declared.hearing.Phase.TheVariants.{Idle, Open, Over, Failed}
+use Rattle.bay_assoc.specs.Hearing.{hearing}
+use Rattle.bay_assoc.specs.Views.{hearing_of}
+
+-- what an open association has agreed on
+abbrev pub link_of : Phase → Option Link
+link_of Idle = None
+link_of (Open link) = Some link
+link_of Over = None
+link_of Failed = None
+
+-- What is heard is answered, and its phase follows; its fault, or want of memory, leaves an association that has failed.
+abbrev pub Hears : Phase → List ℕ → Result Heard AssocFault → Phase → Type 0
+Hears old octets (Ok heard) new = hearing old octets ≡ Ok (hearing_of heard, new)
+Hears old octets (Err fault) new = (new ≡ Failed) × ((fault ≡ OutOfMemory) ⊎ (hearing old octets ≡ Err fault))

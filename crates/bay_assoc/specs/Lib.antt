@@ -1,0 +1,16 @@
+pub mod Acse
+pub mod Code
+pub mod Hearing
+pub mod Hears
+pub mod Presentation
+pub mod Results
+pub mod Session
+pub mod SessionReading
+pub mod SessionViews
+pub mod SpelledHearing
+pub mod SpelledSession
+pub mod SpelledValues
+pub mod Tags
+pub mod TakesMemory
+pub mod Texts
+pub mod Views

@@ -1,0 +1,18 @@
+-- Results that follow one another.
+use Rattle.std.specs.Prelude.{◌≡◌, Option, Some, None, Result, Ok, Err}
+use Rattle.bay_assoc.specs.declared.fault.AssocFault.{AssocFault}
+
+infixl 10 ◌>>◌
+abbrev pub ◌>>◌ : {A B : Type 0} → Result A AssocFault → (A → Result B AssocFault) → Result B AssocFault
+(Ok x) >> f = f x
+(Err e) >> f = Err e
+
+-- the fault of what is not there
+abbrev pub wanted : {A : Type 0} → AssocFault → Option A → Result A AssocFault
+wanted fault (Some x) = Ok x
+wanted fault None = Err fault
+
+-- The result of a call that takes no memory, seen through a view, is what is held.
+abbrev pub Holds : {A B : Type 0} → (A → B) → Result A AssocFault → Result B AssocFault → Type 0
+Holds view (Ok x) held = held ≡ Ok (view x)
+Holds view (Err e) held = held ≡ Err e

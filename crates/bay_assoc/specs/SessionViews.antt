@@ -1,0 +1,6 @@
+-- Units of the code, without where they lie in memory.
+use Rattle.bay_assoc.specs.declared.session.Unit as read
+use Rattle.bay_assoc.specs.Session.{Unit}
+
+abbrev pub unit_of : read.Unit → Unit
+unit_of u = record { identifier = u.identifier; content = u.content.now }

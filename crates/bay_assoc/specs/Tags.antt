@@ -1,0 +1,34 @@
+-- Tags and object identifiers of the presentation layer and of ACSE (X.690 8.1.2.2, 8.18, 8.19; ISO 8823-1 8.2; ISO 8650-1 9).
+use Rattle.std.specs.Prelude.{ℕ, true, false, List, [], ◌∷◌}
+use Rattle.bay_ber.specs.declared.tag.Tag.{Tag}
+use Rattle.bay_ber.specs.declared.tag.Class.TheVariants.{Universal, Application}
+
+-- an object identifier, a set and an external
+abbrev pub oid_tag : Tag
+oid_tag = record { class = Universal; constructed = false; number = 6 }
+
+abbrev pub set_tag : Tag
+set_tag = record { class = Universal; constructed = true; number = 17 }
+
+abbrev pub external_tag : Tag
+external_tag = record { class = Universal; constructed = true; number = 8 }
+
+-- an application's tag on a value that is made of values
+abbrev pub application : ℕ → Tag
+application number = record { class = Application; constructed = true; number = number }
+
+-- the abstract syntax of ACSE, 2.2.1.0.1
+abbrev pub acse_syntax : List ℕ
+acse_syntax = 0x52 ∷ 0x01 ∷ 0x00 ∷ 0x01 ∷ []
+
+-- the abstract syntax of MMS, 1.0.9506.2.1
+abbrev pub mms_syntax : List ℕ
+mms_syntax = 0x28 ∷ 0xCA ∷ 0x22 ∷ 0x02 ∷ 0x01 ∷ []
+
+-- the Basic Encoding Rules as a transfer syntax, 2.1.1
+abbrev pub ber_syntax : List ℕ
+ber_syntax = 0x51 ∷ 0x01 ∷ []
+
+-- the application context of MMS, 1.0.9506.2.3
+abbrev pub mms_application : List ℕ
+mms_application = 0x28 ∷ 0xCA ∷ 0x22 ∷ 0x02 ∷ 0x03 ∷ []

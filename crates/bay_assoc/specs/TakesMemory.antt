@@ -1,0 +1,30 @@
+-- Which TSDUs take memory: those that are answered.
+use Rattle.std.specs.Prelude.{Option, Some, None}
+use Rattle.bay_assoc.specs.declared.hearing.Phase.{Phase}
+use Rattle.bay_assoc.specs.declared.hearing.Phase.TheVariants.{Idle, Open, Over, Failed}
+use Rattle.bay_assoc.specs.Session.{Spdu, connect, accept, finish, disconnect, abort, transfer}
+
+abbrev pub IsConnect : Spdu → Type 0
+IsConnect (connect user) = Unit {0}
+IsConnect accept = ⊥
+IsConnect (finish user) = ⊥
+IsConnect disconnect = ⊥
+IsConnect abort = ⊥
+IsConnect (transfer user) = ⊥
+
+abbrev pub IsFinish : Spdu → Type 0
+IsFinish (connect user) = ⊥
+IsFinish accept = ⊥
+IsFinish (finish user) = Unit {0}
+IsFinish disconnect = ⊥
+IsFinish abort = ⊥
+IsFinish (transfer user) = ⊥
+
+-- A CONNECT before the association, and a FINISH in an open one.
+abbrev pub TakesMemory : Phase → Option Spdu → Type 0
+TakesMemory Idle (Some s) = IsConnect s
+TakesMemory Idle None = ⊥
+TakesMemory (Open link) (Some s) = IsFinish s
+TakesMemory (Open link) None = ⊥
+TakesMemory Over s = ⊥
+TakesMemory Failed s = ⊥

@@ -1,0 +1,38 @@
+-- What the code reads, without where it lies in memory.
+use Rattle.std.specs.Prelude.{option_map}
+use Rattle.bay_assoc.specs.declared.session.UserData.{UserData}
+use Rattle.bay_assoc.specs.declared.session.UserData.TheVariants as user
+use Rattle.bay_assoc.specs.declared.session.Spdu as code
+use Rattle.bay_assoc.specs.declared.session.Spdu.TheVariants as spdu
+use Rattle.bay_assoc.specs.declared.presentation.Carried as carried
+use Rattle.bay_assoc.specs.declared.request.Connect as request
+use Rattle.bay_assoc.specs.declared.hearing.Heard.{Heard}
+use Rattle.bay_assoc.specs.declared.hearing.Heard.TheVariants as heard
+use Rattle.bay_assoc.specs.Session.{Users, missing, once, several, Spdu, connect, accept, finish, disconnect, abort, transfer}
+use Rattle.bay_assoc.specs.Presentation.{Carried, Connect}
+use Rattle.bay_assoc.specs.Hearing.{Hearing, answer, mms, released, aborted}
+
+abbrev pub users_of : UserData → Users
+users_of user.Missing = missing
+users_of (user.Once octets) = once octets.now
+users_of user.Several = several
+
+abbrev pub spdu_view : code.Spdu → Spdu
+spdu_view (spdu.Connect octets) = connect octets.now
+spdu_view spdu.Accept = accept
+spdu_view (spdu.Finish octets) = finish (option_map (λ o. o.now) octets)
+spdu_view spdu.Disconnect = disconnect
+spdu_view spdu.Abort = abort
+spdu_view (spdu.Transfer octets) = transfer octets.now
+
+abbrev pub carried_view : carried.Carried → Carried
+carried_view c = record { id = c.id; value = c.value.now }
+
+abbrev pub connect_view : request.Connect → Connect
+connect_view c = record { called = option_map (λ o. o.now) c.called; contexts = c.contexts.items; user = carried_view c.user }
+
+abbrev pub hearing_of : Heard → Hearing
+hearing_of (heard.Answer octets) = answer octets.items
+hearing_of (heard.Mms octets) = mms octets.now
+hearing_of (heard.Released octets) = released octets.items
+hearing_of heard.Aborted = aborted

@@ -1,0 +1,74 @@
+// Association control (ISO 8650-1 9).
+ghost use Rattle.std.specs.Prelude.{◌≡◌, map, option_map};
+ghost use Rattle.bay_ber.specs.Values.{part_of};
+ghost use Rattle.bay_assoc.specs.Acse.{application_of, application_as, information_as, associate_of, associate_in, release_in};
+ghost use Rattle.bay_assoc.specs.Views.{carried_view};
+
+use crate::presentation::{Carried, carried_of};
+use bay_ber::known::known_values;
+use bay_ber::tag::Tag;
+use bay_ber::values::{Value, few_values, whole_value};
+
+// The application context of MMS, 1.0.9506.2.3.
+const MMS_APPLICATION: &[u8] = &[0x28, 0xCA, 0x22, 0x02, 0x03];
+
+fn application_of(name: &[u8]) -> Option<&[u8]>
+    ensures { option_map (λ o. o.now) result ≡ application_of name.now }
+{
+    if name == MMS_APPLICATION {
+        Some(name)
+    } else {
+        None
+    }
+}
+
+// The application context, which is that of MMS.
+#[tactic(auto, unfolding(crate::specs::Acse::application_as))]
+fn application_as<'a>(value: &Value<'a>) -> Option<&'a [u8]>
+    ensures { option_map (λ o. o.now) result ≡ application_as (part_of value.now) }
+{
+    let name = whole_value(value.under(Tag::context_constructed(1))?)?;
+    application_of(name.under(Tag::universal(6))?)
+}
+
+// The user information, which is one external.
+#[tactic(auto, unfolding(crate::specs::Acse::information_as))]
+fn information_as<'a>(value: &Value<'a>) -> Option<Carried<'a>>
+    ensures { option_map carried_view result ≡ information_as (part_of value.now) }
+{
+    let external = whole_value(value.under(Tag::context_constructed(30))?)?;
+    let parts = few_values(external.under(Tag::universal_constructed(8))?)?;
+    carried_of(parts.as_slice())
+}
+
+fn associate_of<'a>(parts: &[Value<'a>]) -> Option<Carried<'a>>
+    ensures { option_map carried_view result ≡ associate_of (map part_of parts.now) }
+{
+    match parts {
+        [name, information] => {
+            application_as(name)?;
+            information_as(information)
+        }
+        _ => None,
+    }
+}
+
+/// The user information of the request for an association (AARQ) that octets are.
+#[tactic(auto, unfolding(crate::specs::Acse::associate_in))]
+pub(crate) fn associate_in(octets: &[u8]) -> Option<Carried<'_>>
+    ensures { option_map carried_view result ≡ associate_in octets.now }
+{
+    let value = whole_value(octets)?;
+    let content = value.under(Tag::application_constructed(0))?;
+    let tags = [Tag::context_constructed(1), Tag::context_constructed(30)];
+    let known = known_values(content, &tags)?;
+    associate_of(known.as_slice())
+}
+
+/// The content of the request for a release (RLRQ) that octets are.
+pub(crate) fn release_in(octets: &[u8]) -> Option<&[u8]>
+    ensures { option_map (λ o. o.now) result ≡ release_in octets.now }
+{
+    let value = whole_value(octets)?;
+    value.under(Tag::application_constructed(2))
+}

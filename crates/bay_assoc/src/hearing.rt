@@ -1,0 +1,301 @@
+// The phases of an association, and what is heard of a TSDU in each.
+ghost use Rattle.std.specs.Prelude.{◌≡◌, ◌∷◌, [], Some, option_map, IfOk, IsErrOf};
+ghost use Rattle.bay_base.specs.Exact.{Gives};
+ghost use Rattle.bay_assoc.specs.Hearing.{is_id, acse_of, mms_of, accepted_of, acse_value, mms_value, size_of, outstanding_of, nesting_of, agreed_of, answer_text, connected, finished, transferred, heard_idle, heard_open, hearing};
+ghost use Rattle.bay_assoc.specs.Results.{Holds};
+ghost use Rattle.bay_assoc.specs.Session.{spdu_in};
+ghost use Rattle.bay_assoc.specs.TakesMemory.{TakesMemory};
+ghost use Rattle.bay_assoc.specs.Views.{carried_view, connect_view, spdu_view, hearing_of};
+
+use crate::acse::{associate_in, release_in};
+use crate::fault::AssocFault;
+use crate::presentation::{Carried, Context, request_in, user_in};
+use crate::request::Connect;
+use crate::session::{Spdu, spdu_in};
+use crate::text;
+use bay_mms::request::{Proposal, read_initiate};
+use bay_mms::response::{Agreed, write_agreed};
+use std::alloc::{AllocError, Global};
+
+/// The identifiers of the presentation contexts that were accepted.
+#[derive(Clone, Copy, Debug, PartialEq, Eq)]
+pub struct Accepted {
+    /// The context of ACSE.
+    pub acse: u16,
+    /// The context of MMS.
+    pub mms: u16,
+}
+
+/// What an open association has agreed on.
+#[derive(Clone, Copy, Debug, PartialEq, Eq)]
+pub struct Link {
+    /// The contexts that values come in.
+    pub contexts: Accepted,
+    /// The octets of the largest PDU of MMS.
+    pub size: u32,
+}
+
+/// The phase of an association.
+#[derive(Clone, Copy, Debug, PartialEq, Eq)]
+pub enum Phase {
+    /// Nothing was heard.
+    Idle,
+    /// The association was requested and answered.
+    Open(Link),
+    /// The association was released or aborted.
+    Over,
+    /// A TSDU was refused.
+    Failed,
+}
+
+/// What is heard of a TSDU.
+#[derive(Drop)]
+pub enum Heard<'a> {
+    /// A request for an association; the TSDU that answers it is to be sent.
+    Answer(Vec<u8>),
+    /// A PDU of MMS.
+    Mms(&'a [u8]),
+    /// A request for a release; the TSDU that answers it is to be sent, and nothing more is read.
+    Released(Vec<u8>),
+    /// An abort, which is not answered.
+    Aborted,
+}
+
+fn is_id(id: i64, context: u16) -> bool
+    ensures { result ≡ is_id id context }
+{
+    id == i64::from(context)
+}
+
+// The first context of ACSE with the Basic Encoding Rules.
+fn acse_of(contexts: &[Context]) -> Option<u16>
+    ensures { result ≡ acse_of contexts.now }
+{
+    contexts
+        .iter()
+        .find(|context| context.is_acse)
+        .map(|context| context.id)
+}
+
+// The first context of MMS with them.
+fn mms_of(contexts: &[Context]) -> Option<u16>
+    ensures { result ≡ mms_of contexts.now }
+{
+    contexts
+        .iter()
+        .find(|context| context.is_mms)
+        .map(|context| context.id)
+}
+
+// The first of each.
+#[tactic(auto, unfolding(crate::specs::Hearing::accepted_of))]
+fn accepted_of(contexts: &[Context]) -> Option<Accepted>
+    ensures { result ≡ accepted_of contexts.now }
+{
+    let acse = acse_of(contexts)?;
+    let mms = mms_of(contexts)?;
+    Some(Accepted { acse, mms })
+}
+
+// The value in the context of ACSE.
+fn acse_value<'a>(contexts: Accepted, carried: Carried<'a>) -> Result<&'a [u8], AssocFault>
+    ensures { Holds (λ octets. octets.now) result (acse_value contexts (carried_view carried.entry)) }
+{
+    if is_id(carried.id, contexts.acse) {
+        Ok(carried.value)
+    } else if is_id(carried.id, contexts.mms) {
+        Err(AssocFault::BadAcse)
+    } else {
+        Err(AssocFault::NoContext)
+    }
+}
+
+// The value in the context of MMS.
+fn mms_value<'a>(contexts: Accepted, carried: Carried<'a>) -> Result<&'a [u8], AssocFault>
+    ensures value { Holds (λ octets. octets.now) result (mms_value contexts (carried_view carried.entry)) }
+    ensures memory { IsErrOf result AssocFault.OutOfMemory → ⊥ }
+{
+    if is_id(carried.id, contexts.mms) {
+        Ok(carried.value)
+    } else if is_id(carried.id, contexts.acse) {
+        Err(AssocFault::BadAcse)
+    } else {
+        Err(AssocFault::NoContext)
+    }
+}
+
+// The octets of the largest PDU of MMS.
+fn size_of(proposed: Option<i64>) -> Option<u32>
+    ensures { result ≡ size_of proposed }
+{
+    match proposed {
+        None => Some(65_000),
+        Some(size) => {
+            if size < 256 {
+                None
+            } else {
+                Some(size.min(65_000) as u32)
+            }
+        }
+    }
+}
+
+// How many requests may be outstanding.
+fn outstanding_of(proposed: i64) -> u32
+    ensures { result ≡ outstanding_of proposed }
+{
+    if proposed < 0 {
+        0
+    } else {
+        proposed.min(5) as u32
+    }
+}
+
+// How deep data may nest.
+fn nesting_of(proposed: i64) -> i64
+    ensures { result ≡ nesting_of proposed }
+{
+    proposed.min(10)
+}
+
+// What is agreed of a proposal.
+fn agreed_of(proposal: Proposal) -> Option<Agreed>
+    ensures { result ≡ agreed_of proposal }
+{
+    let size = size_of(proposal.size)?;
+    Some(Agreed {
+        size,
+        calling: outstanding_of(proposal.calling),
+        called: outstanding_of(proposal.called),
+        nesting: proposal.nesting.map(|nesting| nesting_of(nesting)),
+        parameters: proposal.parameters,
+    })
+}
+
+// The TSDU that answers a request.
+fn answer(
+    alloc: Global,
+    request: &Connect<'_>,
+    contexts: Accepted,
+    agreed: Agreed,
+) -> Result<Vec<u8>, AllocError>
+    ensures { IfOk result (λ octets. octets.items ≡ answer_text (connect_view request.now) contexts agreed) }
+{
+    let pdu = write_agreed(alloc, agreed)?;
+    let value = text::associated(alloc, contexts.mms, pdu.as_slice())?;
+    let list = request.contexts.as_slice();
+    let user = text::connected(alloc, request.called, list, contexts, value.as_slice())?;
+    text::accept(alloc, user.as_slice())
+}
+
+// A request for a connection, layer by layer.
+#[tactic(auto, unfolding(crate::specs::Hearing::connected))]
+fn connected<'a>(alloc: Global, user: &'a [u8]) -> Result<(Heard<'a>, Phase), AssocFault>
+    ensures { Gives AssocFault.OutOfMemory (λ x. (hearing_of x.0, x.1)) result (connected user.now) }
+{
+    let request = request_in(alloc, user)?;
+    let contexts = accepted_of(request.contexts.as_slice()).ok_or(AssocFault::NoContext)?;
+    let value = acse_value(contexts, request.user)?;
+    let information = associate_in(value).ok_or(AssocFault::BadAcse)?;
+    let pdu = mms_value(contexts, information)?;
+    let proposal = read_initiate(pdu).ok_or(AssocFault::BadAcse)?;
+    let agreed = agreed_of(proposal).ok_or(AssocFault::PduSizeTooSmall)?;
+    let octets = answer(alloc, &request, contexts, agreed)?;
+    let link = Link {
+        contexts,
+        size: agreed.size,
+    };
+    Ok((Heard::Answer(octets), Phase::Open(link)))
+}
+
+// The answer to a FINISH without user data.
+fn disconnect_alone(alloc: Global) -> Result<Vec<u8>, AllocError>
+    ensures { IfOk result (λ octets. octets.items ≡ 0x0A ∷ 0 ∷ []) }
+{
+    let mut octets = Vec::new(alloc);
+    octets.extend_from_slice(&[0x0A, 0x00])?;
+    Ok(octets)
+}
+
+// A release.
+#[tactic(auto, unfolding(crate::specs::Hearing::finished))]
+fn finished<'a>(
+    alloc: Global,
+    link: Link,
+    user: Option<&'a [u8]>,
+) -> Result<(Heard<'a>, Phase), AssocFault>
+    ensures { Gives AssocFault.OutOfMemory (λ x. (hearing_of x.0, x.1)) result (finished link (option_map (λ octets. octets.now) user.entry)) }
+{
+    let octets = match user {
+        None => disconnect_alone(alloc)?,
+        Some(user) => {
+            let carried = user_in(user).ok_or(AssocFault::BadPresentation)?;
+            let value = acse_value(link.contexts, carried)?;
+            release_in(value).ok_or(AssocFault::BadAcse)?;
+            text::released(alloc, link.contexts.acse)?
+        }
+    };
+    Ok((Heard::Released(octets), Phase::Over))
+}
+
+// Data.
+#[tactic(auto, unfolding(crate::specs::Hearing::transferred))]
+fn transferred<'a>(link: Link, user: &'a [u8]) -> Result<(Heard<'a>, Phase), AssocFault>
+    ensures heard { Holds (λ x. (hearing_of x.0, x.1)) result (transferred link user.now) }
+    ensures memory { IsErrOf result AssocFault.OutOfMemory → ⊥ }
+{
+    let carried = user_in(user).ok_or(AssocFault::BadPresentation)?;
+    let pdu = mms_value(link.contexts, carried)?;
+    Ok((Heard::Mms(pdu), Phase::Open(link)))
+}
+
+// What is heard of an SPDU before the association.
+fn heard_idle<'a>(alloc: Global, spdu: Spdu<'a>) -> Result<(Heard<'a>, Phase), AssocFault>
+    ensures heard { Gives AssocFault.OutOfMemory (λ x. (hearing_of x.0, x.1)) result (heard_idle (spdu_view spdu.entry)) }
+    ensures memory { IsErrOf result AssocFault.OutOfMemory → TakesMemory Phase.Idle (Some (spdu_view spdu.entry)) }
+{
+    match spdu {
+        Spdu::Connect(user) => connected(alloc, user),
+        Spdu::Abort => Ok((Heard::Aborted, Phase::Over)),
+        Spdu::Accept | Spdu::Finish(_) | Spdu::Disconnect | Spdu::Transfer(_) => {
+            Err(AssocFault::OutOfPhase)
+        }
+    }
+}
+
+// What is heard of an SPDU in an open association.
+fn heard_open<'a>(
+    alloc: Global,
+    link: Link,
+    spdu: Spdu<'a>,
+) -> Result<(Heard<'a>, Phase), AssocFault>
+    ensures heard { Gives AssocFault.OutOfMemory (λ x. (hearing_of x.0, x.1)) result (heard_open link (spdu_view spdu.entry)) }
+    ensures memory { IsErrOf result AssocFault.OutOfMemory → TakesMemory (Phase.Open link) (Some (spdu_view spdu.entry)) }
+{
+    match spdu {
+        Spdu::Finish(user) => finished(alloc, link, user),
+        Spdu::Transfer(user) => transferred(link, user),
+        Spdu::Abort => Ok((Heard::Aborted, Phase::Over)),
+        Spdu::Connect(_) | Spdu::Accept | Spdu::Disconnect => Err(AssocFault::OutOfPhase),
+    }
+}
+
+/// What is heard of a TSDU in a phase, and the phase after it.
+#[tactic(auto, unfolding(crate::specs::Hearing::hearing))]
+pub(crate) fn hear<'a>(
+    alloc: Global,
+    phase: Phase,
+    tsdu: &'a [u8],
+) -> Result<(Heard<'a>, Phase), AssocFault>
+    ensures heard { Gives AssocFault.OutOfMemory (λ x. (hearing_of x.0, x.1)) result (hearing phase tsdu.now) }
+    ensures memory { IsErrOf result AssocFault.OutOfMemory → TakesMemory phase (spdu_in tsdu.now) }
+{
+    match phase {
+        Phase::Idle => heard_idle(alloc, spdu_in(tsdu).ok_or(AssocFault::BadSession)?),
+        Phase::Open(link) => {
+            heard_open(alloc, link, spdu_in(tsdu).ok_or(AssocFault::BadSession)?)
+        }
+        Phase::Over => Err(AssocFault::OutOfPhase),
+        Phase::Failed => Err(AssocFault::Failed),
+    }
+}

@@ -1,0 +1,26 @@
+// Laws of what is heard. Each function does nothing, and its contract is the law.
+ghost use Rattle.std.specs.Prelude.{◌≡◌, List, ℕ, Some, Ok};
+ghost use Rattle.bay_assoc.specs.declared.hearing.Phase.{Phase};
+ghost use Rattle.bay_assoc.specs.Acse.{associate_in};
+ghost use Rattle.bay_assoc.specs.Hearing.{Hearing, hearing};
+ghost use Rattle.bay_assoc.specs.Presentation.{Carried, Connect, user_in, request_in};
+ghost use Rattle.bay_assoc.specs.Session.{Spdu, spdu_in};
+ghost use Rattle.bay_assoc.specs.SpelledHearing.{IsHeard};
+ghost use Rattle.bay_assoc.specs.SpelledSession.{IsSpdu};
+ghost use Rattle.bay_assoc.specs.SpelledValues.{IsUser, IsRequest, IsAssociate};
+
+/// A TSDU is heard in one way: what is spelled by the layers' relations is heard as that and nothing else, in the phase that
+/// follows.
+pub fn one_hearing()
+    ensures heard { (old new : Phase) (octets : List ℕ) (h : Hearing) → IsHeard old octets h new → hearing old octets ≡ Ok (h, new) }
+    ensures one { (old new next : Phase) (octets : List ℕ) (h k : Hearing) → IsHeard old octets h new → IsHeard old octets k next → (h ≡ k) × (new ≡ next) }
+{}
+
+/// Octets that are spelled as an SPDU, as user data, as a request for a connection or as one for an association are read as that,
+/// and so are spelled in one way.
+pub fn one_spelling()
+    ensures spdu { (octets : List ℕ) (s : Spdu) → IsSpdu octets s → spdu_in octets ≡ Some s }
+    ensures user { (octets : List ℕ) (c : Carried) → IsUser octets c → user_in octets ≡ Some c }
+    ensures request { (octets : List ℕ) (c : Connect) → IsRequest octets c → request_in octets ≡ Some c }
+    ensures associate { (octets : List ℕ) (c : Carried) → IsAssociate octets c → associate_in octets ≡ Some c }
+{}

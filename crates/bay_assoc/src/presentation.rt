@@ -1,0 +1,378 @@
+// Presentation protocol data units (ISO 8823-1 8.2).
+ghost use Rattle.std.specs.Prelude.{◌≡◌, ◌≤◌, ◌++◌, ◌∷◌, ◌||◌, [], length, map, option_map, OnOk, IfOk, IfSome};
+ghost use Rattle.std.specs.Option.{option_copied, ForSome};
+ghost use Rattle.bay_base.specs.Exact.{Gives};
+ghost use Rattle.bay_ber.specs.Values.{part_of, each_in};
+ghost use Rattle.bay_assoc.specs.declared.fault.AssocFault.TheVariants.{BadPresentation};
+ghost use Rattle.bay_assoc.specs.Results.{wanted};
+ghost use Rattle.bay_assoc.specs.Presentation.{integer_under, is_ber, offers_ber, context_id, context_with, context_of, context_as, has_id, are_distinct, limited, contexts_in, carried_as, carried_of, carried_in, carried_under, user_in, selector_of, selector_as, connect_with, connect_of, normal_in, normal_as, mode_of, mode_as, request_of, request_in};
+ghost use Rattle.bay_assoc.specs.Views.{carried_view, connect_view};
+
+use crate::fault::AssocFault;
+use crate::request::Connect;
+use bay_ber::content::int_of;
+use bay_ber::known::known_values;
+use bay_ber::tag::Tag;
+use bay_ber::values::{Value, Values, few_values, whole_value};
+use std::alloc::{AllocError, Global};
+
+// The abstract syntaxes of ACSE, 2.2.1.0.1, and of MMS, 1.0.9506.2.1.
+const ACSE: &[u8] = &[0x52, 0x01, 0x00, 0x01];
+
+const MMS: &[u8] = &[0x28, 0xCA, 0x22, 0x02, 0x01];
+
+// The Basic Encoding Rules as a transfer syntax, 2.1.1.
+const BER: &[u8] = &[0x51, 0x01];
+
+// A request offers at most so many contexts, and names a selector of at most so many octets.
+const CONTEXTS_MAX: usize = 16;
+
+const SELECTOR_MAX: usize = 16;
+
+/// A presentation context that is offered: its identifier, and whether it offers ACSE or MMS with the Basic Encoding Rules.
+#[derive(Clone, Copy, Debug)]
+pub struct Context {
+    pub id: u16,
+    pub is_acse: bool,
+    pub is_mms: bool,
+}
+
+/// A value, and the context that it is in.
+#[derive(Clone, Copy)]
+pub struct Carried<'a> {
+    pub id: i64,
+    pub value: &'a [u8],
+}
+
+// The integer under its own tag.
+#[tactic(auto, unfolding(crate::specs::Presentation::integer_under))]
+fn integer_under(value: &Value<'_>) -> Option<i64>
+    ensures { result ≡ integer_under (part_of value.now) }
+{
+    int_of(value.under(Tag::universal(2))?).ok()
+}
+
+// Whether a transfer syntax is the Basic Encoding Rules.
+#[tactic(auto, unfolding(crate::specs::Presentation::is_ber))]
+fn is_ber(value: &Value<'_>) -> Option<bool>
+    ensures { result ≡ is_ber (part_of value.now) }
+{
+    let name = value.under(Tag::universal(6))?;
+    Some(name == BER)
+}
+
+fn either(first: bool, second: bool) -> bool
+    ensures { result ≡ (first || second) }
+{
+    first || second
+}
+
+// Whether one of the transfer syntaxes in octets is.
+fn offers_ber(octets: &[u8]) -> Option<bool>
+    ensures { result ≡ offers_ber octets.now }
+{
+    let mut found = false;
+    let mut values = Values::new(octets);
+    loop {
+        match values.next_value() {
+            Ok(Some(value)) => {
+                match is_ber(&value) {
+                    Some(one) => found = either(found, one),
+                    None => return None,
+                }
+            }
+            Ok(None) => return Some(found),
+            Err(_) => return None,
+        }
+    }
+}
+
+fn context_id(number: i64) -> Option<u16>
+    ensures { result ≡ context_id number }
+{
+    if number > 0 && number < 32_768 {
+        Some(number as u16)
+    } else {
+        None
+    }
+}
+
+#[tactic(auto, unfolding(crate::specs::Presentation::context_with))]
+fn context_with(id: &Value<'_>, syntax: &Value<'_>, transfers: &Value<'_>) -> Option<Context>
+    ensures { result ≡ context_with (part_of id.now) (part_of syntax.now) (part_of transfers.now) }
+{
+    let id = context_id(integer_under(id)?)?;
+    let name = syntax.under(Tag::universal(6))?;
+    let list = transfers.under(Tag::sequence())?;
+    let ber = offers_ber(list)?;
+    Some(Context {
+        id,
+        is_acse: ber && name == ACSE,
+        is_mms: ber && name == MMS,
+    })
+}
+
+fn context_of(parts: &[Value<'_>]) -> Option<Context>
+    ensures { result ≡ context_of (map part_of parts.now) }
+{
+    match parts {
+        [id, syntax, transfers] => context_with(id, syntax, transfers),
+        _ => None,
+    }
+}
+
+// The context that a value offers.
+#[tactic(auto, unfolding(crate::specs::Presentation::context_as))]
+fn context_as(value: &Value<'_>) -> Option<Context>
+    ensures { result ≡ context_as (part_of value.now) }
+{
+    let parts = few_values(value.under(Tag::sequence())?)?;
+    context_of(parts.as_slice())
+}
+
+// The contexts that octets offer, one after another.
+fn read_contexts(alloc: Global, octets: &[u8]) -> Result<Vec<Context>, AssocFault>
+    ensures { Gives AssocFault.OutOfMemory (λ v. v.items) result (wanted BadPresentation (each_in context_as octets.now)) }
+{
+    let mut contexts = Vec::new(alloc);
+    let mut values = Values::new(octets);
+    loop {
+        match values.next_value() {
+            Ok(Some(value)) => {
+                match context_as(&value) {
+                    Some(one) => push_context(&mut contexts, one)?,
+                    None => return Err(AssocFault::BadPresentation),
+                }
+            }
+            Ok(None) => return Ok(contexts),
+            Err(_) => return Err(AssocFault::BadPresentation),
+        }
+    }
+}
+
+fn push_context(contexts: &mut Vec<Context>, one: Context) -> Result<(), AllocError>
+    ensures { OnOk result (contexts.new.items ≡ contexts.old.items ++ one ∷ []) }
+{
+    contexts.push(one)?;
+    Ok(())
+}
+
+// Whether a context has this identifier.
+fn has_id(id: u16, contexts: &[Context]) -> bool
+    ensures { result ≡ has_id id contexts.now }
+{
+    contexts.iter().any(|context| context.id == id)
+}
+
+// Whether no two contexts have one identifier.
+fn are_distinct(contexts: &[Context]) -> bool
+    ensures { result ≡ are_distinct contexts.now }
+{
+    for (at, context) in contexts.iter().enumerate() {
+        let id = context.id;
+        if has_id(id, &contexts[at + 1..]) {
+            return false;
+        }
+    }
+    true
+}
+
+// The contexts that octets offer, if they are few and distinct.
+#[tactic(auto, unfolding(crate::specs::Presentation::contexts_in))]
+fn contexts_in(alloc: Global, octets: &[u8]) -> Result<Vec<Context>, AssocFault>
+    ensures exact { Gives AssocFault.OutOfMemory (λ v. v.items) result (wanted BadPresentation (contexts_in octets.now)) }
+    ensures few { IfOk result (λ v. length v.items ≤ 16) }
+{
+    let contexts = read_contexts(alloc, octets)?;
+    if contexts.len() > CONTEXTS_MAX || !are_distinct(contexts.as_slice()) {
+        return Err(AssocFault::BadPresentation);
+    }
+    Ok(contexts)
+}
+
+#[tactic(auto, unfolding(crate::specs::Presentation::carried_as))]
+fn carried_as<'a>(id: &Value<'_>, value: &Value<'a>) -> Option<Carried<'a>>
+    ensures { option_map carried_view result ≡ carried_as (part_of id.now) (part_of value.now) }
+{
+    let id = integer_under(id)?;
+    let value = value.under(Tag::context_constructed(0))?;
+    Some(Carried { id, value })
+}
+
+/// The value that parts carry, and its context.
+pub(crate) fn carried_of<'a>(parts: &[Value<'a>]) -> Option<Carried<'a>>
+    ensures { option_map carried_view result ≡ carried_of (map part_of parts.now) }
+{
+    match parts {
+        [id, value] => carried_as(id, value),
+        [name, id, value] => {
+            name.under(Tag::universal(6))?;
+            carried_as(id, value)
+        }
+        _ => None,
+    }
+}
+
+// The one value of fully encoded user data.
+#[tactic(auto, unfolding(crate::specs::Presentation::carried_in))]
+fn carried_in(octets: &[u8]) -> Option<Carried<'_>>
+    ensures { option_map carried_view result ≡ carried_in octets.now }
+{
+    let value = whole_value(octets)?;
+    let parts = few_values(value.under(Tag::sequence())?)?;
+    carried_of(parts.as_slice())
+}
+
+#[tactic(auto, unfolding(crate::specs::Presentation::carried_under))]
+fn carried_under<'a>(value: &Value<'a>) -> Option<Carried<'a>>
+    ensures { option_map carried_view result ≡ carried_under (part_of value.now) }
+{
+    carried_in(value.under(Tag::application_constructed(1))?)
+}
+
+/// The value that user data of the session carry, and its context.
+#[tactic(auto, unfolding(crate::specs::Presentation::user_in))]
+pub(crate) fn user_in(octets: &[u8]) -> Option<Carried<'_>>
+    ensures { option_map carried_view result ≡ user_in octets.now }
+{
+    let value = whole_value(octets)?;
+    carried_under(&value)
+}
+
+fn selector_of(octets: &[u8]) -> Option<&[u8]>
+    ensures exact { option_map (λ o. o.now) result ≡ selector_of octets.now }
+    ensures short { IfSome result (λ o. length o.now ≤ 16) }
+{
+    if octets.len() > SELECTOR_MAX {
+        None
+    } else {
+        Some(octets)
+    }
+}
+
+// The selector of the one called, where it came.
+fn selector_as<'a>(value: Option<&Value<'a>>) -> Option<Option<&'a [u8]>>
+    ensures exact { option_map (option_map (λ o. o.now)) result ≡ selector_as (option_map part_of (option_copied value.entry)) }
+    ensures short { IfSome result (λ o. ForSome o (λ octets. length octets.now ≤ 16)) }
+{
+    match value {
+        Some(value) => Some(Some(selector_of(value.under(Tag::context(2))?)?)),
+        None => Some(None),
+    }
+}
+
+#[tactic(auto, unfolding(crate::specs::Presentation::connect_with))]
+fn connect_with<'a>(
+    alloc: Global,
+    selector: Option<&Value<'a>>,
+    list: &Value<'a>,
+    user: &Value<'a>,
+) -> Result<Connect<'a>, AssocFault>
+    ensures { Gives AssocFault.OutOfMemory connect_view result (wanted BadPresentation (connect_with (option_map part_of (option_copied selector.entry)) (part_of list.now) (part_of user.now))) }
+{
+    let called = selector_as(selector).ok_or(AssocFault::BadPresentation)?;
+    let octets = list
+        .under(Tag::context_constructed(4))
+        .ok_or(AssocFault::BadPresentation)?;
+    let contexts = contexts_in(alloc, octets)?;
+    let user = carried_under(user).ok_or(AssocFault::BadPresentation)?;
+    Ok(Connect {
+        called,
+        contexts,
+        user,
+    })
+}
+
+fn connect_of<'a>(alloc: Global, parts: &[Value<'a>]) -> Result<Connect<'a>, AssocFault>
+    ensures { Gives AssocFault.OutOfMemory connect_view result (wanted BadPresentation (connect_of (map part_of parts.now))) }
+{
+    match parts {
+        [list, user] => connect_with(alloc, None, list, user),
+        [selector, list, user] => {
+            if selector.tag.is(Tag::context(1)) {
+                connect_with(alloc, None, list, user)
+            } else {
+                connect_with(alloc, Some(selector), list, user)
+            }
+        }
+        [calling, called, list, user] => {
+            calling
+                .under(Tag::context(1))
+                .ok_or(AssocFault::BadPresentation)?;
+            connect_with(alloc, Some(called), list, user)
+        }
+        _ => Err(AssocFault::BadPresentation),
+    }
+}
+
+// The parameters of the normal mode, among other fields.
+#[tactic(auto, unfolding(crate::specs::Presentation::normal_in))]
+fn normal_in(alloc: Global, octets: &[u8]) -> Result<Connect<'_>, AssocFault>
+    ensures { Gives AssocFault.OutOfMemory connect_view result (wanted BadPresentation (normal_in octets.now)) }
+{
+    let tags = [
+        Tag::context(1),
+        Tag::context(2),
+        Tag::context_constructed(4),
+        Tag::application_constructed(1),
+    ];
+    let known = known_values(octets, &tags).ok_or(AssocFault::BadPresentation)?;
+    connect_of(alloc, known.as_slice())
+}
+
+#[tactic(auto, unfolding(crate::specs::Presentation::normal_as))]
+fn normal_as<'a>(alloc: Global, value: &Value<'a>) -> Result<Connect<'a>, AssocFault>
+    ensures { Gives AssocFault.OutOfMemory connect_view result (wanted BadPresentation (normal_as (part_of value.now))) }
+{
+    let octets = value
+        .under(Tag::context_constructed(2))
+        .ok_or(AssocFault::BadPresentation)?;
+    normal_in(alloc, octets)
+}
+
+fn mode_of(number: i64) -> Option<i64>
+    ensures { result ≡ mode_of number }
+{
+    if number == 1 { Some(number) } else { None }
+}
+
+// The normal mode.
+#[tactic(auto, unfolding(crate::specs::Presentation::mode_as))]
+fn mode_as(value: &Value<'_>) -> Option<i64>
+    ensures { result ≡ mode_as (part_of value.now) }
+{
+    let mode = whole_value(value.under(Tag::context_constructed(0))?)?;
+    mode_of(int_of(mode.under(Tag::context(0))?).ok()?)
+}
+
+// The mode and the parameters, in either order.
+fn request_of<'a>(alloc: Global, parts: &[Value<'a>]) -> Result<Connect<'a>, AssocFault>
+    ensures { Gives AssocFault.OutOfMemory connect_view result (wanted BadPresentation (request_of (map part_of parts.now))) }
+{
+    match parts {
+        [first, second] => {
+            if first.tag.is(Tag::context_constructed(0)) {
+                mode_as(first).ok_or(AssocFault::BadPresentation)?;
+                normal_as(alloc, second)
+            } else {
+                mode_as(second).ok_or(AssocFault::BadPresentation)?;
+                normal_as(alloc, first)
+            }
+        }
+        _ => Err(AssocFault::BadPresentation),
+    }
+}
+
+/// The request for a connection (CP) that octets are, among other fields.
+#[tactic(auto, unfolding(crate::specs::Presentation::request_in))]
+pub(crate) fn request_in(alloc: Global, octets: &[u8]) -> Result<Connect<'_>, AssocFault>
+    ensures { Gives AssocFault.OutOfMemory connect_view result (wanted BadPresentation (request_in octets.now)) }
+{
+    let value = whole_value(octets).ok_or(AssocFault::BadPresentation)?;
+    let content = value
+        .under(Tag::universal_constructed(17))
+        .ok_or(AssocFault::BadPresentation)?;
+    let tags = [Tag::context_constructed(0), Tag::context_constructed(2)];
+    let known = known_values(content, &tags).ok_or(AssocFault::BadPresentation)?;
+    request_of(alloc, known.as_slice())
+}

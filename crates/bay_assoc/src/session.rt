@@ -1,0 +1,245 @@
+// Session protocol data units (X.225 8): an identifier, a length, and parameters, which are spelled likewise.
+ghost use Rattle.std.specs.Prelude.{◌≡◌, ◌+◌, ◌≤◌, length, option_map, IfSome};
+ghost use Rattle.bay_assoc.specs.Session.{size_at, long_size, counted_at, unit_at, unit_in, is_user, users_in, connect_of, finish_of, spdu_of, spdu_in};
+ghost use Rattle.bay_assoc.specs.SessionReading.{NextUnit, with_user};
+ghost use Rattle.bay_assoc.specs.SessionViews.{unit_of};
+ghost use Rattle.bay_assoc.specs.Views.{users_of, spdu_view};
+
+use std::marker::Model;
+
+// The code of a parameter that is user data.
+const USER_DATA: u8 = 0xC1;
+
+/// An identifier and the octets that the length behind it counts: an SPDU, a parameter or a group of parameters.
+#[derive(Clone, Copy)]
+pub struct Unit<'a> {
+    pub identifier: u8,
+    pub content: &'a [u8],
+}
+
+/// How often user data stand among parameters.
+#[derive(Clone, Copy)]
+pub enum UserData<'a> {
+    Missing,
+    Once(&'a [u8]),
+    Several,
+}
+
+/// An SPDU.
+#[derive(Clone, Copy)]
+pub enum Spdu<'a> {
+    /// CONNECT (CN), with its user data.
+    Connect(&'a [u8]),
+    /// ACCEPT (AC).
+    Accept,
+    /// FINISH (FN), with its user data where they came.
+    Finish(Option<&'a [u8]>),
+    /// DISCONNECT (DN).
+    Disconnect,
+    /// ABORT (AB).
+    Abort,
+    /// DATA TRANSFER (DT) behind a GIVE TOKENS, with its user data.
+    Transfer(&'a [u8]),
+}
+
+// A length of two octets, and the octets behind it.
+fn long_size(octets: &[u8]) -> Option<(usize, &[u8])>
+    ensures exact { option_map (λ x. (x.0, x.1.now)) result ≡ long_size octets.now }
+    ensures shorter { IfSome result (λ x. length x.1.now ≤ length octets.now) }
+{
+    match octets {
+        [high, low, rest @ ..] => Some((*high as usize * 256 + *low as usize, rest)),
+        _ => None,
+    }
+}
+
+// A length, and the octets behind it.
+#[tactic(auto, unfolding(crate::specs::Session::size_at))]
+fn size_at(octets: &[u8]) -> Option<(usize, &[u8])>
+    ensures exact { option_map (λ x. (x.0, x.1.now)) result ≡ size_at octets.now }
+    ensures shorter { IfSome result (λ x. length x.1.now + 1 ≤ length octets.now) }
+{
+    match octets {
+        [] => None,
+        [first, rest @ ..] => {
+            if *first == 255 {
+                long_size(rest)
+            } else {
+                Some((*first as usize, rest))
+            }
+        }
+    }
+}
+
+// The octets that a length counts, and those behind them.
+#[tactic(auto, unfolding(crate::specs::Session::counted_at))]
+fn counted_at(octets: &[u8]) -> Option<(&[u8], &[u8])>
+    ensures exact { option_map (λ x. (x.0.now, x.1.now)) result ≡ counted_at octets.now }
+    ensures shorter { IfSome result (λ x. length x.1.now + 1 ≤ length octets.now) }
+{
+    let (count, rest) = size_at(octets)?;
+    if rest.len() < count {
+        return None;
+    }
+    Some(rest.split_at(count))
+}
+
+// A unit, and the octets behind it.
+#[tactic(auto, unfolding(crate::specs::Session::unit_at))]
+fn unit_at(octets: &[u8]) -> Option<(Unit<'_>, &[u8])>
+    ensures exact { option_map (λ x. (unit_of x.0, x.1.now)) result ≡ unit_at octets.now }
+    ensures shorter { IfSome result (λ x. length x.1.now + 2 ≤ length octets.now) }
+{
+    match octets {
+        [] => None,
+        [identifier, rest @ ..] => {
+            let (content, rest) = counted_at(rest)?;
+            let unit = Unit {
+                identifier: *identifier,
+                content,
+            };
+            Some((unit, rest))
+        }
+    }
+}
+
+/// The units that stand one after another in octets, which contracts see as the octets that are left.
+#[derive(Drop)]
+pub struct Units<'a> {
+    rest: &'a [u8],
+}
+
+impl<'a> Model for Units<'a> {
+    ghost use Rattle.std.specs.Prelude.{ℕ, List};
+
+    ghost Value = { List ℕ };
+
+    ghost view = { λ u. u.rest.now };
+}
+
+/// What stands next among units.
+pub enum Next<'a> {
+    /// No octet is left.
+    End,
+    /// A unit.
+    Unit(Unit<'a>),
+    /// No unit stands there.
+    Bad,
+}
+
+impl<'a> Units<'a> {
+    fn new(octets: &'a [u8]) -> Units<'a>
+        ensures { result ≡ octets.now }
+    {
+        Units { rest: octets }
+    }
+
+    // The next unit. Where none stands there, nothing is passed over.
+    fn next_unit(&mut self) -> Next<'a>
+        ensures { NextUnit self.old result self.new }
+    {
+        if self.rest.is_empty() {
+            return Next::End;
+        }
+        match unit_at(self.rest) {
+            Some((unit, rest)) => {
+                self.rest = rest;
+                Next::Unit(unit)
+            }
+            None => Next::Bad,
+        }
+    }
+}
+
+fn is_user(unit: &Unit<'_>) -> bool
+    ensures { result ≡ is_user (unit_of unit.now) }
+{
+    unit.identifier == USER_DATA
+}
+
+// The user data behind those found, where a unit is one.
+fn with_user<'a>(found: UserData<'a>, unit: Unit<'a>) -> UserData<'a>
+    ensures { users_of result ≡ with_user (users_of found.entry) (unit_of unit.entry) }
+{
+    if !is_user(&unit) {
+        return found;
+    }
+    match found {
+        UserData::Missing => UserData::Once(unit.content),
+        UserData::Once(_) | UserData::Several => UserData::Several,
+    }
+}
+
+// The user data among the parameters that octets are; None where they are no parameters.
+fn users_in(octets: &[u8]) -> Option<UserData<'_>>
+    ensures { option_map users_of result ≡ users_in octets.now }
+{
+    let mut found = UserData::Missing;
+    let mut units = Units::new(octets);
+    loop {
+        match units.next_unit() {
+            Next::Unit(unit) => found = with_user(found, unit),
+            Next::End => return Some(found),
+            Next::Bad => return None,
+        }
+    }
+}
+
+fn connect_of(users: UserData<'_>) -> Option<Spdu<'_>>
+    ensures { option_map spdu_view result ≡ connect_of (users_of users.entry) }
+{
+    match users {
+        UserData::Once(user) => Some(Spdu::Connect(user)),
+        UserData::Missing | UserData::Several => None,
+    }
+}
+
+fn finish_of(users: UserData<'_>) -> Option<Spdu<'_>>
+    ensures { option_map spdu_view result ≡ finish_of (users_of users.entry) }
+{
+    match users {
+        UserData::Missing => Some(Spdu::Finish(None)),
+        UserData::Once(user) => Some(Spdu::Finish(Some(user))),
+        UserData::Several => None,
+    }
+}
+
+// The SPDU that a unit is.
+#[tactic(auto, unfolding(crate::specs::Session::spdu_of))]
+fn spdu_of(unit: Unit<'_>) -> Option<Spdu<'_>>
+    ensures { option_map spdu_view result ≡ spdu_of (unit_of unit.entry) }
+{
+    let users = users_in(unit.content);
+    match unit.identifier {
+        0x0D => connect_of(users?),
+        0x09 => finish_of(users?),
+        0x0E => users.map(|_| Spdu::Accept),
+        0x0A => users.map(|_| Spdu::Disconnect),
+        0x19 => users.map(|_| Spdu::Abort),
+        _ => None,
+    }
+}
+
+// The unit that octets are.
+fn unit_in(octets: &[u8]) -> Option<Unit<'_>>
+    ensures { option_map unit_of result ≡ unit_in octets.now }
+{
+    match unit_at(octets) {
+        Some((unit, rest)) => { if rest.is_empty() { Some(unit) } else { None } }
+        None => None,
+    }
+}
+
+/// The SPDU that a TSDU is.
+#[tactic(auto, unfolding(crate::specs::Session::spdu_in))]
+pub(crate) fn spdu_in(tsdu: &[u8]) -> Option<Spdu<'_>>
+    ensures { option_map spdu_view result ≡ spdu_in tsdu.now }
+{
+    match tsdu {
+        [1, 0, 1, 0, user @ ..] => Some(Spdu::Transfer(user)),
+        _ => {
+            let unit = unit_in(tsdu)?;
+            spdu_of(unit)
+        }
+    }
+}

@@ -1,0 +1,227 @@
+// The canonical texts of each layer.
+ghost use Rattle.std.specs.Prelude.{◌≡◌, ◌+◌, ◌*◌, ◌^◌, ◌<◌, ◌≤◌, ◌∷◌, [], ◌++◌, length, option_map, pos, Some, OnOk, IfOk};
+ghost use Rattle.std.specs.Option.{ForSome};
+ghost use Rattle.bay_ber.specs.Writing.{element};
+ghost use Rattle.bay_mms.specs.Tags.{constructed};
+ghost use Rattle.bay_assoc.specs.Presentation.{user_in};
+ghost use Rattle.bay_assoc.specs.Tags.{external_tag};
+ghost use Rattle.bay_assoc.specs.Texts.{size_text, unit_text, accept_text, disconnect_text, transfer_text, carried_text, user_text, result_text, results_text, selector_text, connected_text, associated_text, release_text};
+
+use crate::hearing::Accepted;
+use crate::presentation::Context;
+use bay_ber::tag::Tag;
+use bay_ber::writer::Writer;
+use std::alloc::{AllocError, Global};
+
+// The front of the parameters of an ACCEPT: the protocol options and the version as one group, and the functional units.
+const ACCEPT: [u8; 12] = [
+    0x05, 0x06, 0x13, 0x01, 0x00, 0x16, 0x01, 0x02, 0x14, 0x02, 0x00, 0x02,
+];
+
+// Appends a length.
+fn append_size(out: &mut Vec<u8>, size: usize) -> Result<(), AllocError>
+    requires { size < 65_536 }
+    ensures text { OnOk result (out.new.items ≡ out.old.items ++ size_text size) }
+    ensures few { OnOk result (length out.new.items ≤ length out.old.items + 3) }
+{
+    if size < 255 {
+        out.push(size as u8)?;
+    } else {
+        out.extend_from_slice(&[255, (size / 256) as u8, (size % 256) as u8])?;
+    }
+    Ok(())
+}
+
+// Appends an SPDU or a parameter.
+fn append_unit(out: &mut Vec<u8>, identifier: u8, content: &[u8]) -> Result<(), AllocError>
+    requires { length content.now < 65_536 }
+    ensures text { OnOk result (out.new.items ≡ out.old.items ++ unit_text identifier content.now) }
+    ensures few { OnOk result (length out.new.items ≤ length out.old.items + length content.now + 4) }
+{
+    out.push(identifier)?;
+    append_size(out, content.len())?;
+    out.extend_from_slice(content)?;
+    Ok(())
+}
+
+/// An ACCEPT with user data.
+pub(crate) fn accept(alloc: Global, user: &[u8]) -> Result<Vec<u8>, AllocError>
+    requires { length user.now < 65_000 }
+    ensures { IfOk result (λ octets. octets.items ≡ accept_text user.now) }
+{
+    let mut content = Vec::new(alloc);
+    content.extend_from_slice(&ACCEPT)?;
+    append_unit(&mut content, 0xC1, user)?;
+    let mut out = Vec::new(alloc);
+    append_unit(&mut out, 0x0E, content.as_slice())?;
+    Ok(out)
+}
+
+// A DISCONNECT with user data.
+fn disconnect(alloc: Global, user: &[u8]) -> Result<Vec<u8>, AllocError>
+    requires { length user.now < 65_000 }
+    ensures { IfOk result (λ octets. octets.items ≡ disconnect_text user.now) }
+{
+    let mut content = Vec::new(alloc);
+    append_unit(&mut content, 0xC1, user)?;
+    let mut out = Vec::new(alloc);
+    append_unit(&mut out, 0x0A, content.as_slice())?;
+    Ok(out)
+}
+
+// Writes a value in a context.
+fn put_carried(writer: &mut Writer, tag: Tag, id: u16, value: &[u8]) -> Result<(), AllocError>
+    requires low { tag.number < 31 }
+    requires short { length value.now < 2 ^ 31 }
+    ensures text { OnOk result (writer.new ≡ writer.old ++ carried_text tag id value.now) }
+    ensures few { OnOk result (length writer.new ≤ length writer.old + length value.now + 26) }
+{
+    let start = writer.len();
+    writer.int(Tag::universal(2), i64::from(id))?;
+    writer.octets(Tag::context_constructed(0), value)?;
+    writer.nest_from(start, tag)?;
+    Ok(())
+}
+
+// Writes fully encoded user data.
+fn put_user(writer: &mut Writer, id: u16, value: &[u8]) -> Result<(), AllocError>
+    requires { length value.now < 2 ^ 31 }
+    ensures text { OnOk result (writer.new ≡ writer.old ++ user_text id value.now) }
+    ensures few { OnOk result (length writer.new ≤ length writer.old + length value.now + 32) }
+{
+    let start = writer.len();
+    put_carried(writer, Tag::sequence(), id, value)?;
+    writer.nest_from(start, Tag::application_constructed(1))?;
+    Ok(())
+}
+
+/// A DATA TRANSFER of a value in a context.
+pub(crate) fn transfer(alloc: Global, id: u16, value: &[u8]) -> Result<Vec<u8>, AllocError>
+    requires { length value.now < 2 ^ 31 }
+    ensures text { IfOk result (λ octets. octets.items ≡ transfer_text (user_text id value.now)) }
+    // Its user data are read back.
+    ensures read { OnOk result (user_in (user_text id value.now) ≡ Some (record { id = pos id; value = value.now })) }
+{
+    let mut front = Vec::with_capacity(alloc, value.len() + 36)?;
+    front.extend_from_slice(&[1, 0, 1, 0])?;
+    let mut writer = Writer::behind(front);
+    put_user(&mut writer, id, value)?;
+    Ok(writer.finish())
+}
+
+// What comes of a context.
+fn put_result(writer: &mut Writer, accepted: Accepted, context: &Context) -> Result<(), AllocError>
+    ensures text { OnOk result (writer.new ≡ writer.old ++ result_text accepted context.now) }
+    ensures few { OnOk result (length writer.new ≤ length writer.old + 13) }
+{
+    if context.id == accepted.acse || context.id == accepted.mms {
+        writer.octets(Tag::sequence(), &[0x80, 0x01, 0x00, 0x81, 0x02, 0x51, 0x01])
+    } else {
+        writer.octets(Tag::sequence(), &[0x80, 0x01, 0x02])
+    }
+}
+
+// What comes of each context.
+fn put_each(writer: &mut Writer, accepted: Accepted, contexts: &[Context]) -> Result<(), AllocError>
+    ensures text { OnOk result (writer.new ≡ writer.old ++ results_text accepted contexts.now) }
+    ensures few { OnOk result (length writer.new ≤ length writer.old + 13 * length contexts.now) }
+{
+    for context in contexts {
+        put_result(writer, accepted, context)?;
+    }
+    Ok(())
+}
+
+fn put_results(
+    writer: &mut Writer,
+    accepted: Accepted,
+    contexts: &[Context],
+) -> Result<(), AllocError>
+    requires { length contexts.now ≤ 16 }
+    ensures text { OnOk result (writer.new ≡ writer.old ++ element (constructed 5) (results_text accepted contexts.now)) }
+    ensures few { OnOk result (length writer.new ≤ length writer.old + 214) }
+{
+    let start = writer.len();
+    put_each(writer, accepted, contexts)?;
+    writer.nest_from(start, Tag::context_constructed(5))?;
+    Ok(())
+}
+
+// Writes the selector of the one called, where it came.
+fn put_selector(writer: &mut Writer, called: Option<&[u8]>) -> Result<(), AllocError>
+    requires { ForSome called (λ octets. length octets.now ≤ 16) }
+    ensures text { OnOk result (writer.new ≡ writer.old ++ selector_text (option_map (λ octets. octets.now) called.entry)) }
+    ensures few { OnOk result (length writer.new ≤ length writer.old + 22) }
+{
+    if let Some(octets) = called {
+        writer.octets(Tag::context(3), octets)?;
+    }
+    Ok(())
+}
+
+/// The answer to a request for a connection (CPA), with a value of ACSE.
+pub(crate) fn connected(
+    alloc: Global,
+    called: Option<&[u8]>,
+    contexts: &[Context],
+    accepted: Accepted,
+    value: &[u8],
+) -> Result<Vec<u8>, AllocError>
+    requires selector { ForSome called (λ octets. length octets.now ≤ 16) }
+    requires contexts { length contexts.now ≤ 16 }
+    requires short { length value.now < 10_000 }
+    ensures text { IfOk result (λ octets. octets.items ≡ connected_text (option_map (λ octets. octets.now) called.entry) contexts.now accepted value.now) }
+    ensures few { IfOk result (λ octets. length octets.items ≤ length value.now + 289) }
+{
+    let mut writer = Writer::new(alloc);
+    writer.octets(Tag::context_constructed(0), &[0x80, 0x01, 0x01])?;
+    let start = writer.len();
+    put_selector(&mut writer, called)?;
+    put_results(&mut writer, accepted, contexts)?;
+    put_user(&mut writer, accepted.acse, value)?;
+    writer.nest_from(start, Tag::context_constructed(2))?;
+    writer.nest_from(0, Tag::universal_constructed(17))?;
+    Ok(writer.finish())
+}
+
+// Writes the user information, which is one external.
+fn put_information(writer: &mut Writer, mms: u16, pdu: &[u8]) -> Result<(), AllocError>
+    requires { length pdu.now < 10_000 }
+    ensures text { OnOk result (writer.new ≡ writer.old ++ element (constructed 30) (carried_text external_tag mms pdu.now)) }
+    ensures few { OnOk result (length writer.new ≤ length writer.old + length pdu.now + 32) }
+{
+    let start = writer.len();
+    put_carried(writer, Tag::universal_constructed(8), mms, pdu)?;
+    writer.nest_from(start, Tag::context_constructed(30))?;
+    Ok(())
+}
+
+/// The answer to a request for an association (AARE), with a PDU of MMS.
+#[tactic(auto, unfolding(bay_ber::specs::Writing::element, bay_ber::specs::Writing::length_octets))]
+pub(crate) fn associated(alloc: Global, mms: u16, pdu: &[u8]) -> Result<Vec<u8>, AllocError>
+    requires { length pdu.now < 10_000 }
+    ensures text { IfOk result (λ octets. octets.items ≡ associated_text mms pdu.now) }
+    ensures few { IfOk result (λ octets. length octets.items ≤ length pdu.now + 71) }
+{
+    let mut writer = Writer::new(alloc);
+    writer.octets(
+        Tag::context_constructed(1),
+        &[0x06, 0x05, 0x28, 0xCA, 0x22, 0x02, 0x03],
+    )?;
+    writer.octets(Tag::context_constructed(2), &[0x02, 0x01, 0x00])?;
+    writer.octets(Tag::context_constructed(3), &[0xA1, 0x03, 0x02, 0x01, 0x00])?;
+    put_information(&mut writer, mms, pdu)?;
+    writer.nest_from(0, Tag::application_constructed(1))?;
+    Ok(writer.finish())
+}
+
+/// The DISCONNECT that answers a request for a release, with its RLRE.
+#[tactic(auto, unfolding(bay_ber::specs::Writing::element, bay_ber::specs::Writing::length_octets))]
+pub(crate) fn released(alloc: Global, acse: u16) -> Result<Vec<u8>, AllocError>
+    ensures { IfOk result (λ octets. octets.items ≡ disconnect_text (user_text acse release_text)) }
+{
+    let mut writer = Writer::new(alloc);
+    put_user(&mut writer, acse, &[0x63, 0x03, 0x80, 0x01, 0x00])?;
+    let user = writer.finish();
+    disconnect(alloc, user.as_slice())
+}

@@ -1,0 +1,46 @@
+// Values whose tags are known, among others.
+ghost use Rattle.std.specs.Prelude.{◌≡◌, ◌≤◌, true, length, OnSome, IfNone};
+ghost use Rattle.bay_ber.specs.Values.{part_of, is_known, with_known, known_in};
+
+use crate::tag::Tag;
+use crate::values::{Few, Value, Values};
+
+// Whether a value has one of these tags.
+fn is_known(value: &Value<'_>, tags: &[Tag]) -> bool
+    ensures { result ≡ is_known tags.now (part_of value.now) }
+{
+    tags.iter().any(|tag| value.tag.is(*tag))
+}
+
+// Puts a value behind those that are known, if it has one of these tags; None where they are five.
+fn add_known<'a>(known: &mut Few<'a>, value: Value<'a>, tags: &[Tag]) -> Option<()>
+    requires { length known.old ≤ 5 }
+    ensures some { OnSome result ((known.new ≡ with_known tags.now known.old (part_of value.entry)) × (length known.new ≤ 5)) }
+    ensures none { IfNone result ((is_known tags.now (part_of value.entry) ≡ true) × (5 ≤ length known.old)) }
+{
+    if is_known(&value, tags) {
+        known.push(value)?;
+    }
+    Some(())
+}
+
+/// Of the values that the octets are, one after another, those whose tags are among these, in order; the others may be any
+/// (X.690 8.11). None where the octets are no values, or more than five have one of the tags.
+pub fn known_values<'a>(octets: &'a [u8], tags: &[Tag]) -> Option<Few<'a>>
+    ensures { result ≡ known_in tags.now octets.now }
+{
+    let mut known = Few::new();
+    let mut values = Values::new(octets);
+    loop {
+        match values.next_value() {
+            Ok(Some(value)) => {
+                match add_known(&mut known, value, tags) {
+                    Some(()) => {}
+                    None => return None,
+                }
+            }
+            Ok(None) => return Some(known),
+            Err(_) => return None,
+        }
+    }
+}
