@@ -1,7 +1,3 @@
-pub mod CheckLemmas
-pub mod CheckedLemmas
 pub mod EntryLemmas
-pub mod ItemLemmas
 pub mod NotedLemmas
-pub mod PlaceLemmas
-pub mod StandingLemmas
+pub mod ViewLemmas
