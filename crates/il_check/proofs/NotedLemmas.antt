@@ -1,5 +1,5 @@
 -- Faults noted one after another.
-use Rattle.std.proofs.Common.{◌≡◌, List, [], ◌∷◌, ◌++◌, Option, Some, None, refl, ap, ◌∙◌}
+use Rattle.std.proofs.Common.{◌≡◌, List, [], ◌∷◌, ◌++◌, Option, Some, None, refl, ap, sym, ◌∙◌}
 use Rattle.il_check.specs.Faults.{lesser, least_of, least_fault, noted}
 use Rattle.il_check.specs.declared.fault.CheckFault.{CheckFault}
 
@@ -36,3 +36,8 @@ append-none [] ys none = (refl, none)
 append-none (x ∷ xs) ys none = absurd (cc)
 
 pub ruleset note_rules = (noted_two, noted-three, noted-four)
+
+-- three lists one after another
+pub noted-after : (a b c d : Option CheckFault) (xs ys zs : List CheckFault) → b ≡ noted a xs → c ≡ noted b ys → d ≡ noted c zs → d ≡ noted a (xs ++ (ys ++ zs))
+noted-after a b c d xs ys zs e f g =
+    g ∙ ap (λ (o : Option CheckFault). noted o zs) (f ∙ ap (λ (o : Option CheckFault). noted o ys) e) ∙ sym (noted-three a xs ys zs)

@@ -1,11 +1,17 @@
 pub mod Checking
 pub mod Code
+pub mod Contents
 pub mod Declaring
 pub mod Faults
 pub mod Given
+pub mod LabelsView
 pub mod NamesView
+pub mod PartsView
 pub mod Program
 pub mod ProgramViews
 pub mod Rules
+pub mod Sound
+pub mod Standing
 pub mod Typing
+pub mod WalkView
 pub mod WellTyped

@@ -1,5 +1,6 @@
 -- The plain data that a checked program of the code stands for.
 use Rattle.std.specs.Prelude.{map}
+use Rattle.il_check.specs.Contents.{Contents}
 use Rattle.il_check.specs.Program as plain
 use Rattle.il_check.specs.declared.typed.TypedEntry.{TypedEntry, fold-TypedEntry}
 use Rattle.il_check.specs.declared.typed.TypedEntry.TheOpen.{TypedEntry-F}
@@ -18,3 +19,6 @@ abbrev pub item_view : TypedItem → plain.Item
 item_view (Label number) = plain.label number
 item_view (Transfer t) = plain.transfer t
 item_view (Entry e) = plain.plain (entry_view e)
+
+abbrev pub checked_view : Contents → plain.Checked
+checked_view c = record { externals = c.externals; variables = c.variables; timers = c.timers; items = map item_view c.items }
