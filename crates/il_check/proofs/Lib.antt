@@ -1,3 +1,5 @@
+pub mod ApartLemmas
+pub mod CheckedLemmas
 pub mod EntryLemmas
 pub mod LabelLemmas
 pub mod NameLemmas

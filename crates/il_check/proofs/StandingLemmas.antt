@@ -34,7 +34,7 @@ filter_map-more {X} {Y} f (y ∷ ys) x =
     ap (λ (zs : List Y). cons_option (f y) zs) (filter_map-more f ys x) ∙ option_ahead (f y) (filter_map f ys) (option_to_list (f x))
 
 -- the meaning of one name more
-meanings-more : (points : List Point) (before ds : List text.Declared) (d : text.Declared)
+pub meanings-more : (points : List Point) (before ds : List text.Declared) (d : text.Declared)
     → meanings_from points before (ds ++ d ∷ [])
     ≡ meanings_from points before ds ++ (upper d.name, meaning_at (counts_of points (before ++ ds)) d.scope d.kind (point_of points d.name)) ∷ []
 meanings-more points before [] d =
