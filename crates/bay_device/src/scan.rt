@@ -1,7 +1,7 @@
 // What a scan reads, and what it writes (IEC 61850-7-4, CILO: EnaOpn and EnaCls).
 ghost use Rattle.std.specs.Prelude.{◌≡◌, ℕ, List, length, None};
-ghost use Rattle.il_check.specs.Meaning.{mean};
-ghost use Rattle.il_check.specs.Slots.{AreApart, items_named};
+ghost use Rattle.bay_device.specs.Meaning.{mean};
+ghost use Rattle.bay_device.specs.Named.{AreApart, items_named};
 ghost use Rattle.bay_tree.specs.declared.leaf.Kind.TheVariants as kind;
 ghost use Rattle.bay_tree.specs.Rows.{leaf_of};
 ghost use Rattle.bay_device.specs.Device.{input_of, with_enabled, with_output};
@@ -16,7 +16,7 @@ use crate::values::Values;
 use bay_config::bay::{Origin, SwitchPoint};
 use bay_tree::leaf::{Dbpos, Leaf, Quality};
 use bay_tree::tree::Tree;
-use il_check::typed::Variable;
+use crate::straight::Variable;
 
 /// Gives an interlocking value the value of its point.
 fn set_enabled(tree: &mut Tree, rows: StatusRows, value: bool, now: u64)
