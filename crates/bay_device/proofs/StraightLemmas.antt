@@ -13,7 +13,6 @@ use Rattle.il_check.specs.declared.typed.Variable as own
 use Rattle.bay_device.specs.Named.{IsWithin, names_of}
 use Rattle.bay_device.specs.Straight.{item_in, of_external, of_variable}
 use Rattle.bay_device.specs.declared.straight.StraightInstruction.{StraightInstruction}
-use Rattle.bay_device.specs.declared.straight.Variable.{Variable}
 
 cons_after : {X : Type 0} → (xs : List X) (o : Option X) (rest : List X) → (xs ++ option_to_list o) ++ rest ≡ xs ++ cons_option o rest
 cons_after xs None rest = ap (λ ys. ys ++ rest) (append-nil xs)

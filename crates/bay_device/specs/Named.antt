@@ -1,5 +1,5 @@
 -- A program on slots, as the program on names that it stands for, whatever the slots are called.
-use Rattle.std.specs.Prelude.{◌≡◌, ℕ, ◌+◌, ◌<◌, ◌≤◌, false, List, [], length, map, slice_index_or}
+use Rattle.std.specs.Prelude.{ℕ, ◌+◌, ◌≤◌, List, map}
 pub use Rattle.il_check.specs.Sound.{AreApart, name_at}
 use Rattle.bay_device.specs.Straight as straight
 use Rattle.bay_device.specs.declared.straight.Variable.{Variable}

@@ -6,14 +6,14 @@ ghost use Rattle.bay_device.specs.Bound.{IsProgram, bound_from};
 ghost use Rattle.bay_device.specs.Device.{same_point, is_point};
 ghost use Rattle.bay_device.specs.Slots.{outputs_at, origins_of};
 
+use crate::counts::Counts;
 use crate::program::{BoundProgram, SwitchOutputs};
 use crate::rows::SwitchRows;
+use crate::straight::{Variable, all_variables};
 use crate::switch::BoundSwitch;
 use crate::values::Values;
 use bay_base::listing::Listing;
 use bay_config::bay::{Origin, Switch, SwitchPoint};
-use crate::counts::Counts;
-use crate::straight::{Variable, all_variables};
 use il_check::program::{Parts, Typed};
 use std::alloc::{AllocError, Global};
 

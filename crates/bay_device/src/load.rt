@@ -15,8 +15,8 @@ ghost use Rattle.bay_device.specs.Load.{initial_device, of_checked, of_program, 
 use crate::bind::{bind_program, bind_switches};
 use crate::device::Device;
 use crate::fault::LoadFault;
-use crate::outside::first_outside;
 use crate::nodes::{all_nodes, all_switch_rows};
+use crate::outside::first_outside;
 use crate::state::DeviceState;
 use bay_base::listing::Listing;
 use bay_config::bay::Bay;

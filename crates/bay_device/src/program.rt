@@ -4,9 +4,9 @@ ghost use Rattle.bay_device.specs.Meaning.{truth, applied, acted, mean};
 ghost use Rattle.bay_device.specs.Slots.{source_value, variables_of};
 ghost use Rattle.bay_device.specs.Named.{AreApart, IsSourceWithin, IsWithin, action_named, items_named, names_of};
 
+use crate::straight::{Connective, Source, StraightInstruction, Variable};
 use crate::values::Values;
 use bay_base::listing::Listing;
-use crate::straight::{Connective, Source, StraightInstruction, Variable};
 
 /// The slots of a switch's interlocking values, where the program names them.
 #[derive(Clone, Copy, Debug, PartialEq, Eq)]
@@ -62,7 +62,9 @@ fn run_instruction(
         ≡ record { result = option_map truth result; variables = variables_of names values.new } }
 {
     match instruction {
-        StraightInstruction::Load { negated, source } => Some(source_value(source, values) != negated),
+        StraightInstruction::Load { negated, source } => Some(
+            source_value(source, values) != negated,
+        ),
         StraightInstruction::Store { slot } => {
             if let Some(value) = current {
                 values.set(slot, value);

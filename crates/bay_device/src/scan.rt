@@ -11,12 +11,12 @@ ghost use Rattle.bay_device.specs.Slots.{slot_value, origins_of, variables_of};
 
 use crate::program::{BoundProgram, run_instructions};
 use crate::rows::{StatusRows, SwitchRows, is_position, is_quality, is_truth, put_status};
+use crate::straight::Variable;
 use crate::switch::BoundSwitch;
 use crate::values::Values;
 use bay_config::bay::{Origin, SwitchPoint};
 use bay_tree::leaf::{Dbpos, Leaf, Quality};
 use bay_tree::tree::Tree;
-use crate::straight::Variable;
 
 /// Gives an interlocking value the value of its point.
 fn set_enabled(tree: &mut Tree, rows: StatusRows, value: bool, now: u64)

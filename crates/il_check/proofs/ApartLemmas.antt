@@ -1,5 +1,5 @@
 -- The names of a program without a fault differ.
-use Rattle.std.proofs.Common.{◌≡◌, ℕ, ◌+◌, ◌<◌, Bool, true, false, cond, ◌||◌, is_some, List, [], ◌∷◌, ◌++◌, length, map, Option, None, Some, refl, ap, sym, ◌∙◌, arith, zero, suc, subst}
+use Rattle.std.proofs.Common.{◌≡◌, ℕ, ◌<◌, Bool, true, false, cond, ◌||◌, is_some, List, [], ◌∷◌, ◌++◌, length, map, Option, None, Some, refl, ap, sym, ◌∙◌, arith, zero, suc}
 use Rattle.std.specs.List.{list_any, cons_option}
 use Rattle.std.specs.Str.{bytes_eq}
 use Rattle.std.proofs.lemmas.Slice.Eq.{bytes_eq-Decides}
@@ -121,12 +121,14 @@ fresh : (points : List Point) (before ds : List text.Declared) → declarations_
     → is_some (looked_up (meanings_of points before) k) ≡ true → Fresh k ds
 fresh points before [] none k known = tt
 fresh points before (d ∷ ds) none k known =
-    let two = append-none (declaration_faults points before d) (declarations_faults points (before ++ d ∷ []) ds) none in
-    (not_true (bytes_eq k (upper d.name)) (λ (yes : bytes_eq k (upper d.name) ≡ true).
-    let e : k ≡ upper d.name = (bytes_eq-Decides k (upper d.name)).0 yes in
-    let t : is_some (looked_up (meanings_of points before) (upper d.name)) ≡ true = ap (λ q. is_some (looked_up (meanings_of points before) q)) (sym e) ∙ known in
-    let f : is_some (looked_up (meanings_of points before) (upper d.name)) ≡ false = not_declared points before d two.0 in
-    absurd (cc)), fresh points (before ++ d ∷ []) ds two.1 k (known_more points before d k known))
+    let two = append-none (declaration_faults points before d) (declarations_faults points (before ++ d ∷ []) ds) none in (
+      not_true (bytes_eq k (upper d.name)) (λ (yes : bytes_eq k (upper d.name) ≡ true).
+          let e : k ≡ upper d.name = (bytes_eq-Decides k (upper d.name)).0 yes in
+          let t : is_some (looked_up (meanings_of points before) (upper d.name)) ≡ true = ap (λ q. is_some (looked_up (meanings_of points before) q)) (sym e) ∙ known in
+          let f : is_some (looked_up (meanings_of points before) (upper d.name)) ≡ false = not_declared points before d two.0 in
+          absurd (cc)),
+      fresh points (before ++ d ∷ []) ds two.1 k (known_more points before d k known),
+    )
 
 upper_other : (a b : List ℕ) → bytes_eq (upper a) (upper b) ≡ false → same_name (upper a) (upper b) ≡ false
 unfolding same_name

@@ -1,5 +1,5 @@
 -- What checking a program comes to.
-use Rattle.std.proofs.Common.{◌≡◌, ℕ, List, [], ◌∷◌, ◌++◌, map, Option, None, Some, Ok, Err, refl, ap, sym, ◌∙◌, subst}
+use Rattle.std.proofs.Common.{◌≡◌, ℕ, List, [], ◌++◌, map, Option, None, Some, Ok, Err, refl, ap, sym, ◌∙◌, subst}
 use Rattle.std.proofs.Math.Path.{fun_ext}
 use Rattle.std.specs.BTreeMap.{get_by_text}
 use Rattle.bay_base.specs.Exact.{judged}
@@ -11,7 +11,7 @@ use Rattle.il_text.specs.declared.program.Declaration.{Declaration}
 use Rattle.il_text.specs.declared.program.Item as source
 use Rattle.il_text.specs.declared.program.Program as program
 use Rattle.il_check.specs.Checking.{faults_of, checked_program, checked_of}
-use Rattle.il_check.specs.Declaring.{names_in, labels_from, looked_up, meanings_of, externals_of, variables_of, timers_of, declarations_faults}
+use Rattle.il_check.specs.Declaring.{names_in, labels_from, looked_up, meanings_of, variables_of, timers_of, declarations_faults}
 use Rattle.il_check.specs.Faults.{noted, least_fault}
 use Rattle.il_check.specs.Given.{Names}
 use Rattle.il_check.specs.LabelsView.{StandsAs}
@@ -23,7 +23,6 @@ use Rattle.il_check.specs.declared.declare.Declarations.{Declarations}
 use Rattle.il_check.specs.declared.labels.Labels.{Labels}
 use Rattle.il_check.specs.declared.given.Meaning.{Meaning}
 use Rattle.il_check.specs.declared.names.Names as code
-use Rattle.il_check.specs.declared.reach.Reach.{Reach}
 use Rattle.il_check.specs.declared.fault.CheckFault.{CheckFault}
 use Rattle.il_check.specs.declared.typed.External.{External}
 use Rattle.il_check.specs.declared.typed.Variable.{Variable}

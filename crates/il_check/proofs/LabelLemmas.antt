@@ -11,7 +11,6 @@ use Rattle.il_text.specs.declared.program.Item.{Item}
 use Rattle.il_text.proofs.ListingLemmas.{front_item}
 use Rattle.il_check.specs.Declaring.{labels_from, looked_up}
 use Rattle.il_check.specs.LabelsView.{label_in, with_labels, AddsLabels, StandsAs}
-use Rattle.il_check.specs.NamesView.{with_value}
 use Rattle.il_check.specs.WellTyped.{unreached}
 use Rattle.il_check.specs.declared.labels.Labels.{Labels}
 use Rattle.il_check.specs.declared.reach.Reach.{Reach}

@@ -1,5 +1,5 @@
 -- What taking one declaration changes.
-use Rattle.std.proofs.Common.{◌≡◌, ℕ, Bool, is_some, List, ◌++◌, Option, Some, None, refl, ap, sym, ◌∙◌}
+use Rattle.std.proofs.Common.{◌≡◌, ℕ, Bool, is_some, List, ◌++◌, Option, Some, None, refl, ap, ◌∙◌}
 use Rattle.std.specs.Option.{option_to_list}
 use Rattle.std.specs.BTreeMap.{get_by_text}
 use Rattle.bay_base.specs.Names.{upper}

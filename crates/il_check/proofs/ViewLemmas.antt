@@ -1,5 +1,5 @@
 -- One entry of a checked program.
-use Rattle.std.proofs.Common.{◌≡◌, Bool, List, [], ◌∷◌, ◌++◌, map, rules, Vec, Global, refl}
+use Rattle.std.proofs.Common.{◌≡◌, Bool, List, [], ◌∷◌, ◌++◌, map, rules, Vec, Global}
 use Rattle.std.proofs.lemmas.List.{map-append}
 use Rattle.bay_base.specs.declared.types.ElementaryType.{ElementaryType}
 use Rattle.il_text.specs.declared.program.Operator.{Operator}

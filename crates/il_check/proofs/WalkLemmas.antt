@@ -14,7 +14,6 @@ use Rattle.il_check.specs.Program as plain
 use Rattle.il_check.specs.ProgramViews.{entry_view, item_view}
 use Rattle.il_check.specs.WalkView.{standing_of}
 use Rattle.il_check.specs.WellTyped.{Standing, type_behind, type_behind_all, entry_faults, entries_faults, entry_left, entries_left, behind, item_faults, items_faults, item_left, items_left}
-use Rattle.il_check.specs.declared.reach.Reach.{Reach}
 use Rattle.il_check.specs.declared.walk.Walk.{Walk}
 use Rattle.il_check.specs.declared.walk.Passed.{Passed}
 use Rattle.il_check.specs.declared.typed.TypedEntry.{TypedEntry}

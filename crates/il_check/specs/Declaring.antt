@@ -1,12 +1,11 @@
 -- What the declarations of a program mean (IEC 61131-3:2003, 2.4.3), and their faults.
-use Rattle.std.specs.Prelude.{ℕ, ◌+◌, pos, Bool, true, false, not, ◌&&◌, nat_le, is_some, is_none, List, [], ◌∷◌, ◌++◌, length, find, filter_map, unwrap_or, Option, None, Some, option_map, option_and_then, if◌then◌else◌}
+use Rattle.std.specs.Prelude.{ℕ, ◌+◌, pos, Bool, true, false, not, ◌&&◌, nat_le, is_some, is_none, List, [], ◌∷◌, ◌++◌, length, find, filter_map, Option, None, Some, if◌then◌else◌}
 use Rattle.std.specs.Str.{bytes_eq}
 use Rattle.bay_base.specs.Names.{upper, same_name}
 use Rattle.bay_base.specs.Types.{same_type}
 use Rattle.bay_base.specs.declared.types.ElementaryType.{ElementaryType}
 use Rattle.bay_base.specs.declared.types.ElementaryType.TheVariants as elementary
 use Rattle.bay_config.specs.declared.bay.Point.{Point}
-use Rattle.bay_config.specs.declared.bay.Origin.{Origin}
 use Rattle.il_text.specs.Listing as text
 use Rattle.il_text.specs.declared.program.DeclaredType.{DeclaredType}
 use Rattle.il_text.specs.declared.program.DeclaredType.TheVariants.{Elementary, Timer}

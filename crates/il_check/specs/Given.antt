@@ -1,5 +1,5 @@
 -- Instructions with what their names mean (IEC 61131-3:2003, 2.4.3 and 3.2).
-use Rattle.std.specs.Prelude.{ℕ, ℤ, pos, negsuc, Bool, true, false, not, ◌==◌, List, [], ◌∷◌, Option, None, Some, if◌then◌else◌}
+use Rattle.std.specs.Prelude.{ℕ, ℤ, pos, negsuc, Bool, false, not, ◌==◌, List, [], ◌∷◌, Option, None, Some}
 use Rattle.bay_base.specs.declared.types.ElementaryType.{ElementaryType}
 use Rattle.bay_base.specs.declared.types.ElementaryType.TheVariants as elementary
 use Rattle.il_text.specs.Listing as text
@@ -10,7 +10,7 @@ use Rattle.il_text.specs.declared.program.Output.TheVariants as output
 use Rattle.il_text.specs.declared.program.Input.{Input}
 use Rattle.il_image.specs.declared.value.Value.{Value}
 use Rattle.il_image.specs.declared.value.Value.TheVariants as value
-use Rattle.il_image.specs.Values.{type_of, number_of}
+use Rattle.il_image.specs.Values.{type_of}
 use Rattle.il_check.specs.declared.typed.TypedOperand.TheVariants as operand
 use Rattle.il_check.specs.declared.given.Meaning.{Meaning}
 use Rattle.il_check.specs.declared.given.Meaning.TheVariants as meaning

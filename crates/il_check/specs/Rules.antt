@@ -1,5 +1,5 @@
 -- What an instruction wants of the current result, and what it leaves (IEC 61131-3:2003, 3.2.2 and table 52).
-use Rattle.std.specs.Prelude.{ℕ, ℤ, Bool, true, false, not, ◌&&◌, ◌||◌, is_some, is_none, nat_lt, List, Option, None, Some, option_map, option_and_then, if◌then◌else◌}
+use Rattle.std.specs.Prelude.{ℕ, ℤ, Bool, true, false, not, ◌&&◌, ◌||◌, is_some, is_none, nat_lt, Option, None, Some, option_map, if◌then◌else◌}
 use Rattle.bay_base.specs.declared.types.ElementaryType.{ElementaryType}
 use Rattle.bay_base.specs.declared.types.ElementaryType.TheVariants as elementary
 use Rattle.bay_base.specs.Types.{same_type}
@@ -14,12 +14,11 @@ use Rattle.il_text.specs.declared.program.Conversion.TheVariants.{IntToDint, Din
 use Rattle.il_text.specs.declared.program.Input.{Input}
 use Rattle.il_text.specs.declared.program.Input.TheVariants as input
 use Rattle.il_image.specs.declared.value.Value.{Value}
-use Rattle.il_image.specs.Values.{value_of, is_between}
+use Rattle.il_image.specs.Values.{value_of}
 use Rattle.il_check.specs.declared.typed.TypedOperand.{TypedOperand}
 use Rattle.il_check.specs.declared.typed.TypedOperand.TheVariants as operand
 use Rattle.il_check.specs.declared.given.Given.{Given}
 use Rattle.il_check.specs.declared.given.Given.TheVariants.{Missing, Misused, Known, Number}
-use Rattle.il_check.specs.declared.given.Source.{Source}
 use Rattle.il_check.specs.declared.given.Called.{Called}
 use Rattle.il_check.specs.declared.given.Called.TheVariants as called
 use Rattle.il_check.specs.declared.given.GivenArgument.{GivenArgument}

@@ -1,7 +1,7 @@
 -- What holds of each checked program: its names differ, and what its items name is there.
-use Rattle.std.specs.Prelude.{◌≡◌, ℕ, ◌<◌, Bool, true, false, ◌&&◌, nat_lt, List, [], ◌∷◌, ◌++◌, length, map, slice_index_or}
+use Rattle.std.specs.Prelude.{◌≡◌, ℕ, ◌<◌, false, List, [], ◌++◌, length, map, slice_index_or}
 use Rattle.bay_base.specs.Names.{same_name}
-use Rattle.il_check.specs.Program.{Checked, Entry, operation, block, Entries, no_entries, entry, Item, label, transfer, plain}
+use Rattle.il_check.specs.Program.{Checked}
 
 -- the names of the slots: of the externals, then of the variables
 abbrev pub slot_names : Checked → List (List ℕ)

@@ -1,5 +1,5 @@
 -- What is left of an instruction that is right: its operands have the type that it works on.
-use Rattle.std.specs.Prelude.{ℕ, Bool, List, Option, None, Some, option_map, option_and_then}
+use Rattle.std.specs.Prelude.{ℕ, Bool, Option, None, Some, option_map}
 use Rattle.bay_base.specs.declared.types.ElementaryType.{ElementaryType}
 use Rattle.il_text.specs.declared.program.Operator.{Operator}
 use Rattle.il_text.specs.declared.program.StoreKind.{StoreKind}
@@ -17,7 +17,7 @@ use Rattle.il_check.specs.declared.typed.TypedArgument.{TypedArgument}
 use Rattle.il_check.specs.declared.typed.TypedArguments.{TypedArguments}
 use Rattle.il_check.specs.declared.typed.TypedArguments.TheVariants as typed
 use Rattle.il_check.specs.declared.given.Given.{Given}
-use Rattle.il_check.specs.declared.given.Given.TheVariants.{Missing, Misused, Known, Number}
+use Rattle.il_check.specs.declared.given.Given.TheVariants.{Known}
 use Rattle.il_check.specs.declared.given.Called.{Called}
 use Rattle.il_check.specs.declared.given.Called.TheVariants as called
 use Rattle.il_check.specs.declared.given.GivenArgument.{GivenArgument}

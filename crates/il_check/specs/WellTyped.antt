@@ -1,6 +1,6 @@
 -- What is wrong with the instructions of a program (IEC 61131-3:2003, 3.2), with the least types of the
 -- current result that what stands before allows; and what is left of one without a fault.
-use Rattle.std.specs.Prelude.{ℕ, ◌+◌, Bool, true, false, not, ◌&&◌, nat_lt, nat_le, is_some, List, [], ◌∷◌, ◌++◌, length, map, slice_get, slice_set, Option, None, Some, option_map, if◌then◌else◌}
+use Rattle.std.specs.Prelude.{ℕ, ◌+◌, Bool, true, false, not, ◌&&◌, nat_lt, nat_le, List, [], ◌∷◌, ◌++◌, slice_get, slice_set, Option, None, Some, option_map, if◌then◌else◌}
 use Rattle.std.specs.List.{cons_option}
 use Rattle.bay_base.specs.declared.types.ElementaryType.{ElementaryType}
 use Rattle.bay_base.specs.Types.{same_type}

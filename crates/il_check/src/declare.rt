@@ -186,12 +186,7 @@ impl Declarations {
     }
 
     /// What a name means that is declared next.
-    fn next_meaning(
-        &self,
-        scope: Scope,
-        kind: DeclaredType,
-        point: Option<&Point>,
-    ) -> Meaning
+    fn next_meaning(&self, scope: Scope, kind: DeclaredType, point: Option<&Point>) -> Meaning
         ensures { result ≡ spec.meaning_at (counts_in self.now) scope kind (option_copied point.entry) }
     {
         match (scope, kind) {
@@ -269,11 +264,7 @@ impl Declarations {
     }
 
     /// Takes one declaration.
-    fn declare(
-        &mut self,
-        points: &[Point],
-        declaration: &Declaration<'_>,
-    ) -> Result<(), AllocError>
+    fn declare(&mut self, points: &[Point], declaration: &Declaration<'_>) -> Result<(), AllocError>
         ensures { OnOk result (Takes points.now (declared_of declaration.now) self.old self.new) }
     {
         let point = point_of(points, declaration.name);

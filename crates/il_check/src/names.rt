@@ -79,11 +79,7 @@ impl Names {
     }
 
     /// The number of the first label of a name, if there is one.
-    pub(crate) fn label(
-        &self,
-        buffer: &mut String,
-        name: &str,
-    ) -> Result<Option<usize>, AllocError>
+    pub(crate) fn label(&self, buffer: &mut String, name: &str) -> Result<Option<usize>, AllocError>
         ensures { IfOk result (λ found. found ≡ (names_of self.now).label name.now) }
     {
         put_upper(buffer, name)?;

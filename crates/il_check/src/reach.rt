@@ -30,10 +30,7 @@ fn same_result(first: Option<ElementaryType>, second: Option<ElementaryType>) ->
     }
 }
 
-fn met_type(
-    first: Option<ElementaryType>,
-    second: Option<ElementaryType>,
-) -> Option<ElementaryType>
+fn met_type(first: Option<ElementaryType>, second: Option<ElementaryType>) -> Option<ElementaryType>
     ensures { result ≡ spec.met_type first second }
 {
     if same_result(first, second) {

@@ -42,11 +42,13 @@ fn variable_given(meaning: Option<Meaning>) -> Given
 {
     match meaning {
         None => Given::Missing,
-        Some(Meaning::Variable {
-            slot,
-            kind,
-            writable,
-        }) => Given::Known(Source {
+        Some(
+            Meaning::Variable {
+                slot,
+                kind,
+                writable,
+            },
+        ) => Given::Known(Source {
             operand: TypedOperand::Slot(slot),
             kind,
             writable,

@@ -110,12 +110,8 @@ fn gives(operator: Operator, kind: ElementaryType) -> ElementaryType
         | Operator::Mul
         | Operator::Div
         | Operator::Mod => kind,
-        Operator::Gt
-        | Operator::Ge
-        | Operator::Eq
-        | Operator::Ne
-        | Operator::Le
-        | Operator::Lt => ElementaryType::Bool,
+        Operator::Gt | Operator::Ge | Operator::Eq | Operator::Ne | Operator::Le | Operator::Lt =>
+            ElementaryType::Bool,
     }
 }
 
@@ -261,10 +257,8 @@ fn uses_result(resolved: Resolved) -> bool
 {
     match resolved {
         Resolved::Load { .. } | Resolved::Call { .. } => false,
-        Resolved::Store { .. }
-        | Resolved::Combine { .. }
-        | Resolved::Not
-        | Resolved::Convert(_) => true,
+        Resolved::Store { .. } | Resolved::Combine { .. } | Resolved::Not | Resolved::Convert(_) =>
+            true,
         Resolved::Jump { condition, .. } | Resolved::Return(condition) => is_conditional(condition),
     }
 }
@@ -293,20 +287,15 @@ pub(crate) fn is_unset(resolved: Resolved, kind: Option<ElementaryType>) -> bool
 }
 
 /// The type of the result behind the instruction, if it is set there.
-pub(crate) fn type_after(
-    resolved: Resolved,
-    kind: Option<ElementaryType>,
-) -> Option<ElementaryType>
+pub(crate) fn type_after(resolved: Resolved, kind: Option<ElementaryType>) -> Option<ElementaryType>
     ensures { result ≡ spec.type_after resolved kind }
 {
     match resolved {
         Resolved::Load { given, .. } => load_type(given),
         Resolved::Combine { operator, .. } => given_type(operator, kind),
         Resolved::Convert(conversion) => Some(converted_to(conversion)),
-        Resolved::Store { .. }
-        | Resolved::Not
-        | Resolved::Jump { .. }
-        | Resolved::Return(_) => kind,
+        Resolved::Store { .. } | Resolved::Not | Resolved::Jump { .. } | Resolved::Return(_) =>
+            kind,
         Resolved::Call { .. } => None,
     }
 }
@@ -400,7 +389,8 @@ pub(crate) fn jumps_back(passed: usize, resolved: Resolved) -> bool
 {
     match resolved {
         Resolved::Jump {
-            label: Some(label), ..
+            label: Some(label),
+            ..
         } => label < passed,
         _ => false,
     }

@@ -5,9 +5,7 @@ use bay_base::text::Text;
 use bay_base::types::ElementaryType;
 use bay_config::bay::Origin;
 use il_image::value::Value;
-use il_text::program::{
-    Condition, Conversion, Input, Operator, Output, StoreKind, TimerKind,
-};
+use il_text::program::{Condition, Conversion, Input, Operator, Output, StoreKind, TimerKind};
 
 /// A variable that is given to the program (IEC 61131-3:2003, 2.4.3, VAR_EXTERNAL): a point of the bay.
 #[derive(Debug, Drop)]

@@ -54,10 +54,7 @@ fn combine_in(
 }
 
 /// The operation on a result of this type.
-pub(crate) fn operation_in(
-    resolved: Resolved,
-    kind: Option<ElementaryType>,
-) -> Option<Operation>
+pub(crate) fn operation_in(resolved: Resolved, kind: Option<ElementaryType>) -> Option<Operation>
     ensures { result ≡ spec.operation_in resolved kind }
 {
     match resolved {

@@ -205,11 +205,7 @@ impl Passed {
 
     /// One parenthesis more, if something is left of it.
     #[tactic(auto, using(crate::proofs::ViewLemmas::view_rules))]
-    fn add_block(
-        &mut self,
-        operator: Operator,
-        block: Option<TypedEntry>,
-    ) -> Result<(), AllocError>
+    fn add_block(&mut self, operator: Operator, block: Option<TypedEntry>) -> Result<(), AllocError>
         ensures kind { OnOk result (self.new.kind ≡ option_map (spec_rules.gives operator) self.old.kind) }
         ensures left { OnOk result (map entry_view self.new.entries.items
             ≡ map entry_view self.old.entries.items ++ option_to_list (option_map entry_view block)) }
@@ -298,7 +294,8 @@ impl Walk {
         if let Some(transfer) = transfer_in(resolved) {
             self.items.push(TypedItem::Transfer(transfer))?;
         } else if let Some(operation) = operation_in(resolved, self.reach.kind) {
-            self.items.push(TypedItem::Entry(TypedEntry::Operation(operation)))?;
+            self.items
+                .push(TypedItem::Entry(TypedEntry::Operation(operation)))?;
         }
         Ok(())
     }
@@ -316,11 +313,7 @@ impl Walk {
 
     /// A parenthesis, if something is left of it.
     #[tactic(auto, using(crate::proofs::ViewLemmas::view_rules))]
-    fn add_block(
-        &mut self,
-        operator: Operator,
-        block: Option<TypedEntry>,
-    ) -> Result<(), AllocError>
+    fn add_block(&mut self, operator: Operator, block: Option<TypedEntry>) -> Result<(), AllocError>
         ensures items { OnOk result (map item_view self.new.items.items
             ≡ map item_view self.old.items.items ++ option_to_list (option_map (λ e. plain.plain (entry_view e)) block)) }
         ensures standing { OnOk result (standing_of self.new ≡ spec.behind_block operator (standing_of self.old)) }
@@ -374,12 +367,7 @@ impl Judge {
 
     /// One item more.
     #[tactic(auto, using(crate::proofs::EntryLemmas::entry_rules))]
-    fn item(
-        &mut self,
-        names: &Names,
-        item: &Item<'_>,
-        walk: &mut Walk,
-    ) -> Result<(), AllocError>
+    fn item(&mut self, names: &Names, item: &Item<'_>, walk: &mut Walk) -> Result<(), AllocError>
         requires { walk.old.passed < usize.MAX }
         ensures standing { OnOk result (standing_of walk.new ≡ spec.behind (names_of names.now) (entry_of item.now) (standing_of walk.old)) }
         ensures items { OnOk result (map item_view walk.new.items.items

@@ -1,4 +1,4 @@
-use Rattle.std.proofs.Common.{◌≡◌, inr, map, Ok, ap, sym, ◌∙◌}
+use Rattle.std.proofs.Common.{inr, map, Ok, ap, sym, ◌∙◌}
 use Rattle.il_text.specs.Views.{plain_program}
 use Rattle.il_check.specs.ProgramViews.{item_view, checked_view}
 use Rattle.il_check.specs.declared.names.Names.{Names}

@@ -1,6 +1,4 @@
 use Rattle.std.proofs.Common.{ap, arith, ◌∙◌}
-use Rattle.il_text.specs.Listing as text
-use Rattle.il_text.specs.Views.{entry_of}
 use Rattle.il_check.specs.Faults.{noted}
 use Rattle.il_check.specs.NamesView.{names_of}
 use Rattle.il_check.specs.WellTyped.{closing_faults}
