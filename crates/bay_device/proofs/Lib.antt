@@ -4,3 +4,4 @@ pub mod LoadLemmas
 pub mod NodeLemmas
 pub mod ScanLemmas
 pub mod SlotLemmas
+pub mod StraightLemmas

@@ -4,11 +4,11 @@ use Rattle.std.proofs.lemmas.Option.{slice_get_within}
 use Rattle.bay_tree.specs.declared.row.Row.{Row}
 use Rattle.bay_config.specs.declared.bay.Bay.{Bay}
 use Rattle.bay_config.specs.declared.bay.Switch.{Switch}
-use Rattle.il_check.specs.Slots.{items_named, names_of}
-use Rattle.il_check.specs.declared.typed.Variable as typed
-use Rattle.il_check.specs.Straight.{Action}
+use Rattle.bay_device.specs.Named.{items_named, names_of}
+use Rattle.bay_device.specs.declared.straight.Variable as typed
+use Rattle.bay_device.specs.Straight.{StraightProgram}
+use Rattle.bay_device.specs.declared.straight.StraightInstruction.{StraightInstruction}
 use Rattle.bay_device.specs.Device.{State}
-use Rattle.il_check.specs.WellTyped.{Checked}
 use Rattle.bay_device.specs.Bound.{IsProgram, bound_from}
 use Rattle.bay_device.specs.Load.{initial_device}
 use Rattle.bay_device.specs.Layout.{Layout, switches_of, AreBound}
@@ -89,20 +89,20 @@ are-bound bay nodes layout slots rows named placed same long k b h =
     }
 
 -- a device before its first event
-pub loaded-view : (bay : Bay) (checked : Checked) (program : BoundProgram) (values : List Bool) (rows : List Row) (switches : List Switch) → IsProgram checked program values → rows ≡ bay.rows → switches ≡ bay.switches
-    → record (initial_device bay checked) {
+pub loaded-view : (bay : Bay) (straight : StraightProgram) (program : BoundProgram) (values : List Bool) (rows : List Row) (switches : List Switch) → IsProgram straight program values → rows ≡ bay.rows → switches ≡ bay.switches
+    → record (initial_device bay straight) {
       switches = switches;
       declared = declared_of (names_of program.variables) (origins_of program.variables);
       items = items_named (names_of program.variables) program.instructions;
       rows = rows;
       variables = variables_of (names_of program.variables) values;
-    } ≡ initial_device bay checked
-loaded-view bay checked program values rows switches b r w =
-    let s = initial_device bay checked in
-    let state : List typed.Variable → List Action → List Row → List Bool → List Switch → State = λ vs is rs xs ss.
-    record s { switches = ss; declared = declared_of (names_of vs) (origins_of vs); items = is; rows = rs; variables = variables_of (names_of vs) xs } in
-    ap (λ is. state program.variables is rows values switches) b.items
-    ∙ ap (λ vs. state vs checked.items rows values switches) b.variables
-    ∙ ap (λ rs. state checked.variables checked.items rs values switches) r
-    ∙ ap (λ xs. state checked.variables checked.items bay.rows xs switches) b.initial
-    ∙ ap (state checked.variables checked.items bay.rows (map (λ (v : typed.Variable). v.initial) checked.variables)) w
+    } ≡ initial_device bay straight
+loaded-view bay straight program values rows switches b r w =
+    let s = initial_device bay straight in
+    let state : List typed.Variable → List StraightInstruction → List Row → List Bool → List Switch → State = λ vs is rs xs ss.
+    record s { switches = ss; declared = declared_of (names_of vs) (origins_of vs); items = items_named (names_of vs) is; rows = rs; variables = variables_of (names_of vs) xs } in
+    ap (λ is. state program.variables is rows values switches) b.instructions
+    ∙ ap (λ vs. state vs straight.instructions rows values switches) b.variables
+    ∙ ap (λ rs. state straight.variables straight.instructions rs values switches) r
+    ∙ ap (λ xs. state straight.variables straight.instructions bay.rows xs switches) b.initial
+    ∙ ap (state straight.variables straight.instructions bay.rows (map (λ (v : typed.Variable). v.initial) straight.variables)) w

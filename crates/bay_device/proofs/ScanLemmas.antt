@@ -4,12 +4,12 @@ use Rattle.std.proofs.lemmas.Iterator.Adapters.{position_from-zero}
 use Rattle.std.proofs.lemmas.Option.{slice_get-map, slice_get-get_or}
 use Rattle.std.specs.List.{position_from}
 use Rattle.std.proofs.lemmas.List.{length-map}
-use Rattle.il_check.specs.declared.typed.Variable as typed
+use Rattle.bay_device.specs.declared.straight.Variable as typed
 use Rattle.bay_tree.specs.declared.row.Row.{Row}
 use Rattle.bay_tree.specs.Rows.{leaf_of}
 use Rattle.bay_config.specs.declared.bay.Switch.{Switch}
-use Rattle.il_check.specs.Meaning.{Value, truth, Variables, mean}
-use Rattle.il_check.specs.Slots.{AreApart, items_named, names_of}
+use Rattle.bay_device.specs.Meaning.{Value, truth, Variables, mean}
+use Rattle.bay_device.specs.Named.{AreApart, items_named, names_of}
 use Rattle.bay_device.specs.Device.{is_point, input_of, input_of_switch, input_value, or_else, with_inputs, output_of, with_output, with_outputs, scanned}
 use Rattle.bay_device.specs.Layout.{Layout, layout_of, switches_of, IsBound, AreBound, AreKinded}
 use Rattle.bay_device.specs.Names.{SwitchNames, switch_names}

@@ -7,13 +7,13 @@ use Rattle.std.proofs.Common.{not, drop}
 use Rattle.std.proofs.Math.Seq.{drop-cons}
 use Rattle.std.proofs.Common.{add-one}
 use mathlib.Core.Bool.{beq}
-use Rattle.il_check.specs.declared.typed.Connective.{Connective}
-use Rattle.il_check.specs.Meaning.{Value, truth, Variables, State, value_of, with_value, read, negated, applied, combined, acted, mean_from}
-use Rattle.il_check.specs.declared.typed.Source.{Source}
-use Rattle.il_check.specs.declared.typed.Source.TheVariants.{Literal, Slot}
-use Rattle.il_check.specs.declared.typed.TypedInstruction.{TypedInstruction}
-use Rattle.il_check.specs.declared.typed.TypedInstruction.TheVariants.{Load, Store, Combine}
-use Rattle.il_check.specs.Slots.{name_at, AreApart, IsSourceWithin, source_named, action_named, items_named}
+use Rattle.bay_device.specs.declared.straight.Connective.{Connective}
+use Rattle.bay_device.specs.Meaning.{Value, truth, Variables, State, value_of, with_value, read, negated, applied, combined, acted, mean_from}
+use Rattle.bay_device.specs.declared.straight.Source.{Source}
+use Rattle.bay_device.specs.declared.straight.Source.TheVariants.{Literal, Slot}
+use Rattle.bay_device.specs.declared.straight.StraightInstruction.{StraightInstruction}
+use Rattle.bay_device.specs.declared.straight.StraightInstruction.TheVariants.{Load, Store, Combine}
+use Rattle.bay_device.specs.Named.{name_at, AreApart, IsSourceWithin, source_named, action_named, items_named}
 use Rattle.bay_device.specs.Slots.{source_value, variables_of}
 
 bytes_eq-same : (bs : List ℕ) → bytes_eq bs bs ≡ true
@@ -90,7 +90,7 @@ module _ (names : List (List ℕ)) (values : List Bool) (apart : AreApart names)
       ∙ ap (λ v. with_result (Some v)) e
 
 -- one instruction more
-pub mean-more : (names : List (List ℕ)) (i : ℕ) (instructions : List TypedInstruction) (here : TypedInstruction) (before : State) (after : State) → i < length instructions
+pub mean-more : (names : List (List ℕ)) (i : ℕ) (instructions : List StraightInstruction) (here : StraightInstruction) (before : State) (after : State) → i < length instructions
     → here ≡ slice_index_or instructions i here → acted (action_named names here) before ≡ after
     → mean_from (items_named names (drop i instructions)) before ≡ mean_from (items_named names (drop (i + 1) instructions)) after
 mean-more names i instructions here before after within is e =

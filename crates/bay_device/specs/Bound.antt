@@ -2,17 +2,16 @@
 use Rattle.std.specs.Prelude.{◌≡◌, ℕ, ◌+◌, Bool, List, [], ◌∷◌, length, map, Option}
 use Rattle.bay_config.specs.declared.bay.Origin.{Origin}
 use Rattle.bay_config.specs.declared.bay.Switch.{Switch}
-use Rattle.il_check.specs.Slots.{items_named, names_of}
-use Rattle.il_check.specs.WellTyped.{Checked}
+use Rattle.bay_device.specs.Straight.{StraightProgram}
 use Rattle.bay_device.specs.Slots.{outputs_at}
 use Rattle.bay_device.specs.declared.program.BoundProgram.{BoundProgram}
 use Rattle.bay_device.specs.declared.rows.SwitchRows.{SwitchRows}
 use Rattle.bay_device.specs.declared.switch.BoundSwitch.{BoundSwitch}
 
-pub record IsProgram (checked : Checked) (program : BoundProgram) (values : List Bool) : Type 0 where
-  pub variables : program.variables ≡ checked.variables
-  pub items : items_named (names_of program.variables) program.instructions ≡ checked.items
-  pub initial : values ≡ map (λ v. v.initial) checked.variables
+pub record IsProgram (straight : StraightProgram) (program : BoundProgram) (values : List Bool) : Type 0 where
+  pub variables : program.variables ≡ straight.variables
+  pub instructions : program.instructions ≡ straight.instructions
+  pub initial : values ≡ map (λ v. v.initial) straight.variables
   pub sized : length values ≡ length program.variables
 
 -- the switches with their rows, from place k on, and the slots of their interlocking values

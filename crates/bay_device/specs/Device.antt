@@ -14,8 +14,8 @@ use Rattle.bay_config.specs.declared.bay.Origin.TheVariants as origin
 use Rattle.bay_config.specs.declared.bay.SwitchPoint.{SwitchPoint}
 use Rattle.bay_config.specs.declared.bay.SwitchPoint.TheVariants.{Position, Open, Closed, EnableOpen, EnableClose}
 use Rattle.bay_device.specs.Names.{StatusNames, SwitchNames, switch_names}
-use Rattle.il_check.specs.Straight.{Action}
-use Rattle.il_check.specs.Meaning.{Value, truth, Variables, mean}
+use Rattle.bay_device.specs.Straight.{Action}
+use Rattle.bay_device.specs.Meaning.{Value, truth, Variables, mean}
 use Rattle.bay_device.specs.declared.event.Event.{Event}
 use Rattle.bay_device.specs.declared.event.Event.TheVariants.{Contact, Scan}
 use Rattle.bay_device.specs.declared.event.Step.{Step}

@@ -4,8 +4,11 @@ pub mod Device
 pub mod Layout
 pub mod Load
 pub mod LookUps
+pub mod Meaning
+pub mod Named
 pub mod Names
 pub mod Nodes
 pub mod Scans
 pub mod Slots
 pub mod StateView
+pub mod Straight

@@ -1,14 +1,14 @@
 -- A program on slots: what its slots stand for, and their values by name, whatever the slots are called.
 use Rattle.std.specs.Prelude.{ℕ, Bool, false, map, List, [], ◌∷◌, slice_get, unwrap_or, position, Option, Some, None}
-use Rattle.il_check.specs.Meaning.{truth, Variables}
-use Rattle.il_check.specs.declared.typed.Source.{Source}
-use Rattle.il_check.specs.declared.typed.Source.TheVariants as source
+use Rattle.bay_device.specs.Meaning.{truth, Variables}
+use Rattle.bay_device.specs.declared.straight.Source.{Source}
+use Rattle.bay_device.specs.declared.straight.Source.TheVariants as source
 use Rattle.bay_device.specs.Device.{Variable, is_point}
 use Rattle.bay_config.specs.declared.bay.Origin.{Origin}
 use Rattle.bay_config.specs.declared.bay.SwitchPoint.{SwitchPoint}
 use Rattle.bay_config.specs.declared.bay.SwitchPoint.TheVariants.{EnableOpen, EnableClose}
 use Rattle.bay_device.specs.declared.program.SwitchOutputs.{SwitchOutputs}
-use Rattle.il_check.specs.declared.typed.Variable as typed
+use Rattle.bay_device.specs.declared.straight.Variable as typed
 
 -- what variables stand for
 abbrev pub origins_of : List typed.Variable → List (Option Origin)

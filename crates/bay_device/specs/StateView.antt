@@ -1,5 +1,5 @@
 -- The device that a state of the code stands for.
-use Rattle.il_check.specs.Slots.{items_named, names_of}
+use Rattle.bay_device.specs.Named.{items_named, names_of}
 use Rattle.bay_device.specs.Device.{State}
 use Rattle.bay_device.specs.Layout.{switches_of}
 use Rattle.bay_device.specs.Slots.{declared_of, origins_of, variables_of}

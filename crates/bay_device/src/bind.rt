@@ -1,18 +1,20 @@
 // A checked program on the points of a bay's switches.
 ghost use Rattle.std.specs.Prelude.{◌≡◌, length, map, position, IfOk};
-ghost use Rattle.il_check.specs.Slots.{items_named, names_of};
-ghost use Rattle.il_check.specs.TypedView.{typed_view};
+ghost use Rattle.il_check.specs.ProgramViews.{checked_view};
+ghost use Rattle.bay_device.specs.Straight.{straight_of};
 ghost use Rattle.bay_device.specs.Bound.{IsProgram, bound_from};
 ghost use Rattle.bay_device.specs.Device.{same_point, is_point};
 ghost use Rattle.bay_device.specs.Slots.{outputs_at, origins_of};
 
+use crate::counts::Counts;
 use crate::program::{BoundProgram, SwitchOutputs};
 use crate::rows::SwitchRows;
+use crate::straight::{Variable, all_variables};
 use crate::switch::BoundSwitch;
 use crate::values::Values;
 use bay_base::listing::Listing;
 use bay_config::bay::{Origin, Switch, SwitchPoint};
-use il_check::typed::{Typed, Variable};
+use il_check::program::{Parts, Typed};
 use std::alloc::{AllocError, Global};
 
 fn same_point(first: SwitchPoint, second: SwitchPoint) -> bool
@@ -88,26 +90,35 @@ fn initial_values(alloc: Global, variables: &[Variable]) -> Result<Values, Alloc
     Ok(Values::new(values))
 }
 
-/// A checked program on the points of a bay. It takes no memory.
-fn bound_program(typed: Typed) -> BoundProgram
-    ensures variables { result.variables ≡ (typed_view typed).variables }
-    ensures items { items_named (names_of result.variables) result.instructions ≡ (typed_view typed).items }
+/// A checked program on its slots.
+fn bound_program(alloc: Global, typed: Typed) -> Result<BoundProgram, AllocError>
+    ensures variables { IfOk result (λ p. p.variables ≡ (straight_of (checked_view typed)).variables) }
+    ensures instructions { IfOk result (λ p. p.instructions ≡ (straight_of (checked_view typed)).instructions) }
 {
-    let Typed {
+    let Parts {
+        externals,
         variables,
-        instructions,
-    } = typed;
-    BoundProgram {
+        items,
+        ..
+    } = typed.into_parts();
+    let (external_count, own_count) = (externals.len(), variables.len());
+    let variables = all_variables(alloc, externals, variables)?;
+    let counts = Counts {
+        externals: external_count,
+        variables: own_count,
+    };
+    let instructions = counts.instructions(alloc, items.as_slice())?;
+    Ok(BoundProgram {
         variables: Listing::new(variables),
         instructions: Listing::new(instructions),
-    }
+    })
 }
 
 /// A checked program on the points of a bay, and the values that its slots begin with.
 pub fn bind_program(alloc: Global, typed: Typed) -> Result<(BoundProgram, Values), AllocError>
-    ensures { IfOk result (λ bound. IsProgram (typed_view typed) bound.0 bound.1) }
+    ensures { IfOk result (λ bound. IsProgram (straight_of (checked_view typed)) bound.0 bound.1) }
 {
-    let program = bound_program(typed);
+    let program = bound_program(alloc, typed)?;
     let values = initial_values(alloc, program.variables.as_slice())?;
     Ok((program, values))
 }

@@ -3,8 +3,9 @@ ghost use Rattle.std.specs.Prelude.{◌≡◌, ◌≢◌, Ok, Err, IfOk, IfErr};
 ghost use Rattle.bay_base.specs.Exact.{Gives};
 ghost use Rattle.bay_config.specs.Bay.{bay_of};
 ghost use Rattle.bay_config.specs.Laws.{IsBay};
-ghost use Rattle.il_check.specs.TypedView.{typed_view};
-ghost use Rattle.il_check.specs.WellTyped.{checked_of};
+ghost use Rattle.il_check.specs.Checking.{checked_of};
+ghost use Rattle.il_check.specs.ProgramViews.{checked_view};
+ghost use Rattle.bay_device.specs.Straight.{straight_of};
 ghost use Rattle.il_text.specs.Reading.{program_of};
 ghost use Rattle.il_text.specs.Views.{plain_program};
 ghost use Rattle.il_text.specs.declared.fault.TextFault.TheVariants as text_fault;
@@ -15,13 +16,14 @@ use crate::bind::{bind_program, bind_switches};
 use crate::device::Device;
 use crate::fault::LoadFault;
 use crate::nodes::{all_nodes, all_switch_rows};
+use crate::outside::first_outside;
 use crate::state::DeviceState;
 use bay_base::listing::Listing;
 use bay_config::bay::Bay;
 use bay_config::read::read_bay;
 use bay_tree::tree::Tree;
 use il_check::check::check;
-use il_check::typed::Typed;
+use il_check::program::Typed;
 use il_text::fault::TextFault;
 use il_text::program::Program;
 use il_text::read::read_program;
@@ -30,7 +32,7 @@ use std::alloc::{AllocError, Global};
 /// The state of a device of a bay and a checked program, before its first event.
 fn state_of(alloc: Global, bay: Bay, typed: Typed) -> Result<DeviceState, AllocError>
     requires { IsBay bay }
-    ensures { IfOk result (λ state. state_view state ≡ initial_device bay (typed_view typed)) }
+    ensures { IfOk result (λ state. state_view state ≡ initial_device bay (straight_of (checked_view typed))) }
 {
     let nodes = all_nodes(alloc, &bay)?;
     let (program, values) = bind_program(alloc, typed)?;
@@ -71,9 +73,12 @@ fn state_of(alloc: Global, bay: Bay, typed: Typed) -> Result<DeviceState, AllocE
 /// The device of a bay and a program.
 fn load_program(alloc: Global, bay: Bay, program: &Program<'_>) -> Result<Device, LoadFault>
     requires { IsBay bay }
-    ensures { Gives LoadFault.OutOfMemory (λ device. device) result (of_checked bay (checked_of bay.points (plain_program program.now))) }
+    ensures { Gives LoadFault.OutOfMemory (λ device. device) result (of_checked bay (plain_program program.now) (checked_of bay.points (plain_program program.now))) }
 {
     let typed = check(alloc, program, bay.points.as_slice())?;
+    if let Some(line) = first_outside(program) {
+        return Err(LoadFault::Refused { code: 61, line });
+    }
     let state = state_of(alloc, bay, typed)?;
     Ok(Device::of_state(alloc, state))
 }

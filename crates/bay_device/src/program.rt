@@ -1,12 +1,12 @@
 // A checked program: each name is resolved to a slot, which holds its value.
 ghost use Rattle.std.specs.Prelude.{◌≡◌, ℕ, List, length, All, Some, None, option_map};
-ghost use Rattle.il_check.specs.Meaning.{truth, applied, acted, mean};
+ghost use Rattle.bay_device.specs.Meaning.{truth, applied, acted, mean};
 ghost use Rattle.bay_device.specs.Slots.{source_value, variables_of};
-ghost use Rattle.il_check.specs.Slots.{AreApart, IsSourceWithin, IsWithin, action_named, items_named, names_of};
+ghost use Rattle.bay_device.specs.Named.{AreApart, IsSourceWithin, IsWithin, action_named, items_named, names_of};
 
+use crate::straight::{Connective, Source, StraightInstruction, Variable};
 use crate::values::Values;
 use bay_base::listing::Listing;
-use il_check::typed::{Connective, Source, TypedInstruction, Variable};
 
 /// The slots of a switch's interlocking values, where the program names them.
 #[derive(Clone, Copy, Debug, PartialEq, Eq)]
@@ -22,7 +22,7 @@ pub struct SwitchOutputs {
 pub struct BoundProgram {
     /// The variable of each slot.
     pub variables: Listing<Variable>,
-    pub instructions: Listing<TypedInstruction>,
+    pub instructions: Listing<StraightInstruction>,
     ghost apart: { AreApart (names_of variables) },
     ghost within: { All (IsWithin (length variables)) instructions },
 }
@@ -50,7 +50,7 @@ fn combined(connective: Connective, left: bool, right: bool) -> bool
 
 /// Runs one instruction: the current result after it, which is None while it is not set.
 fn run_instruction(
-    instruction: TypedInstruction,
+    instruction: StraightInstruction,
     current: Option<bool>,
     values: &mut Values,
 ) -> Option<bool>
@@ -62,14 +62,16 @@ fn run_instruction(
         ≡ record { result = option_map truth result; variables = variables_of names values.new } }
 {
     match instruction {
-        TypedInstruction::Load { negated, source } => Some(source_value(source, values) != negated),
-        TypedInstruction::Store { slot } => {
+        StraightInstruction::Load { negated, source } => Some(
+            source_value(source, values) != negated,
+        ),
+        StraightInstruction::Store { slot } => {
             if let Some(value) = current {
                 values.set(slot, value);
             }
             current
         }
-        TypedInstruction::Combine { connective, source } => match current {
+        StraightInstruction::Combine { connective, source } => match current {
             Some(left) => Some(combined(connective, left, source_value(source, values))),
             None => None,
         },
@@ -77,7 +79,7 @@ fn run_instruction(
 }
 
 /// Runs the instructions once, from a current result that is not set.
-pub fn run_instructions(instructions: &[TypedInstruction], values: &mut Values)
+pub fn run_instructions(instructions: &[StraightInstruction], values: &mut Values)
     requires { All (IsWithin (length values.old)) instructions.now }
     ensures sized { length values.new ≡ length values.old }
     // Whatever the slots are called, their values are then what the program on their names means.

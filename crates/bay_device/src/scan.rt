@@ -1,7 +1,7 @@
 // What a scan reads, and what it writes (IEC 61850-7-4, CILO: EnaOpn and EnaCls).
 ghost use Rattle.std.specs.Prelude.{◌≡◌, ℕ, List, length, None};
-ghost use Rattle.il_check.specs.Meaning.{mean};
-ghost use Rattle.il_check.specs.Slots.{AreApart, items_named};
+ghost use Rattle.bay_device.specs.Meaning.{mean};
+ghost use Rattle.bay_device.specs.Named.{AreApart, items_named};
 ghost use Rattle.bay_tree.specs.declared.leaf.Kind.TheVariants as kind;
 ghost use Rattle.bay_tree.specs.Rows.{leaf_of};
 ghost use Rattle.bay_device.specs.Device.{input_of, with_enabled, with_output};
@@ -11,12 +11,12 @@ ghost use Rattle.bay_device.specs.Slots.{slot_value, origins_of, variables_of};
 
 use crate::program::{BoundProgram, run_instructions};
 use crate::rows::{StatusRows, SwitchRows, is_position, is_quality, is_truth, put_status};
+use crate::straight::Variable;
 use crate::switch::BoundSwitch;
 use crate::values::Values;
 use bay_config::bay::{Origin, SwitchPoint};
 use bay_tree::leaf::{Dbpos, Leaf, Quality};
 use bay_tree::tree::Tree;
-use il_check::typed::Variable;
 
 /// Gives an interlocking value the value of its point.
 fn set_enabled(tree: &mut Tree, rows: StatusRows, value: bool, now: u64)

@@ -1,116 +1,121 @@
--- What a program is checked to be.
-use Rattle.std.proofs.Common.{◌≡◌, ℕ, false, List, [], ◌∷◌, length, map, vec_len, All, Option, None, Some, Ok, Err, refl, ap, sym, ◌∙◌, subst}
+-- What checking a program comes to.
+use Rattle.std.proofs.Common.{◌≡◌, ℕ, List, [], ◌++◌, map, Option, None, Some, Ok, Err, refl, ap, sym, ◌∙◌, subst}
+use Rattle.std.proofs.Math.Path.{fun_ext}
 use Rattle.std.specs.BTreeMap.{get_by_text}
-use Rattle.std.specs.List.{filter_map}
-use Rattle.std.proofs.lemmas.List.{length-map}
-use Rattle.bay_config.specs.declared.bay.Point.{Point}
-use Rattle.il_check.specs.declared.typed.Variable.{Variable}
-use Rattle.bay_base.specs.Names.{upper}
-use Rattle.il_text.specs.Views.{plain_program}
-use Rattle.il_text.specs.Views as view
-use Rattle.il_check.specs.Straight.{Program, Declared, Entry, Action, declared_of, entry_of, declared_in, entry_in, program_in}
-use Rattle.il_text.specs.declared.program.Declaration.{Declaration}
-use Rattle.il_text.specs.declared.program.Item.{Item}
-use Rattle.il_text.specs.declared.program.Program as text
 use Rattle.bay_base.specs.Exact.{judged}
-use Rattle.il_check.specs.Noted.{noted}
-use Rattle.il_check.specs.Places.{entry_at, entries_faults_at}
-use Rattle.il_check.specs.Slots.{AreApart, IsWithin, items_named, names_of}
+use Rattle.bay_base.specs.Names.{upper}
+use Rattle.bay_config.specs.declared.bay.Point.{Point}
+use Rattle.il_text.specs.Listing as text
+use Rattle.il_text.specs.Views.{plain_program, declared_of, entry_of}
+use Rattle.il_text.specs.declared.program.Declaration.{Declaration}
+use Rattle.il_text.specs.declared.program.Item as source
+use Rattle.il_text.specs.declared.program.Program as program
+use Rattle.il_check.specs.Checking.{faults_of, checked_program, checked_of}
+use Rattle.il_check.specs.Declaring.{names_in, labels_from, looked_up, meanings_of, variables_of, timers_of, declarations_faults}
+use Rattle.il_check.specs.Faults.{noted, least_fault}
+use Rattle.il_check.specs.Given.{Names}
+use Rattle.il_check.specs.LabelsView.{StandsAs}
+use Rattle.il_check.specs.NamesView.{names_of}
+use Rattle.il_check.specs.Program.{Checked, Item}
 use Rattle.il_check.specs.Standing.{StandsFor}
-use Rattle.il_check.specs.WellTyped.{Checked, variable_of, plain_entry, declarations_faults, entries_faults, faults_of, first_fault, checked_program}
+use Rattle.il_check.specs.WellTyped.{Standing, first, unreached, items_faults, items_left}
 use Rattle.il_check.specs.declared.declare.Declarations.{Declarations}
-use Rattle.il_check.specs.declared.resolve.Resolved.{Resolved}
+use Rattle.il_check.specs.declared.labels.Labels.{Labels}
+use Rattle.il_check.specs.declared.given.Meaning.{Meaning}
+use Rattle.il_check.specs.declared.names.Names as code
 use Rattle.il_check.specs.declared.fault.CheckFault.{CheckFault}
-use Rattle.il_check.proofs.NotedLemmas.{noted-append, append-none, first_fault-none}
-use Rattle.il_check.proofs.CheckLemmas.{Knows, entries_same, Leads, leads, all_within, all_named, all_apart}
-
-abbrev pub places_of : Declarations → List ℕ → Option ℕ
-places_of d name = get_by_text d.places name
-
-names_declared : (of_bay : List Point) (declared : List Declared) → names_of (map (variable_of of_bay) declared) ≡ map (λ x. upper x.name) declared
-names_declared of_bay [] = refl
-names_declared of_bay (d ∷ ds) = ap (λ (ns : List (List ℕ)). upper d.name ∷ ns) (names_declared of_bay ds)
+use Rattle.il_check.specs.declared.typed.External.{External}
+use Rattle.il_check.specs.declared.typed.Variable.{Variable}
+use Rattle.il_check.specs.declared.typed.Timer.{Timer}
+use Rattle.il_check.specs.Sound.{AreApart}
+use Rattle.il_check.proofs.ApartLemmas.{all_apart}
+use Rattle.il_check.proofs.NotedLemmas.{noted-append, least_fault-none, append-none}
 
 -- what is known once all is read
-pub record IsRead (of_bay : List Point) (program : Program) (d : Declarations) (r : Resolved) : Type 0 where
-  pub stands : StandsFor of_bay program.declarations d
-  pub declared : d.found ≡ first_fault (declarations_faults of_bay [] program.declarations)
-  pub instructions : r.instructions.items ≡ filter_map (entry_at (places_of d)) program.items
-  pub found : r.found ≡ noted d.found (entries_faults_at (places_of d) d.variables.items false program.items)
+pub record IsRead (points : List Point) (program : text.PlainProgram) (d : Declarations) (l : Labels) (names : code.Names) (items : List Item) (answer : Option CheckFault) : Type 0 where
+  pub stands : StandsFor points program.declarations d
+  pub declared : d.found ≡ least_fault (declarations_faults points [] program.declarations)
+  pub labels : StandsAs (labels_from 0 program.items) l
+  pub meanings : names.meanings ≡ d.meanings
+  pub numbers : names.labels ≡ l.numbers
+  pub items_read : items ≡ items_left (names_of names) program.items (first l.arrivals.items)
+  pub found : answer ≡ noted d.found (items_faults (names_of names) program.items (first l.arrivals.items))
 
-module _ (of_bay : List Point) (program : Program) (d : Declarations) (r : Resolved) (read : IsRead of_bay program d r) where
-  knows : Knows of_bay program.declarations (places_of d) d.variables.items
-  knows = record { placed = read.stands.places; rights = read.stands.variables }
+module _ (points : List Point) (program : text.PlainProgram) (d : Declarations) (l : Labels) (names : code.Names) (items : List Item) (answer : Option CheckFault)
+    (read : IsRead points program d l names items answer) where
+  meanings_same : (let f : List ℕ → Option Meaning = λ name. get_by_text names.meanings (upper name) in
+      let g : List ℕ → Option Meaning = λ name. looked_up (meanings_of points program.declarations) (upper name) in f ≡ g)
+  meanings_same = fun_ext (λ name. ap (λ m. get_by_text m (upper name)) read.meanings ∙ read.stands.meanings (upper name))
 
-  same_faults : entries_faults_at (places_of d) d.variables.items false program.items ≡ entries_faults of_bay program.declarations false program.items
-  same_faults = entries_same of_bay program.declarations (places_of d) d.variables.items knows false program.items
+  labels_same : (let f : List ℕ → Option ℕ = λ name. get_by_text names.labels (upper name) in
+      let g : List ℕ → Option ℕ = λ name. looked_up (labels_from 0 program.items) (upper name) in f ≡ g)
+  labels_same = fun_ext (λ name. ap (λ m. get_by_text m (upper name)) read.numbers ∙ read.labels.numbers (upper name))
 
-  pub found-is : r.found ≡ first_fault (faults_of of_bay program)
+  names_same : names_of names ≡ names_in points program
+  names_same =
+      let with_both : (List ℕ → Option Meaning) → (List ℕ → Option ℕ) → Names = λ m n. record { meaning = m; label = n } in
+      ap (λ (m : List ℕ → Option Meaning). with_both m (λ name. get_by_text names.labels (upper name))) meanings_same
+      ∙ ap (λ (n : List ℕ → Option ℕ). with_both (λ name. looked_up (meanings_of points program.declarations) (upper name)) n) labels_same
+
+  started : first l.arrivals.items ≡ first (map (λ x. unreached) (labels_from 0 program.items))
+  started = ap first read.labels.arrivals
+
+  found-is : answer ≡ least_fault (faults_of points program)
   found-is =
       read.found
-      ∙ ap (λ (fs : List CheckFault). noted d.found fs) same_faults
-      ∙ ap (λ (o : Option CheckFault). noted o (entries_faults of_bay program.declarations false program.items)) read.declared
-      ∙ sym (noted-append None (declarations_faults of_bay [] program.declarations) (entries_faults of_bay program.declarations false program.items))
+      ∙ ap (λ (n : Names). noted d.found (items_faults n program.items (first l.arrivals.items))) names_same
+      ∙ ap (λ (s : Standing). noted d.found (items_faults (names_in points program) program.items s)) started
+      ∙ ap (λ (o : Option CheckFault). noted o (items_faults (names_in points program) program.items (first (map (λ x. unreached) (labels_from 0 program.items))))) read.declared
+      ∙ sym (noted-append None (declarations_faults points [] program.declarations)
+      (items_faults (names_in points program) program.items (first (map (λ x. unreached) (labels_from 0 program.items)))))
 
   -- the fault that is found is the answer
-  pub refused : (f : CheckFault) → r.found ≡ Some f → judged (first_fault (faults_of of_bay program)) (checked_program of_bay program) ≡ Err f
-  refused f is = ap (λ (o : Option CheckFault). judged o (checked_program of_bay program)) (sym found-is ∙ is)
+  pub refused : (f : CheckFault) → answer ≡ Some f → checked_of points program ≡ Err f
+  refused f is = ap (λ (o : Option CheckFault). judged o (checked_program points program)) (sym found-is ∙ is)
 
-  named_so : names_of d.variables.items ≡ map (λ x. upper x.name) program.declarations
-  named_so = ap names_of read.stands.variables ∙ names_declared of_bay program.declarations
+  items_same : items ≡ items_left (names_in points program) program.items (first (map (λ x. unreached) (labels_from 0 program.items)))
+  items_same =
+      read.items_read
+      ∙ ap (λ (n : Names). items_left n program.items (first l.arrivals.items)) names_same
+      ∙ ap (λ (s : Standing). items_left (names_in points program) program.items s) started
 
-  counted : length (names_of d.variables.items) ≡ vec_len d.variables
-  counted = length-map d.variables.items (λ (v : Variable). v.name) ∙ sym d.variables.ok.0
+  -- no declaration has a fault where none is found
+  pub declared_right : answer ≡ None → declarations_faults points [] program.declarations ≡ []
+  declared_right none = (append-none _ _ (least_fault-none (faults_of points program) (sym found-is ∙ none))).0
 
-  leads_to : Leads (names_of d.variables.items) (places_of d)
-  leads_to = subst (λ (ns : List (List ℕ)). Leads ns (places_of d)) (sym named_so) (leads program.declarations (places_of d) read.stands.places)
-
-  pub within-all : All (IsWithin (vec_len d.variables)) r.instructions.items
-  within-all =
-      let them : All (IsWithin (length (names_of d.variables.items))) r.instructions.items =
-      subst (λ xs. All (IsWithin (length (names_of d.variables.items))) xs) (sym read.instructions) (all_within (names_of d.variables.items) (places_of d) leads_to program.items) in
-      subst (λ n. All (IsWithin n) r.instructions.items) counted them
-
-  no_faults : r.found ≡ None → faults_of of_bay program ≡ []
-  no_faults none = first_fault-none (faults_of of_bay program) (sym found-is ∙ none)
-
-  pub apart-all : r.found ≡ None → AreApart (names_of d.variables.items)
-  apart-all none =
-      subst (λ (ns : List (List ℕ)). AreApart ns) (sym named_so)
-      (all_apart of_bay [] program.declarations (append-none (declarations_faults of_bay [] program.declarations) (entries_faults of_bay program.declarations false program.items) (no_faults none)).0)
-
-  named : r.found ≡ None → items_named (names_of d.variables.items) r.instructions.items ≡ filter_map plain_entry program.items
-  named none =
-      ap (items_named (names_of d.variables.items)) read.instructions
-      ∙ all_named (names_of d.variables.items) (places_of d) leads_to d.variables.items false program.items
-      (same_faults ∙ (append-none (declarations_faults of_bay [] program.declarations) (entries_faults of_bay program.declarations false program.items) (no_faults none)).1)
-
-  -- without a fault, the answer is the program on slots
-  pub passed : r.found ≡ None → judged (first_fault (faults_of of_bay program)) (checked_program of_bay program)
-      ≡ Ok (record { variables = d.variables.items; items = items_named (names_of d.variables.items) r.instructions.items })
+  -- without a fault, the answer is what is left
+  pub passed : answer ≡ None → checked_of points program
+      ≡ Ok (record { externals = d.externals.items; variables = d.variables.items; timers = d.timers.items; items = items })
   passed none =
-      let with_variables : List Variable → Checked = λ vs. record { variables = vs; items = filter_map plain_entry program.items } in
-      let with_items : List Action → Checked = λ es. record { variables = d.variables.items; items = es } in
-      ap (λ (o : Option CheckFault). judged o (checked_program of_bay program)) (sym found-is ∙ none)
-      ∙ ap Ok (ap with_variables (sym read.stands.variables) ∙ ap with_items (sym (named none)))
+      let left : List Item = items_left (names_in points program) program.items (first (map (λ x. unreached) (labels_from 0 program.items))) in
+      let with_all : List External → List Variable → List Timer → List Item → Checked = λ es vs ts is. record { externals = es; variables = vs; timers = ts; items = is } in
+      ap (λ (o : Option CheckFault). judged o (checked_program points program)) (sym found-is ∙ none)
+      ∙ ap Ok
+      (ap (λ (es : List External). with_all es (variables_of program.declarations) (timers_of program.declarations) left) (sym read.stands.externals)
+      ∙ ap (λ (vs : List Variable). with_all d.externals.items vs (timers_of program.declarations) left) (sym read.stands.variables)
+      ∙ ap (λ (ts : List Timer). with_all d.externals.items d.variables.items ts left) (sym read.stands.timers)
+      ∙ ap (λ (is : List Item). with_all d.externals.items d.variables.items d.timers.items is) (sym items_same))
 
-map_twice : {X Y Z : Type 0} (g : Y → Z) (f : X → Y) (xs : List X) → map (λ x. g (f x)) xs ≡ map g (map f xs)
-map_twice g f [] = refl
-map_twice g f (x ∷ xs) = ap (λ ys. g (f x) ∷ ys) (map_twice g f xs)
+  -- without a fault, the names of the slots differ
+  pub apart_names : answer ≡ None → AreApart (map (λ e. e.name) d.externals.items ++ map (λ v. v.name) d.variables.items)
+  apart_names none =
+      subst (λ (vs : List Variable). AreApart (map (λ e. e.name) d.externals.items ++ map (λ v. v.name) vs)) (sym read.stands.variables)
+      (subst (λ (es : List External). AreApart (map (λ e. e.name) es ++ map (λ v. v.name) (variables_of program.declarations))) (sym read.stands.externals)
+      (all_apart points program.declarations (declared_right none)))
 
-pub is_read : (of_bay : List Point) (p : text.Program) (declarations : List Declaration) (items : List Item) (d : Declarations) (r : Resolved)
-    → declarations ≡ p.declarations.items → items ≡ p.items.items
-    → StandsFor of_bay (map declared_of declarations) d → d.found ≡ first_fault (declarations_faults of_bay [] (map declared_of declarations))
-    → r.instructions.items ≡ filter_map (entry_at (places_of d)) (map entry_of items)
-    → r.found ≡ noted d.found (entries_faults_at (places_of d) d.variables.items false (map entry_of items))
-    → IsRead of_bay (program_in (plain_program p)) d r
-is_read of_bay p declarations items d r same_declarations same_items stands declared instructions found =
-    let of_text : map declared_of declarations ≡ (program_in (plain_program p)).declarations =
-    ap (map declared_of) same_declarations ∙ map_twice declared_in view.declared_of p.declarations.items in
-    let items_of_text : map entry_of items ≡ (program_in (plain_program p)).items = ap (map entry_of) same_items ∙ map_twice entry_in view.entry_of p.items.items in
-    record {
-      stands = subst (λ (ds : List Declared). StandsFor of_bay ds d) of_text stands;
-      declared = subst (λ (ds : List Declared). d.found ≡ first_fault (declarations_faults of_bay [] ds)) of_text declared;
-      instructions = subst (λ (es : List Entry). r.instructions.items ≡ filter_map (entry_at (places_of d)) es) items_of_text instructions;
-      found = subst (λ (es : List Entry). r.found ≡ noted d.found (entries_faults_at (places_of d) d.variables.items false es)) items_of_text found;
-    }
+pub is_read : (points : List Point) (p : program.Program) (declarations : List Declaration) (first_items items : List source.Item) (d : Declarations) (l : Labels) (left : List Item) (answer : Option CheckFault)
+    → declarations ≡ p.declarations.items → first_items ≡ p.items.items → items ≡ p.items.items
+    → StandsFor points (map declared_of declarations) d → d.found ≡ least_fault (declarations_faults points [] (map declared_of declarations))
+    → StandsAs (labels_from 0 (map entry_of first_items)) l
+    → left ≡ items_left (names_of (record { meanings = d.meanings; labels = l.numbers })) (map entry_of items) (first l.arrivals.items)
+    → answer ≡ noted d.found (items_faults (names_of (record { meanings = d.meanings; labels = l.numbers })) (map entry_of items) (first l.arrivals.items))
+    → IsRead points (plain_program p) d l (record { meanings = d.meanings; labels = l.numbers }) left answer
+is_read points p declarations first_items items d l left answer these those them stands declared labels read found = record {
+  stands = subst (λ (ds : List Declaration). StandsFor points (map declared_of ds) d) these stands;
+  declared = declared ∙ ap (λ (ds : List Declaration). least_fault (declarations_faults points [] (map declared_of ds))) these;
+  labels = subst (λ (is : List source.Item). StandsAs (labels_from 0 (map entry_of is)) l) those labels;
+  meanings = refl;
+  numbers = refl;
+  items_read = read ∙ ap (λ (is : List source.Item). items_left (names_of (record { meanings = d.meanings; labels = l.numbers })) (map entry_of is) (first l.arrivals.items)) them;
+  found = found ∙ ap (λ (is : List source.Item). noted d.found (items_faults (names_of (record { meanings = d.meanings; labels = l.numbers })) (map entry_of is) (first l.arrivals.items))) them;
+}

@@ -1,7 +1,10 @@
-pub mod CheckLemmas
+pub mod ApartLemmas
 pub mod CheckedLemmas
 pub mod EntryLemmas
-pub mod ItemLemmas
+pub mod LabelLemmas
+pub mod NameLemmas
 pub mod NotedLemmas
-pub mod PlaceLemmas
 pub mod StandingLemmas
+pub mod TakenLemmas
+pub mod ViewLemmas
+pub mod WalkLemmas

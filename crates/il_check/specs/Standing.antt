@@ -1,17 +1,87 @@
--- What is known of the names declared so far.
-use Rattle.std.specs.Prelude.{◌≡◌, ℕ, List, map, Option}
+-- What is known of the names declared so far, in the code.
+use Rattle.std.specs.Prelude.{◌≡◌, ℕ, List, ◌++◌, Option, None, Some, is_some, vec_len}
+use Rattle.std.specs.Option.{option_to_list}
 use Rattle.std.specs.BTreeMap.{get_by_text}
+use Rattle.bay_base.specs.Names.{upper}
+use Rattle.bay_base.specs.declared.types.ElementaryType.{ElementaryType}
 use Rattle.bay_config.specs.declared.bay.Point.{Point}
-use Rattle.il_check.specs.Straight.{Declared}
-use Rattle.il_check.specs.WellTyped.{variable_of}
-use Rattle.il_check.specs.Places.{place_in}
+use Rattle.il_text.specs.Listing as text
+use Rattle.il_text.specs.declared.program.DeclaredType.{DeclaredType}
+use Rattle.il_text.specs.declared.program.DeclaredType.TheVariants as type
+use Rattle.il_text.specs.declared.program.Scope.{Scope}
+use Rattle.il_text.specs.declared.program.Scope.TheVariants as scope
+use Rattle.il_image.specs.declared.value.Value.{Value}
+use Rattle.il_check.specs.Faults.{noted}
+use Rattle.il_check.specs.NamesView.{with_value}
+use Rattle.il_check.specs.Declaring.{Counts, externals_of, variables_of, timers_of, meanings_of, looked_up, initial_in, meaning_at, is_full, name_faults, external_in, variable_in, timer_in, point_of}
 use Rattle.il_check.specs.declared.declare.Declarations.{Declarations}
+use Rattle.il_check.specs.declared.typed.External.{External}
+use Rattle.il_check.specs.declared.typed.Variable.{Variable}
+use Rattle.il_check.specs.declared.typed.Timer.{Timer}
 
--- the place of a name in upper case
-abbrev pub places_of : Declarations → List ℕ → Option ℕ
-places_of d name = get_by_text d.places name
+abbrev pub counts_in : Declarations → Counts
+counts_in d = record { externals = vec_len d.externals; variables = vec_len d.variables; timers = vec_len d.timers }
 
--- the variables of these declarations, and the places of their names
-pub record StandsFor (of_bay : List Point) (declared : List Declared) (d : Declarations) : Type 0 where
-  pub variables : d.variables.items ≡ map (variable_of of_bay) declared
-  pub places : (name : List ℕ) → get_by_text d.places name ≡ place_in declared name
+-- an external, and a variable, of a name in upper case
+abbrev pub external_named : List ℕ → ElementaryType → Option Point → Option External
+external_named name kind None = None
+external_named name kind (Some p) = Some (record { name = name; kind = kind; writable = p.writable; origin = p.origin })
+
+abbrev pub variable_named : List ℕ → Option Value → Option Variable
+variable_named name None = None
+variable_named name (Some v) = Some (record { name = name; initial = v })
+
+abbrev pub external_added : List ℕ → Scope → DeclaredType → Option Point → Option External
+external_added name scope.External (type.Elementary kind) point = external_named name kind point
+external_added name declared_as kind point = None
+
+abbrev pub variable_added : List ℕ → text.Declared → Scope → DeclaredType → Option Variable
+variable_added name d scope.Local (type.Elementary kind) = variable_named name (initial_in kind d.initial)
+variable_added name d declared_as kind = None
+
+abbrev pub timer_added : List ℕ → DeclaredType → Option Timer
+timer_added name (type.Timer kind) = Some (record { name = name; kind = kind })
+timer_added name (type.Elementary kind) = None
+
+pub record SameButExternals (old new : Declarations) : Type 0 where
+  pub variables : new.variables ≡ old.variables
+  pub timers : new.timers ≡ old.timers
+  pub meanings : new.meanings ≡ old.meanings
+  pub found : new.found ≡ old.found
+
+pub record SameButVariables (old new : Declarations) : Type 0 where
+  pub externals : new.externals ≡ old.externals
+  pub timers : new.timers ≡ old.timers
+  pub meanings : new.meanings ≡ old.meanings
+  pub found : new.found ≡ old.found
+
+pub record SameButTimers (old new : Declarations) : Type 0 where
+  pub externals : new.externals ≡ old.externals
+  pub variables : new.variables ≡ old.variables
+  pub meanings : new.meanings ≡ old.meanings
+  pub found : new.found ≡ old.found
+
+-- what a declaration adds
+pub record Adds (name : List ℕ) (d : text.Declared) (point : Option Point) (old new : Declarations) : Type 0 where
+  pub externals : new.externals.items ≡ old.externals.items ++ option_to_list (external_added name d.scope d.kind point)
+  pub variables : new.variables.items ≡ old.variables.items ++ option_to_list (variable_added name d d.scope d.kind)
+  pub timers : new.timers.items ≡ old.timers.items ++ option_to_list (timer_added name d.kind)
+  pub meanings : new.meanings ≡ old.meanings
+  pub found : new.found ≡ old.found
+
+-- what taking a declaration changes
+pub record Takes (points : List Point) (d : text.Declared) (old new : Declarations) : Type 0 where
+  pub externals : new.externals.items ≡ old.externals.items ++ option_to_list (external_in points d d.scope d.kind)
+  pub variables : new.variables.items ≡ old.variables.items ++ option_to_list (variable_in d d.scope d.kind)
+  pub timers : new.timers.items ≡ old.timers.items ++ option_to_list (timer_in d d.kind)
+  pub meanings : (other : List ℕ) → get_by_text new.meanings other
+      ≡ with_value (λ q. get_by_text old.meanings q) (upper d.name) (meaning_at (counts_in old) d.scope d.kind (point_of points d.name)) other
+  pub found : new.found
+      ≡ noted old.found (name_faults (point_of points d.name) (is_some (get_by_text old.meanings (upper d.name))) (is_full (counts_in old) d.kind) d)
+
+-- these declarations were taken
+pub record StandsFor (points : List Point) (declared : List text.Declared) (d : Declarations) : Type 0 where
+  pub externals : d.externals.items ≡ externals_of points declared
+  pub variables : d.variables.items ≡ variables_of declared
+  pub timers : d.timers.items ≡ timers_of declared
+  pub meanings : (name : List ℕ) → get_by_text d.meanings name ≡ looked_up (meanings_of points declared) name

@@ -1,154 +1,180 @@
--- What is wrong with a program that can be read: its names, its points and its current result
--- (IEC 61131-3:2003, 2.4.3 for declarations, 3.2 for the current result); and the program that is left of
--- one without a fault.
-use Rattle.std.specs.Prelude.{ℕ, Bool, true, false, not, ◌&&◌, nat_lt, nat_le, ◌==◌, is_none, List, [], ◌∷◌, ◌++◌, length, map, filter_map, find, unwrap_or, Option, None, Some, option_map, Result, if◌then◌else◌}
-use Rattle.std.specs.List.{list_any}
-use Rattle.bay_config.specs.declared.bay.Point.{Point}
-use Rattle.bay_config.specs.declared.bay.Origin.{Origin}
-use Rattle.bay_base.specs.declared.types.ElementaryType.TheVariants as elementary
+-- What is wrong with the instructions of a program (IEC 61131-3:2003, 3.2), with the least types of the
+-- current result that what stands before allows; and what is left of one without a fault.
+use Rattle.std.specs.Prelude.{ℕ, ◌+◌, Bool, true, false, not, ◌&&◌, nat_lt, nat_le, List, [], ◌∷◌, ◌++◌, slice_get, slice_set, Option, None, Some, option_map, if◌then◌else◌}
+use Rattle.std.specs.List.{cons_option}
+use Rattle.bay_base.specs.declared.types.ElementaryType.{ElementaryType}
 use Rattle.bay_base.specs.Types.{same_type}
-use Rattle.il_text.specs.declared.program.Scope.{Scope}
-use Rattle.il_text.specs.declared.program.Scope.TheVariants.{Local, External}
-use Rattle.bay_base.specs.Names.{upper, same_name}
-use Rattle.il_text.specs.Listing.{PlainProgram}
-use Rattle.il_check.specs.Straight.{Source, constant, variable, Action, load, store, combine, Entry, action, outside, Declared, Program, program_in}
-use Rattle.il_check.specs.Code.{code_of, line_of}
-use Rattle.il_check.specs.declared.typed.Variable.{Variable}
-use Rattle.bay_base.specs.Exact.{judged}
+use Rattle.il_text.specs.Listing as text
+use Rattle.il_text.specs.declared.program.Operator.{Operator}
+use Rattle.il_check.specs.Faults.{fault_if}
+use Rattle.il_check.specs.Given.{Names, resolved}
+use Rattle.il_check.specs.Program as plain
+use Rattle.il_check.specs.Rules.{is_wrong, is_unset, type_after, joins_wrong, joins_unset, misses_name, jumps_back, misses_label, writes_fixed, may_divide_by_zero, divides, gives, goes_on, target_of}
+use Rattle.il_check.specs.Typing.{entry_in, item_in, block_in}
+use Rattle.il_check.specs.declared.reach.Reach.{Reach}
+use Rattle.il_check.specs.declared.given.Resolved.{Resolved}
 use Rattle.il_check.specs.declared.fault.CheckFault.{CheckFault}
-use Rattle.il_check.specs.declared.fault.CheckFault.TheVariants.{OutsideSubset, UnknownName, DuplicateName, TypeMismatch, UnsetResult, ReadOnly, TooMany}
+use Rattle.il_check.specs.declared.fault.CheckFault.TheVariants.{UnknownName, DuplicateName, TypeMismatch, UnsetResult, BackwardJump, UnknownLabel, Unreachable, ReadOnly, ZeroDivisor, TooMany}
 
--- the fault, where the test holds
-abbrev pub fault_if : Bool → CheckFault → List CheckFault
-fault_if test fault = if test then fault ∷ [] else []
+-- the faults of what names mean and of types: in an instruction that can't be reached no type is judged
+abbrev pub typing_faults : Bool → ℕ → ℕ → Resolved → Option ElementaryType → List CheckFault
+typing_faults is_reached passed line r result =
+    fault_if (misses_name r) (UnknownName line)
+    ++ (fault_if (is_reached && is_wrong r result) (TypeMismatch line)
+    ++ (fault_if (is_reached && is_unset r result) (UnsetResult line)
+    ++ fault_if (jumps_back passed r) (BackwardJump line)))
 
-abbrev pub is_external : Scope → Bool
-is_external Local = false
-is_external External = true
+abbrev pub other_faults : Bool → ℕ → Resolved → List CheckFault
+other_faults is_reached line r =
+    fault_if (misses_label r) (UnknownLabel line)
+    ++ (fault_if (not is_reached) (Unreachable line)
+    ++ (fault_if (writes_fixed r) (ReadOnly line)
+    ++ fault_if (may_divide_by_zero r) (ZeroDivisor line)))
 
-abbrev pub point_of : List Point → List ℕ → Option Point
-point_of points name = find (λ p. same_name p.name name) points
+-- the faults of an instruction behind so many labels
+abbrev pub instruction_faults : Bool → ℕ → ℕ → Resolved → Option ElementaryType → List CheckFault
+instruction_faults is_reached passed line r result = typing_faults is_reached passed line r result ++ other_faults is_reached line r
 
--- a point, if there is one, is a BOOL
-abbrev pub is_boolean : Option Point → Bool
-is_boolean None = true
-is_boolean (Some p) = same_type elementary.Bool p.kind
+-- the faults at an operator with a parenthesis: what it divides by is no literal
+abbrev pub opening_faults : Bool → ℕ → Operator → List CheckFault
+opening_faults is_reached line operator =
+    fault_if (not is_reached) (Unreachable line) ++ fault_if (divides operator) (ZeroDivisor line)
 
-abbrev pub declaration_of : List Declared → List ℕ → Option Declared
-declaration_of declared name = find (λ d. same_name d.name name) declared
+-- the faults at its `)`, where the operator joins what the parenthesis gives to the result
+abbrev pub closing_faults : Bool → ℕ → Operator → Bool → Option ElementaryType → Option ElementaryType → List CheckFault
+closing_faults is_reached line operator negated inner result =
+    fault_if (is_reached && joins_wrong operator negated inner result) (TypeMismatch line)
+    ++ (fault_if (is_reached && joins_unset inner result) (UnsetResult line)
+    ++ fault_if (not is_reached) (Unreachable line))
 
-abbrev pub is_declared : List Declared → List ℕ → Bool
-is_declared declared name = list_any (λ d. same_name d.name name) declared
+-- the type of the result behind an entry
+abbrev pub type_behind : Names → text.Entry → Option ElementaryType → Option ElementaryType
+type_behind names (text.label line name) result = result
+type_behind names (text.action line a) result = type_after (resolved names a) result
+type_behind names (text.block line operator negated items end) result = option_map (gives operator) result
 
--- the faults of a declaration behind others: it is within what is checked; an external names a point, of its
--- type; no name is declared twice; at most 512 names are declared
-abbrev pub name_faults : List Point → List Declared → Declared → List CheckFault
-name_faults points before d =
-    fault_if (is_external d.scope && is_none (point_of points d.name)) (UnknownName d.line)
-    ++ (fault_if (is_declared before d.name) (DuplicateName d.line)
-    ++ (fault_if (is_external d.scope && not (is_boolean (point_of points d.name))) (TypeMismatch d.line)
-    ++ fault_if (nat_le 512 (length before)) (TooMany d.line)))
+abbrev pub type_behind_all : Names → text.Entries → Option ElementaryType → Option ElementaryType
+type_behind_all names text.no_entries result = result
+type_behind_all names (text.entry e es) result = type_behind_all names es (type_behind names e result)
 
-abbrev pub declaration_faults : List Point → List Declared → Declared → List CheckFault
-declaration_faults points before d = fault_if (not d.is_inside) (OutsideSubset d.line) ++ name_faults points before d
+abbrev mutual
+  -- the faults of an entry; a parenthesis begins with a result that is not set
+  pub entry_faults : Names → Bool → ℕ → text.Entry → Option ElementaryType → List CheckFault
+  entry_faults names is_reached passed (text.label line name) result = []
+  entry_faults names is_reached passed (text.action line a) result = instruction_faults is_reached passed line (resolved names a) result
+  entry_faults names is_reached passed (text.block line operator negated items end) result =
+      opening_faults is_reached line operator
+      ++ (entries_faults names is_reached passed items None
+      ++ closing_faults is_reached end operator negated (type_behind_all names items None) result)
 
-abbrev pub declarations_faults : List Point → List Declared → List Declared → List CheckFault
-declarations_faults points before [] = []
-declarations_faults points before (d ∷ ds) = declaration_faults points before d ++ declarations_faults points (before ++ d ∷ []) ds
+  pub entries_faults : Names → Bool → ℕ → text.Entries → Option ElementaryType → List CheckFault
+  entries_faults names is_reached passed text.no_entries result = []
+  entries_faults names is_reached passed (text.entry e es) result =
+      entry_faults names is_reached passed e result ++ entries_faults names is_reached passed es (type_behind names e result)
 
-abbrev pub is_read_only : Option Point → Bool
-is_read_only None = false
-is_read_only (Some p) = not p.writable
+abbrev mutual
+  -- what is left of an entry; the grammar has no label, jump, return or call within a parenthesis
+  pub entry_left : Names → text.Entry → Option ElementaryType → Option plain.Entry
+  entry_left names (text.label line name) result = None
+  entry_left names (text.action line a) result = entry_in (resolved names a) result
+  entry_left names (text.block line operator negated items end) result = block_in operator negated (entries_left names items None) result
 
--- an external may be written only where its point may
-abbrev pub can_write : List Point → Option Declared → Bool
-can_write points None = true
-can_write points (Some d) = not (is_external d.scope && is_read_only (point_of points d.name))
+  pub entries_left : Names → text.Entries → Option ElementaryType → plain.Entries
+  entries_left names text.no_entries result = plain.no_entries
+  entries_left names (text.entry e es) result = plain.entry_before (entry_left names e result) (entries_left names es (type_behind names e result))
 
-abbrev pub source_faults : List Declared → ℕ → Source → List CheckFault
-source_faults declared line (constant b) = []
-source_faults declared line (variable name) = fault_if (not (is_declared declared name)) (UnknownName line)
+abbrev pub same_result : Option ElementaryType → Option ElementaryType → Bool
+same_result (Some a) (Some b) = same_type a b
+same_result a b = false
 
--- the faults of an instruction: its name is declared, its result is set where it is used, and what it
--- writes may be written
-abbrev pub action_faults : List Point → List Declared → Bool → ℕ → Action → List CheckFault
-action_faults points declared is_set line (load negated source) = source_faults declared line source
-action_faults points declared is_set line (store name) =
-    fault_if (not (is_declared declared name)) (UnknownName line)
-    ++ (fault_if (not is_set) (UnsetResult line)
-    ++ fault_if (not (can_write points (declaration_of declared name))) (ReadOnly line))
-action_faults points declared is_set line (combine connective source) =
-    source_faults declared line source ++ fault_if (not is_set) (UnsetResult line)
+-- where two ways meet, the result is set where it has one type on both
+abbrev pub met_type : Option ElementaryType → Option ElementaryType → Option ElementaryType
+met_type a b = if same_result a b then a else None
 
--- an item outside of what is checked is a fault, and is not judged otherwise
-abbrev pub entry_faults : List Point → List Declared → Bool → Entry → List CheckFault
-entry_faults points declared is_set (action line a) = action_faults points declared is_set line a
-entry_faults points declared is_set (outside line) = fault_if true (OutsideSubset line)
+abbrev pub met : Reach → Reach → Reach
+met a b =
+    if not a.is_reached then b
+    else (if not b.is_reached then a else record { is_reached = true; kind = met_type a.kind b.kind })
 
--- the result is not set before the first item, and set after each
-abbrev pub entries_faults : List Point → List Declared → Bool → List Entry → List CheckFault
-entries_faults points declared is_set [] = []
-entries_faults points declared is_set (e ∷ es) = entry_faults points declared is_set e ++ entries_faults points declared true es
+abbrev pub unreached : Reach
+unreached = record { is_reached = false; kind = None }
 
--- all faults of a program, in the order of its text
-abbrev pub faults_of : List Point → Program → List CheckFault
-faults_of points program = declarations_faults points [] program.declarations ++ entries_faults points program.declarations false program.items
+-- what is known before an item: of the current result; of the result at each label, from the jumps so far;
+-- and how many labels stand before
+pub record Standing : Type 0 where
+  pub now : Reach
+  pub arrivals : List Reach
+  pub passed : ℕ
 
--- of two numbers the first is the lower
-abbrev pub is_lower : Option ℕ → Option ℕ → Bool
-is_lower (Some first) (Some second) = nat_lt first second
-is_lower first second = false
+-- what jumps to a label bring, if there is such a label
+abbrev pub arrival : Option Reach → Reach
+arrival None = unreached
+arrival (Some r) = r
 
--- of a fault and a later one: the later one where it is of the same line and has a lower number
-abbrev pub better : CheckFault → CheckFault → CheckFault
-better f g = if line_of g == line_of f && is_lower (code_of g) (code_of f) then g else f
+abbrev pub arrived : Option ℕ → Reach → List Reach → List Reach
+arrived None now arrivals = arrivals
+arrived (Some label) now arrivals = slice_set arrivals label (met (arrival (slice_get arrivals label)) now)
 
-abbrev pub best_of : CheckFault → List CheckFault → CheckFault
-best_of f [] = f
-best_of f (g ∷ gs) = best_of (better f g) gs
-
--- the fault that is answered: of the first faulty line, the one of the lowest number
-abbrev pub first_fault : List CheckFault → Option CheckFault
-first_fault [] = None
-first_fault (f ∷ fs) = Some (best_of f fs)
-
--- a program without a fault: its variables, and its items
-pub record Checked : Type 0 where
-  pub variables : List Variable
-  pub items : List Action
-
--- what a declaration stands for: an external the point of its name
-abbrev pub origin_of : List Point → Declared → Option Origin
-origin_of points d = if is_external d.scope then option_map (λ p. p.origin) (point_of points d.name) else None
-
--- the value that a variable begins with
-abbrev pub initial_value : Declared → Bool
-initial_value d = if is_external d.scope then false else unwrap_or d.initial false
-
--- the variable of a declaration
-abbrev pub variable_of : List Point → Declared → Variable
-variable_of points d = record { name = upper d.name; origin = origin_of points d; initial = initial_value d; writable = can_write points (Some d) }
-
--- names in upper case, and no lines
-abbrev pub plain_source : Source → Source
-plain_source (constant b) = constant b
-plain_source (variable name) = variable (upper name)
-
-abbrev pub plain_action : Action → Action
-plain_action (load negated source) = load negated (plain_source source)
-plain_action (store name) = store (upper name)
-plain_action (combine connective source) = combine connective (plain_source source)
-
-abbrev pub plain_entry : Entry → Option Action
-plain_entry (action line a) = Some (plain_action a)
-plain_entry (outside line) = None
-
-abbrev pub checked_program : List Point → Program → Checked
-checked_program points program = record {
-  variables = map (variable_of points) program.declarations;
-  items = filter_map plain_entry program.items;
+-- behind an instruction
+abbrev pub moved : Resolved → Standing → Standing
+moved r s = record {
+  now = record { is_reached = s.now.is_reached && goes_on r; kind = type_after r s.now.kind };
+  arrivals = arrived (target_of r) s.now s.arrivals;
+  passed = s.passed;
 }
 
--- the checked program, or the fault that is answered
-abbrev pub checked_of : List Point → PlainProgram → Result Checked CheckFault
-checked_of points program = judged (first_fault (faults_of points (program_in program))) (checked_program points (program_in program))
+-- behind a label, what falls into it and what jumps to it meet
+abbrev pub behind_label : Standing → Standing
+behind_label s = record {
+  now = met s.now (arrival (slice_get s.arrivals s.passed));
+  arrivals = s.arrivals;
+  passed = s.passed + 1;
+}
+
+-- behind a parenthesis
+abbrev pub behind_block : Operator → Standing → Standing
+behind_block operator s = record {
+  now = record { is_reached = s.now.is_reached; kind = option_map (gives operator) s.now.kind };
+  arrivals = s.arrivals;
+  passed = s.passed;
+}
+
+-- behind an item
+abbrev pub behind : Names → text.Entry → Standing → Standing
+behind names (text.label line name) s = behind_label s
+behind names (text.action line a) s = moved (resolved names a) s
+behind names (text.block line operator negated items end) s = behind_block operator s
+
+-- before the first item the result is not set
+abbrev pub first : List Reach → Standing
+first arrivals = record { now = record { is_reached = true; kind = None }; arrivals = arrivals; passed = 0 }
+
+abbrev pub is_first : ℕ → Option ℕ → Bool
+is_first passed None = true
+is_first passed (Some number) = not (nat_lt number passed)
+
+-- the faults of a label behind so many others
+abbrev pub label_faults : ℕ → Option ℕ → ℕ → List CheckFault
+label_faults line number passed =
+    fault_if (not (is_first passed number)) (DuplicateName line) ++ fault_if (nat_le 256 passed) (TooMany line)
+
+abbrev pub item_faults : Names → text.Entry → Standing → List CheckFault
+item_faults names (text.label line name) s = label_faults line (names.label name) s.passed
+item_faults names (text.action line a) s = instruction_faults s.now.is_reached s.passed line (resolved names a) s.now.kind
+item_faults names (text.block line operator negated items end) s =
+    entry_faults names s.now.is_reached s.passed (text.block line operator negated items end) s.now.kind
+
+abbrev pub items_faults : Names → List text.Entry → Standing → List CheckFault
+items_faults names [] s = []
+items_faults names (e ∷ es) s = item_faults names e s ++ items_faults names es (behind names e s)
+
+-- what is left of an item
+abbrev pub item_left : Names → text.Entry → Standing → Option plain.Item
+item_left names (text.label line name) s = Some (plain.label s.passed)
+item_left names (text.action line a) s = item_in (resolved names a) s.now.kind
+item_left names (text.block line operator negated items end) s =
+    option_map plain.plain (block_in operator negated (entries_left names items None) s.now.kind)
+
+abbrev pub items_left : Names → List text.Entry → Standing → List plain.Item
+items_left names [] s = []
+items_left names (e ∷ es) s = cons_option (item_left names e s) (items_left names es (behind names e s))

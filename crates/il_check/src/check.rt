@@ -1,42 +1,66 @@
 // The checks of a program, and the typed program that is left of one without a fault.
 ghost use Rattle.il_text.specs.Views.{plain_program};
 ghost use Rattle.bay_base.specs.Exact.{Gives};
-ghost use Rattle.il_check.specs.TypedView.{typed_view};
-ghost use Rattle.il_check.specs.WellTyped.{checked_of};
+ghost use Rattle.il_check.specs.Checking.{checked_of};
+ghost use Rattle.il_check.specs.ProgramViews.{checked_view};
 ghost use Rattle.il_check.specs.declared.fault.CheckFault.TheVariants.{OutOfMemory};
 
 use crate::declare::{Declarations, declare_all};
 use crate::fault::CheckFault;
-use crate::resolve::{Resolved, resolve_all};
-use crate::typed::Typed;
+use crate::labels::{Labels, all_labels};
+use crate::names::Names;
+use crate::program::{Parts, Typed};
+use crate::walk::Judge;
 use bay_config::bay::Point;
 use il_text::program::Program;
 use std::alloc::Global;
 
-/// Checks a program against the bay's points, and resolves its names to slots.
+/// Checks a program against the bay's points, and resolves its names.
 ///
-/// Of each declaration: an external's name is a point's (70), no name is declared twice (71), an
-/// external's type is its point's (72), and at most 512 names are declared (79). Of each instruction: its
-/// name is declared (70), the current result is set where it is used (73), and what it stores into is no
-/// point that may only be read (77). What is checked as yet is straight lines of LD, LDN, ST, AND and OR of BOOL names
-/// and truth values; a line of another form is refused (61). The case of letters in names isn't significant. The answer is the typed program, or of the first faulty line the
-/// fault of the lowest number (IEC 61131-3:2003, 2.4.3 and 3.2).
+/// Of each declaration: an external's name is a point's (70), no name is declared twice (71), an external's
+/// type is its point's and an initial literal fits its variable (72), and at most 512 externals and
+/// variables and 64 timers are declared (79). Of each instruction: its names are declared (70) and mean what
+/// is wanted, and each type is the one that is wanted (72); the current result is set where it is used (73);
+/// a jump goes to a label (75) that stands below (74); the instruction can be reached (76); what it stores
+/// into may be written (77); a divisor is a literal other than 0 (78). No two labels have one name (71), and
+/// there are at most 256 (79). Where ways with different types of the result meet, it is not set. Where an
+/// instruction can't be reached, its types and the result are not judged. The case of letters in names isn't
+/// significant.
+///
+/// The answer is the typed program, or of the first faulty line the fault of the lowest number
+/// (IEC 61131-3:2003, 2.4.3 and 3.2). A name that is looked up takes no memory.
 pub fn check(alloc: Global, program: &Program<'_>, points: &[Point]) -> Result<Typed, CheckFault>
     // The checked program, or the fault of the first faulty line with the lowest number, unless memory ran out.
-    ensures { Gives OutOfMemory typed_view result (checked_of points.now (plain_program program.now)) }
+    ensures { Gives OutOfMemory checked_view result (checked_of points.now (plain_program program.now)) }
 {
     let declared = declare_all(alloc, points, program.declarations.as_slice())?;
-    let resolved = resolve_all(alloc, &declared, program.items.as_slice())?;
-    let Resolved {
-        instructions,
+    let labels = all_labels(alloc, program.items.as_slice())?;
+    let Declarations {
+        meanings,
+        externals,
+        variables,
+        timers,
         found,
-    } = resolved;
-    let Declarations { variables, .. } = declared;
-    match found {
+        ..
+    } = declared;
+    let Labels { numbers, arrivals } = labels;
+    let names = Names {
+        meanings,
+        labels: numbers,
+    };
+    let mut judge = Judge {
+        alloc,
+        buffer: String::new(alloc),
+        found,
+    };
+    let items = judge.items(&names, program.items.as_slice(), arrivals)?;
+    match judge.found {
         Some(fault) => Err(fault),
-        None => Ok(Typed {
+        None => Ok(Typed::of_parts(Parts {
+            externals,
             variables,
-            instructions,
-        }),
+            timers,
+            items,
+        })),
     }
 }

@@ -1,44 +1,44 @@
-// The declarations of a program (IEC 61131-3:2003, 2.4.3): which names there are, and what is wrong.
-ghost use Rattle.std.specs.Prelude.{◌≡◌, ℕ, List, [], ◌∷◌, ◌++◌, map, option_map, vec_len, is_some, option_copied, IfOk, OnOk, string_bytes};
+// The declarations of a program (IEC 61131-3:2003, 2.4.3): what names mean, and what is wrong.
+ghost use Rattle.std.specs.Prelude.{◌≡◌, ℕ, List, [], ◌∷◌, ◌++◌, map, vec_len, length, is_some, option_copied, option_map, IfOk, OnOk, string_bytes};
 ghost use Rattle.std.specs.BTreeMap.{get_by_text};
+ghost use Rattle.std.specs.Option.{option_to_list};
 ghost use Rattle.bay_base.specs.Names as names;
-ghost use Rattle.il_check.specs.Straight.{declared_of};
-ghost use Rattle.il_check.specs.Noted.{noted, name_faults_at, declaration_faults_at};
-ghost use Rattle.il_check.specs.Places.{with_place};
-ghost use Rattle.il_check.specs.Standing.{StandsFor, places_of};
-ghost use Rattle.il_check.specs.WellTyped as spec;
+ghost use Rattle.il_text.specs.Views.{declared_of};
+ghost use Rattle.il_check.specs.Faults.{noted, least_fault};
+ghost use Rattle.il_check.specs.NamesView.{with_value};
+ghost use Rattle.il_check.specs.Standing.{StandsFor, Takes, Adds, SameButExternals, SameButVariables, SameButTimers, external_named, variable_named, counts_in};
+ghost use Rattle.il_check.specs.Declaring as spec;
 
 use crate::fault::CheckFault;
+use crate::given::Meaning;
+use crate::names::{add_meaning, upper_case};
 use crate::note::note_if;
-use crate::straight::{initial_in, may_declare};
-use crate::typed::Variable;
+use crate::rules::number_in;
+use crate::typed::{External, Slot, Timer, Variable};
 use bay_base::names::same_name;
 use bay_base::text::Text;
 use bay_base::types::ElementaryType;
-use bay_config::bay::{Origin, Point};
-use il_text::program::{Declaration, Scope};
+use bay_config::bay::Point;
+use il_image::value::Value;
+use il_text::program::{Declaration, DeclaredType, Literal, Scope, TimerKind};
 use std::alloc::{AllocError, Global};
 use std::collections::BTreeMap;
 
-/// The most names that a program may declare.
-const MAX_NAMES: usize = 512;
+/// The most externals and variables that a program may declare.
+const MAX_SLOTS: usize = 512;
 
-/// What is declared: the variable of each declaration, the place of each name's first declaration, and the
-/// fault that is answered, if there is one.
+/// The most timers that a program may declare.
+const MAX_TIMERS: usize = 64;
+
+/// What is declared: what each name means, and the fault that is answered, if there is one.
 #[derive(Drop)]
 pub(crate) struct Declarations {
-    pub(crate) places: BTreeMap<String, usize>,
+    pub(crate) alloc: Global,
+    pub(crate) meanings: BTreeMap<String, Meaning>,
+    pub(crate) externals: Vec<External>,
     pub(crate) variables: Vec<Variable>,
+    pub(crate) timers: Vec<Timer>,
     pub(crate) found: Option<CheckFault>,
-}
-
-/// A name in upper case.
-pub(crate) fn upper_case(alloc: Global, name: &str) -> Result<String, AllocError>
-    ensures { IfOk result (λ copy. string_bytes copy ≡ names.upper name.now) }
-{
-    let mut copy = String::from_str(alloc, name)?;
-    copy.make_ascii_uppercase();
-    Ok(copy)
 }
 
 /// The point with this name.
@@ -59,142 +59,103 @@ fn is_external(scope: Scope) -> bool
     }
 }
 
-/// Whether a point, if there is one, is a BOOL.
-fn is_boolean(point: Option<&Point>) -> bool
-    ensures { result ≡ spec.is_boolean (option_copied point.entry) }
+fn of_type(kind: ElementaryType, value: Value) -> Option<Value>
+    ensures { result ≡ spec.of_type kind value }
+{
+    if value.type_of().is(kind) {
+        Some(value)
+    } else {
+        None
+    }
+}
+
+/// The value of a type that a literal is, if it is one.
+fn value_in(kind: ElementaryType, literal: Literal) -> Option<Value>
+    ensures { result ≡ spec.value_in kind literal }
+{
+    match literal {
+        Literal::Truth(truth) => of_type(kind, Value::Truth(truth)),
+        Literal::Number(number) => number_in(kind, number),
+        Literal::Int(number) => of_type(kind, Value::Short(number)),
+        Literal::Dint(number) => of_type(kind, Value::Long(number)),
+        Literal::Lint(number) => of_type(kind, Value::Wide(number)),
+        Literal::Time(milliseconds) => of_type(kind, Value::Span(milliseconds)),
+    }
+}
+
+fn default_value(kind: ElementaryType) -> Value
+    ensures { result ≡ spec.default_value kind }
+{
+    match kind {
+        ElementaryType::Bool => Value::Truth(false),
+        ElementaryType::Int => Value::Short(0),
+        ElementaryType::Dint => Value::Long(0),
+        ElementaryType::Lint => Value::Wide(0),
+        ElementaryType::Time => Value::Span(0),
+    }
+}
+
+/// The value that a variable of a type begins with, if the literal fits it.
+fn initial_in(kind: ElementaryType, literal: Option<Literal>) -> Option<Value>
+    ensures { result ≡ spec.initial_in kind literal }
+{
+    match literal {
+        Some(literal) => value_in(kind, literal),
+        None => Some(default_value(kind)),
+    }
+}
+
+fn is_kind_of(point: Option<&Point>, kind: ElementaryType) -> bool
+    ensures { result ≡ spec.is_kind_of (option_copied point.entry) kind }
 {
     match point {
+        Some(point) => point.kind.is(kind),
         None => true,
-        Some(point) => ElementaryType::Bool.is(point.kind),
     }
 }
 
-/// What a point stands for.
-fn origin_in(point: Option<&Point>) -> Option<Origin>
-    ensures { result ≡ option_map (λ p. p.origin) (option_copied point.entry) }
+/// Whether an external has its point's type, and a variable's literal fits it.
+fn is_typed(declaration: Declaration<'_>, point: Option<&Point>) -> bool
+    ensures { result ≡ spec.is_typed declaration.entry.scope declaration.entry.kind (option_copied point.entry) declaration.entry.initial }
+{
+    match (declaration.scope, declaration.kind) {
+        (Scope::Local, DeclaredType::Elementary(kind)) => {
+            initial_in(kind, declaration.initial).is_some()
+        }
+        (Scope::Local, DeclaredType::Timer(_)) => true,
+        (Scope::External, DeclaredType::Elementary(kind)) => is_kind_of(point, kind),
+        (Scope::External, DeclaredType::Timer(_)) => point.is_none(),
+    }
+}
+
+fn is_writable(point: Option<&Point>) -> bool
+    ensures { result ≡ spec.is_writable (option_copied point.entry) }
 {
     match point {
-        None => None,
-        Some(point) => Some(point.origin),
-    }
-}
-
-/// What a declaration stands for: an external the point of its name.
-fn origin_of(points: &[Point], declaration: &Declaration<'_>) -> Option<Origin>
-    ensures { result ≡ spec.origin_of points.now (declared_of declaration.now) }
-{
-    match declaration.scope {
-        Scope::Local => None,
-        Scope::External => origin_in(point_of(points, declaration.name)),
-    }
-}
-
-/// The value that a variable begins with.
-fn initial_value(declaration: &Declaration<'_>) -> bool
-    ensures { result ≡ spec.initial_value (declared_of declaration.now) }
-{
-    match declaration.scope {
-        Scope::Local => initial_in(declaration.initial).unwrap_or(false),
-        Scope::External => false,
-    }
-}
-
-fn is_read_only(point: Option<&Point>) -> bool
-    ensures { result ≡ spec.is_read_only (option_copied point.entry) }
-{
-    match point {
+        Some(point) => point.writable,
         None => false,
-        Some(point) => !point.writable,
     }
 }
 
-/// Whether a program may write the variable.
-fn can_write(points: &[Point], declaration: &Declaration<'_>) -> bool
-    ensures { result ≡ spec.can_write points.now (Some (declared_of declaration.now)) }
-{
-    let is_read = is_read_only(point_of(points, declaration.name));
-    !(is_external(declaration.scope) && is_read)
-}
-
-/// The variable of a declaration, whose name in upper case is given.
-fn variable_of(
-    alloc: Global,
-    points: &[Point],
-    declaration: &Declaration<'_>,
-    name: &str,
-) -> Result<Variable, AllocError>
-    requires { name.now ≡ names.upper declaration.now.name.now }
-    ensures { IfOk result (λ variable. variable ≡ spec.variable_of points.now (declared_of declaration.now)) }
-{
-    Ok(Variable {
-        name: Text::from_str(alloc, name)?,
-        origin: origin_of(points, declaration),
-        initial: initial_value(declaration),
-        writable: can_write(points, declaration),
-    })
-}
-
-/// The fault that is answered after what is wrong with the name of a declaration behind `count` others.
+/// The fault that is answered after a declaration, of which it is known whether its name is declared before,
+/// and whether there is room for one more.
 #[tactic(auto, using(crate::proofs::NotedLemmas::note_rules))]
-fn name_fault(
-    found: Option<CheckFault>,
-    points: &[Point],
-    is_known: bool,
-    count: usize,
-    declaration: &Declaration<'_>,
-) -> Option<CheckFault>
-    ensures { result ≡ noted found (name_faults_at points.now is_known count (declared_of declaration.now)) }
-{
-    let line = declaration.line;
-    let is_external = is_external(declaration.scope);
-    let point = point_of(points, declaration.name);
-    let is_missing = point.is_none();
-    let is_typed = is_boolean(point);
-    let found = note_if(
-        found,
-        is_external && is_missing,
-        CheckFault::UnknownName { line },
-    );
-    let found = note_if(found, is_known, CheckFault::DuplicateName { line });
-    let found = note_if(
-        found,
-        is_external && !is_typed,
-        CheckFault::TypeMismatch { line },
-    );
-    note_if(found, count >= MAX_NAMES, CheckFault::TooMany { line })
-}
-
-/// The fault that is answered after a declaration behind `count` others.
-#[tactic(auto, using(crate::proofs::NotedLemmas::noted_two))]
 fn declaration_fault(
     found: Option<CheckFault>,
-    points: &[Point],
+    point: Option<&Point>,
     is_known: bool,
-    count: usize,
-    declaration: &Declaration<'_>,
+    is_full: bool,
+    declaration: Declaration<'_>,
 ) -> Option<CheckFault>
-    ensures { result ≡ noted found (declaration_faults_at points.now is_known count (declared_of declaration.now)) }
+    ensures { result ≡ noted found (spec.name_faults (option_copied point.entry) is_known is_full (declared_of declaration.entry)) }
 {
     let line = declaration.line;
-    let is_inside = may_declare(declaration.kind, declaration.initial);
-    let found = note_if(found, !is_inside, CheckFault::OutsideSubset { line });
-    name_fault(found, points, is_known, count, declaration)
-}
-
-/// Gives a name its place, unless it has one. Whether it had one.
-fn add_place(
-    places: &mut BTreeMap<String, usize>,
-    name: String,
-    place: usize,
-) -> Result<bool, AllocError>
-    ensures known { IfOk result (λ known. known ≡ is_some (get_by_text places.old (string_bytes name))) }
-    ensures places { OnOk result ((other : List ℕ) → get_by_text places.new other ≡ with_place (λ q. get_by_text places.old q) (string_bytes name) place other) }
-{
-    if places.contains_key(name.as_str()) {
-        return Ok(true);
-    }
-    places.insert(name, place)?;
-    Ok(false)
+    let is_missing = is_external(declaration.scope) && point.is_none();
+    let is_typed = is_typed(declaration, point);
+    let found = note_if(found, is_missing, CheckFault::UnknownName { line });
+    let found = note_if(found, is_known, CheckFault::DuplicateName { line });
+    let found = note_if(found, !is_typed, CheckFault::TypeMismatch { line });
+    note_if(found, is_full, CheckFault::TooMany { line })
 }
 
 impl Declarations {
@@ -203,32 +164,117 @@ impl Declarations {
         ensures no_fault { result.found ≡ None }
     {
         Declarations {
-            places: BTreeMap::new(alloc),
+            alloc,
+            meanings: BTreeMap::new(alloc),
+            externals: Vec::new(alloc),
             variables: Vec::new(alloc),
+            timers: Vec::new(alloc),
             found: None,
         }
     }
 
-    /// Takes one declaration.
-    fn declare(
-        &mut self,
-        alloc: Global,
-        points: &[Point],
-        declaration: &Declaration<'_>,
-    ) -> Result<(), AllocError>
-        ensures variables { OnOk result (self.new.variables.items ≡ self.old.variables.items ++ spec.variable_of points.now (declared_of declaration.now) ∷ []) }
-        ensures places { OnOk result ((other : List ℕ) → places_of self.new other
-            ≡ with_place (places_of self.old) (names.upper declaration.now.name.now) (vec_len self.old.variables) other) }
-        ensures found { OnOk result (self.new.found
-            ≡ noted self.old.found (declaration_faults_at points.now
-            (is_some (places_of self.old (names.upper declaration.now.name.now))) (vec_len self.old.variables) (declared_of declaration.now))) }
+    /// Whether one variable or timer more is too many.
+    fn is_full(&self, kind: DeclaredType) -> bool
+        ensures { result ≡ spec.is_full (counts_in self.now) kind }
     {
-        let name = upper_case(alloc, declaration.name)?;
-        let variable = variable_of(alloc, points, declaration, name.as_str())?;
-        let place = self.variables.len();
-        let is_known = add_place(&mut self.places, name, place)?;
-        self.found = declaration_fault(self.found, points, is_known, place, declaration);
-        self.variables.push(variable)?;
+        match kind {
+            DeclaredType::Elementary(_) => {
+                self.externals.len().saturating_add(self.variables.len()) >= MAX_SLOTS
+            }
+            DeclaredType::Timer(_) => self.timers.len() >= MAX_TIMERS,
+        }
+    }
+
+    /// What a name means that is declared next.
+    fn next_meaning(&self, scope: Scope, kind: DeclaredType, point: Option<&Point>) -> Meaning
+        ensures { result ≡ spec.meaning_at (counts_in self.now) scope kind (option_copied point.entry) }
+    {
+        match (scope, kind) {
+            (Scope::Local, DeclaredType::Elementary(kind)) => Meaning::Variable {
+                slot: Slot::Variable(self.variables.len()),
+                kind,
+                writable: true,
+            },
+            (Scope::External, DeclaredType::Elementary(kind)) => Meaning::Variable {
+                slot: Slot::External(self.externals.len()),
+                kind,
+                writable: is_writable(point),
+            },
+            (_, DeclaredType::Timer(_)) => Meaning::Timer(self.timers.len()),
+        }
+    }
+
+    /// Adds an external of a type, if its point is there.
+    fn add_external(
+        &mut self,
+        name: Text,
+        kind: ElementaryType,
+        point: Option<&Point>,
+    ) -> Result<(), AllocError>
+        ensures externals { OnOk result (self.new.externals.items
+            ≡ self.old.externals.items ++ option_to_list (external_named name kind (option_copied point.entry))) }
+        ensures others { OnOk result (SameButExternals self.old self.new) }
+    {
+        if let Some(point) = point {
+            self.externals.push(External {
+                name,
+                kind,
+                writable: point.writable,
+                origin: point.origin,
+            })?;
+        }
+        Ok(())
+    }
+
+    /// Adds a variable, if its initial value is right.
+    fn add_variable(&mut self, name: Text, initial: Option<Value>) -> Result<(), AllocError>
+        ensures variables { OnOk result (self.new.variables.items ≡ self.old.variables.items ++ option_to_list (variable_named name initial)) }
+        ensures others { OnOk result (SameButVariables self.old self.new) }
+    {
+        if let Some(initial) = initial {
+            self.variables.push(Variable { name, initial })?;
+        }
+        Ok(())
+    }
+
+    fn add_timer(&mut self, name: Text, kind: TimerKind) -> Result<(), AllocError>
+        ensures timers { OnOk result (self.new.timers.items ≡ self.old.timers.items ++ record { name = name; kind = kind } ∷ []) }
+        ensures others { OnOk result (SameButTimers self.old self.new) }
+    {
+        self.timers.push(Timer { name, kind })?;
+        Ok(())
+    }
+
+    /// Adds what a declaration declares, whose name in upper case is given.
+    fn add(
+        &mut self,
+        name: Text,
+        declaration: Declaration<'_>,
+        point: Option<&Point>,
+    ) -> Result<(), AllocError>
+        ensures { OnOk result (Adds name (declared_of declaration.entry) (option_copied point.entry) self.old self.new) }
+    {
+        match declaration.kind {
+            DeclaredType::Timer(kind) => self.add_timer(name, kind),
+            DeclaredType::Elementary(kind) => match declaration.scope {
+                Scope::External => self.add_external(name, kind, point),
+                Scope::Local => self.add_variable(name, initial_in(kind, declaration.initial)),
+            },
+        }
+    }
+
+    /// Takes one declaration.
+    fn declare(&mut self, points: &[Point], declaration: &Declaration<'_>) -> Result<(), AllocError>
+        ensures { OnOk result (Takes points.now (declared_of declaration.now) self.old self.new) }
+    {
+        let point = point_of(points, declaration.name);
+        let is_full = self.is_full(declaration.kind);
+        let meaning = self.next_meaning(declaration.scope, declaration.kind, point);
+        let name = upper_case(self.alloc, declaration.name)?;
+        let text = Text::from_str(self.alloc, name.as_str())?;
+        let is_known = add_meaning(&mut self.meanings, name, meaning)?;
+        self.found = declaration_fault(self.found, point, is_known, is_full, *declaration);
+        self.add(text, *declaration, point)?;
         Ok(())
     }
 }
@@ -240,11 +286,11 @@ pub(crate) fn declare_all(
     declarations: &[Declaration<'_>],
 ) -> Result<Declarations, AllocError>
     ensures stands { IfOk result (λ d. StandsFor points.now (map declared_of declarations.now) d) }
-    ensures found { IfOk result (λ d. d.found ≡ spec.first_fault (spec.declarations_faults points.now [] (map declared_of declarations.now))) }
+    ensures found { IfOk result (λ d. d.found ≡ least_fault (spec.declarations_faults points.now [] (map declared_of declarations.now))) }
 {
     let mut declared = Declarations::new(alloc);
     for declaration in declarations {
-        declared.declare(alloc, points, declaration)?;
+        declared.declare(points, declaration)?;
     }
     Ok(declared)
 }

@@ -9,25 +9,34 @@ use thiserror::Error;
 /// Why a program is refused, with the line of the fault, counted from 1.
 #[derive(Clone, Copy, Debug, PartialEq, Eq, Error)]
 pub enum CheckFault {
-    /// The line can be read, and is outside the language that is checked.
-    #[error("the line is outside the language that is checked")]
-    OutsideSubset { line: usize },
     /// A name is not declared, or an external's name is no point.
     #[error("the name is unknown")]
     UnknownName { line: usize },
-    /// A name is declared twice.
+    /// A name is declared twice, or two labels have it.
     #[error("the name is declared twice")]
     DuplicateName { line: usize },
-    /// An external's type is not its point's.
-    #[error("the type is not the point's")]
+    /// A type is not the one that is wanted, or a name does not mean what is wanted.
+    #[error("the type is not the one that is wanted")]
     TypeMismatch { line: usize },
-    /// The result is used before it is set.
+    /// The result is used where it is not set.
     #[error("the result is not set")]
     UnsetResult { line: usize },
-    /// A point that may only be read is written.
-    #[error("the point may only be read")]
+    /// A jump goes to a label above.
+    #[error("the jump goes backward")]
+    BackwardJump { line: usize },
+    /// A jump goes to a label that is not there.
+    #[error("the label is unknown")]
+    UnknownLabel { line: usize },
+    /// An instruction can't be reached.
+    #[error("the instruction can't be reached")]
+    Unreachable { line: usize },
+    /// What may only be read is written.
+    #[error("the variable may only be read")]
     ReadOnly { line: usize },
-    /// More than 512 names are declared.
+    /// A divisor is not a literal, or is 0.
+    #[error("the divisor is not a literal other than 0")]
+    ZeroDivisor { line: usize },
+    /// More than 512 variables, 64 timers or 256 labels are declared.
     #[error("too many names are declared")]
     TooMany { line: usize },
     /// There is not enough memory for the program.
@@ -36,18 +45,22 @@ pub enum CheckFault {
 }
 
 impl CheckFault {
-    /// The fault's number: 61 outside the language that is checked, 70 unknown name, 71 duplicate name,
-    /// 72 type mismatch, 73 unset result, 77 read-only, 79 too many; want of memory has none.
+    /// The fault's number: 70 unknown name, 71 duplicate name, 72 type mismatch, 73 unset result, 74 backward
+    /// jump, 75 unknown label, 76 unreachable, 77 read-only, 78 zero divisor, 79 too many; want of memory has
+    /// none.
     pub fn code(self) -> Option<u8>
         ensures { result ≡ code_of self }
     {
         match self {
-            CheckFault::OutsideSubset { .. } => Some(61),
             CheckFault::UnknownName { .. } => Some(70),
             CheckFault::DuplicateName { .. } => Some(71),
             CheckFault::TypeMismatch { .. } => Some(72),
             CheckFault::UnsetResult { .. } => Some(73),
+            CheckFault::BackwardJump { .. } => Some(74),
+            CheckFault::UnknownLabel { .. } => Some(75),
+            CheckFault::Unreachable { .. } => Some(76),
             CheckFault::ReadOnly { .. } => Some(77),
+            CheckFault::ZeroDivisor { .. } => Some(78),
             CheckFault::TooMany { .. } => Some(79),
             CheckFault::OutOfMemory => None,
         }
@@ -58,12 +71,15 @@ impl CheckFault {
         ensures { result ≡ line_of self }
     {
         match self {
-            CheckFault::OutsideSubset { line }
-            | CheckFault::UnknownName { line }
+            CheckFault::UnknownName { line }
             | CheckFault::DuplicateName { line }
             | CheckFault::TypeMismatch { line }
             | CheckFault::UnsetResult { line }
+            | CheckFault::BackwardJump { line }
+            | CheckFault::UnknownLabel { line }
+            | CheckFault::Unreachable { line }
             | CheckFault::ReadOnly { line }
+            | CheckFault::ZeroDivisor { line }
             | CheckFault::TooMany { line } => line,
             CheckFault::OutOfMemory => 0,
         }

@@ -1,8 +1,7 @@
 // The fault that is answered, as faults are found one after another.
 ghost use Rattle.std.specs.Prelude.{◌≡◌};
-ghost use Rattle.il_check.specs.Noted.{noted};
-ghost use Rattle.il_check.specs.WellTyped as spec;
-ghost use Rattle.il_check.specs.WellTyped.{fault_if};
+ghost use Rattle.il_check.specs.Faults as spec;
+ghost use Rattle.il_check.specs.Faults.{fault_if, noted};
 
 use crate::fault::CheckFault;
 
@@ -16,18 +15,25 @@ fn is_lower(first: Option<u8>, second: Option<u8>) -> bool
     }
 }
 
-/// Of a fault and a later one: the later one where it is of the same line and has a lower number.
-fn better(first: CheckFault, second: CheckFault) -> CheckFault
-    ensures { result ≡ spec.better first second }
+/// Whether a fault comes before another: by its line, and on one line by its number.
+fn is_before(first: CheckFault, second: CheckFault) -> bool
+    ensures { result ≡ spec.is_before first second }
 {
-    if second.line() == first.line() && is_lower(second.code(), first.code()) {
+    let is_same = first.line() == second.line();
+    first.line() < second.line() || (is_same && is_lower(first.code(), second.code()))
+}
+
+fn lesser(first: CheckFault, second: CheckFault) -> CheckFault
+    ensures { result ≡ spec.lesser first second }
+{
+    if is_before(second, first) {
         second
     } else {
         first
     }
 }
 
-/// The fault that is answered, where the test adds a later one.
+/// The fault that is answered, where the test adds a further one.
 pub(crate) fn note_if(
     found: Option<CheckFault>,
     test: bool,
@@ -39,7 +45,7 @@ pub(crate) fn note_if(
         return found;
     }
     match found {
-        Some(first) => Some(better(first, fault)),
+        Some(first) => Some(lesser(first, fault)),
         None => Some(fault),
     }
 }

@@ -1,62 +1,132 @@
-// A checked program: each name is resolved to a slot.
-ghost use Rattle.std.specs.Prelude.{vec_len, All};
-ghost use Rattle.il_check.specs.Slots.{AreApart, IsWithin, names_of};
+// A checked program: each name is resolved to what it means, and each literal has its type.
+ghost use Rattle.std.specs.Prelude.{◌≡◌};
 
 use bay_base::text::Text;
+use bay_base::types::ElementaryType;
 use bay_config::bay::Origin;
+use il_image::value::Value;
+use il_text::program::{Condition, Conversion, Input, Operator, Output, StoreKind, TimerKind};
 
-/// An operator of two truth values (IEC 61131-3:2003, table 52).
-#[derive(Clone, Copy, Debug, PartialEq, Eq)]
-pub enum Connective {
-    And,
-    Or,
+/// A variable that is given to the program (IEC 61131-3:2003, 2.4.3, VAR_EXTERNAL): a point of the bay.
+#[derive(Debug, Drop)]
+pub struct External {
+    /// Its name, in upper case.
+    pub name: Text,
+    pub kind: ElementaryType,
+    /// Whether the program may write it.
+    pub writable: bool,
+    /// What its point stands for.
+    pub origin: Origin,
 }
 
-/// What an instruction reads.
-#[derive(Clone, Copy, Debug, PartialEq, Eq)]
-pub enum Source {
-    Literal(bool),
-    Slot(usize),
-}
-
-/// An instruction on slots (IEC 61131-3:2003, table 52).
-#[derive(Clone, Copy, Debug, PartialEq, Eq)]
-pub enum TypedInstruction {
-    /// The source, or with negation its opposite, becomes the current result.
-    Load {
-        negated: bool,
-        source: Source,
-    },
-    /// The current result is stored.
-    Store {
-        slot: usize,
-    },
-    /// The current result is combined with the source.
-    Combine {
-        connective: Connective,
-        source: Source,
-    },
-}
-
-/// A variable of a program (IEC 61131-3:2003, 2.4.3), which has a slot.
+/// A variable of the program (IEC 61131-3:2003, 2.4.3, VAR).
 #[derive(Debug, Drop)]
 pub struct Variable {
     /// Its name, in upper case.
     pub name: Text,
-    /// What it stands for, if it is external.
-    pub origin: Option<Origin>,
-    /// The value that it begins with; FALSE where it is external.
-    pub initial: bool,
-    /// Whether the program may write it.
-    pub writable: bool,
+    /// The value that it begins with, which has its type.
+    pub initial: Value,
 }
 
-/// A checked program. Its slots are its variables, in the order of their declarations, and its instructions
-/// name no other slot.
+/// A timer of the program (IEC 61131-3:2003, 2.5.2.3.4).
 #[derive(Debug, Drop)]
-pub struct Typed {
-    pub variables: Vec<Variable>,
-    pub instructions: Vec<TypedInstruction>,
-    ghost apart: { AreApart (names_of variables.items) },
-    ghost within: { All (IsWithin (vec_len variables)) instructions.items },
+pub struct Timer {
+    /// Its name, in upper case.
+    pub name: Text,
+    pub kind: TimerKind,
+}
+
+/// Where a value lives: the external, or the variable, at this place in the order of the declarations.
+#[derive(Clone, Copy, Debug, PartialEq, Eq)]
+pub enum Slot {
+    External(usize),
+    Variable(usize),
+}
+
+/// What an instruction reads.
+#[derive(Clone, Copy, Debug, PartialEq, Eq)]
+pub enum TypedOperand {
+    Literal(Value),
+    Slot(Slot),
+    /// An output of the timer at this place.
+    Output { timer: usize, output: Output },
+}
+
+/// An instruction that may stand in a parenthesis (IEC 61131-3:2003, table 52).
+#[derive(Clone, Copy, Debug, PartialEq, Eq)]
+pub enum Operation {
+    /// `LD`, `LDN`
+    Load {
+        negated: bool,
+        operand: TypedOperand,
+    },
+    /// `ST`, `STN`, `S`, `R`
+    Store {
+        kind: StoreKind,
+        slot: Slot,
+    },
+    /// An operator on the result and an operand, which are both of this type.
+    Combine {
+        operator: Operator,
+        kind: ElementaryType,
+        negated: bool,
+        operand: TypedOperand,
+    },
+    /// `NOT`
+    Not,
+    /// `INT_TO_DINT`, `DINT_TO_LINT`
+    Convert(Conversion),
+}
+
+/// An operation, or a parenthesis: an operator on the result and what its entries give, which are both of
+/// this type.
+#[derive(Debug, Drop)]
+pub enum TypedEntry {
+    Operation(Operation),
+    Block {
+        operator: Operator,
+        kind: ElementaryType,
+        negated: bool,
+        entries: Vec<TypedEntry>,
+    },
+}
+
+/// What a call gives to one input of a timer.
+#[derive(Clone, Copy, Debug, PartialEq, Eq)]
+pub struct TypedArgument {
+    pub input: Input,
+    pub operand: TypedOperand,
+}
+
+/// The arguments of a call, in the order of the text.
+#[derive(Clone, Copy, Debug, PartialEq, Eq)]
+pub enum TypedArguments {
+    None,
+    One(TypedArgument),
+    Two(TypedArgument, TypedArgument),
+}
+
+/// An instruction that moves on elsewhere, or calls (IEC 61131-3:2003, table 52).
+#[derive(Clone, Copy, Debug, PartialEq, Eq)]
+pub enum Transfer {
+    /// A jump to the label with this number, which stands below.
+    Jump {
+        condition: Condition,
+        label: usize,
+    },
+    /// The end of the program's run.
+    Return(Condition),
+    /// `CAL` of the timer at this place.
+    Call {
+        timer: usize,
+        arguments: TypedArguments,
+    },
+}
+
+/// An item of a program. Labels are numbered from 0 in the order of the text.
+#[derive(Debug, Drop)]
+pub enum TypedItem {
+    Label(usize),
+    Transfer(Transfer),
+    Entry(TypedEntry),
 }

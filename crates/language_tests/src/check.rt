@@ -1,226 +1,156 @@
-// A table of programs with their refusals, the limit of names, and one program on slots.
+// What is left of a checked program, and what faults say.
 use bay_base::text::Text;
 use bay_base::types::ElementaryType;
 use bay_config::bay::{Origin, Point, SwitchPoint};
 use il_check::check::check;
 use il_check::fault::CheckFault;
-use il_check::typed::{Connective, Source, TypedInstruction};
+use il_check::program::Typed;
+use il_check::typed::{
+    Operation, Slot, Transfer, TypedArgument, TypedArguments, TypedEntry, TypedItem, TypedOperand,
+};
+use il_image::value::Value;
+use il_text::program::{Condition, Input, Operator, Output, StoreKind};
 use il_text::read::read_program;
-use std::alloc::{AllocError, Global};
+use std::alloc::Global;
 use std::test::Fail;
 
-fn point(
-    alloc: Global,
-    name: &str,
-    kind: ElementaryType,
-    writable: bool,
-    point: SwitchPoint,
-) -> Result<Point, AllocError> {
-    Ok(Point {
-        name: Text::from_str(alloc, name)?,
-        kind,
-        writable,
-        origin: Origin::Switch { switch: 0, point },
-    })
-}
+const ENABLE: Origin = Origin::Switch {
+    switch: 0,
+    point: SwitchPoint::EnableOpen,
+};
 
-/// Three points of a switch: its position, whether it is open, and whether it may be opened.
-fn points(alloc: Global) -> Result<Vec<Point>, AllocError> {
-    let (whole, truth) = (ElementaryType::Int, ElementaryType::Bool);
-    let position = point(alloc, "QA1_POS", whole, false, SwitchPoint::Position)?;
-    let open = point(alloc, "QA1_OPEN", truth, false, SwitchPoint::Open)?;
-    let enable = point(alloc, "QA1_ENA_OPN", truth, true, SwitchPoint::EnableOpen)?;
-    Ok(vec![in alloc; position, open, enable]?)
-}
-
-/// The fault's number and line; 0 and 0 where the program passes.
-fn outcome(alloc: Global, text: &str) -> Result<(u8, usize), Fail> {
-    let points = points(alloc)?;
-    let program = read_program(alloc, text)?;
-    match check(alloc, &program, points.as_slice()) {
-        Ok(_) => Ok((0, 0)),
-        Err(fault) => Ok((fault.code().ok_or(fault)?, fault.line())),
-    }
-}
-
-const TEXTS: [(&str, u8, usize); 23] = [
-    ("PROGRAM P\nEND_PROGRAM\n", 0, 0),
-    ("PROGRAM P\nLD TRUE\nLDN b\nEND_PROGRAM\n", 70, 3),
-    (
-        "PROGRAM P\nVAR_EXTERNAL\nQA1_OPN : BOOL;\nEND_VAR\nEND_PROGRAM\n",
-        70,
-        3,
-    ),
-    (
-        "PROGRAM P\nVAR\na : BOOL;\nEND_VAR\nVAR\nA : BOOL;\nEND_VAR\nEND_PROGRAM\n",
-        71,
-        6,
-    ),
-    (
-        "PROGRAM P\nVAR_EXTERNAL\nQA1_POS : BOOL;\nEND_VAR\nEND_PROGRAM\n",
-        72,
-        3,
-    ),
-    (
-        "PROGRAM P\nVAR\na : BOOL;\nEND_VAR\nST a\nEND_PROGRAM\n",
-        73,
-        5,
-    ),
-    ("PROGRAM P\n\nOR TRUE\nEND_PROGRAM\n", 73, 3),
-    (
-        "PROGRAM P\nVAR_EXTERNAL\nQA1_OPEN : BOOL;\nEND_VAR\nLD TRUE\nST QA1_OPEN\nEND_PROGRAM\n",
-        77,
-        6,
-    ),
-    (
-        "PROGRAM P\nVAR_EXTERNAL\nQA1_ENA_OPN : BOOL;\nEND_VAR\nLD TRUE\nST QA1_ENA_OPN\nEND_PROGRAM\n",
-        0,
-        0,
-    ),
-    // A variable hides the point of its name.
-    (
-        "PROGRAM P\nVAR\nQA1_OPEN : BOOL;\nEND_VAR\nLD TRUE\nST qa1_open\nEND_PROGRAM\n",
-        0,
-        0,
-    ),
-    // Of one line the lowest number.
-    ("PROGRAM P\nST b\nEND_PROGRAM\n", 70, 2),
-    (
-        "PROGRAM P\nVAR_EXTERNAL\nQA1_OPEN : BOOL;\nEND_VAR\nST QA1_OPEN\nEND_PROGRAM\n",
-        73,
-        5,
-    ),
-    (
-        "PROGRAM P\nVAR_EXTERNAL\nQA1_POS, qa1_pos : BOOL;\nEND_VAR\nEND_PROGRAM\n",
-        71,
-        3,
-    ),
-    (
-        "PROGRAM P\nVAR_EXTERNAL\nQA1_POS, b : BOOL;\nEND_VAR\nEND_PROGRAM\n",
-        70,
-        3,
-    ),
-    // Of two lines the first.
-    (
-        "PROGRAM P\nVAR_EXTERNAL\nQA1_OPEN : BOOL;\nEND_VAR\nLD TRUE\nST QA1_OPEN\nLD b\nEND_PROGRAM\n",
-        77,
-        6,
-    ),
-    (
-        "PROGRAM P\nVAR_EXTERNAL\nQA1_POS : BOOL;\nb : BOOL;\nEND_VAR\nEND_PROGRAM\n",
-        72,
-        3,
-    ),
-    ("PROGRAM P\nAND TRUE\nLD b\nEND_PROGRAM\n", 73, 2),
-    // What is outside of what is checked as yet.
-    ("PROGRAM P\nVAR\nx : INT;\nEND_VAR\nEND_PROGRAM\n", 61, 3),
-    (
-        "PROGRAM P\nVAR\nx : BOOL := 1;\nEND_VAR\nEND_PROGRAM\n",
-        61,
-        3,
-    ),
-    ("PROGRAM P\nLD TRUE\nNOT\nEND_PROGRAM\n", 61, 3),
-    ("PROGRAM P\nL: LD TRUE\nEND_PROGRAM\n", 61, 2),
-    ("PROGRAM P\nLD TRUE\nANDN b\nEND_PROGRAM\n", 61, 3),
-    ("PROGRAM P\nLD b\nLD 5\nEND_PROGRAM\n", 70, 2),
-];
-
-#[test]
-fn texts(rt: HostRuntime) -> Result<(), Fail> {
-    for (text, code, line) in TEXTS {
-        let (found_code, found_line) = outcome(rt.alloc(), text)?;
-        assert!(rt; found_code == code && found_line == line, "{text}");
-    }
-    Ok(())
-}
-
-/// A program that declares so many names, each on a line of its own from the third on.
-fn long_text(alloc: Global, count: usize) -> Result<String, AllocError> {
-    let mut text = String::from_str(alloc, "PROGRAM P\nVAR\n")?;
-    for i in 0..count {
-        let line = format!(in alloc; "v{i} : BOOL;\n")?;
-        text.push_str(line.as_str())?;
-    }
-    text.push_str("END_VAR\nEND_PROGRAM\n")?;
-    Ok(text)
-}
-
-#[test]
-fn lengths(rt: HostRuntime) -> Result<(), Fail> {
-    let fits = long_text(rt.alloc(), 512)?;
-    assert_eq!(rt; outcome(rt.alloc(), fits.as_str())?, (0, 0));
-    let long = long_text(rt.alloc(), 514)?;
-    assert_eq!(rt; outcome(rt.alloc(), long.as_str())?, (79, 515));
-    Ok(())
-}
-
-const PROGRAM: &str =
-    "PROGRAM P\nVAR_EXTERNAL\nqa1_Ena_Opn : BOOL;\nEND_VAR\nVAR\nx : BOOL := TRUE;\ny : BOOL;\nEND_VAR\nLDN Y\nOR X\nAND FALSE\nST QA1_ENA_OPN\nEND_PROGRAM\n";
-
-#[test]
-fn slots(rt: HostRuntime) -> Result<(), Fail> {
-    let points = points(rt.alloc())?;
-    let program = read_program(rt.alloc(), PROGRAM)?;
-    let typed = check(rt.alloc(), &program, points.as_slice())?;
-    let enable = Origin::Switch {
-        switch: 0,
-        point: SwitchPoint::EnableOpen,
+/// The checked program of a text, for a bay whose only point is QA1_ENA_OPN.
+fn checked(alloc: Global, text: &str) -> Result<Typed, Fail> {
+    let point = Point {
+        name: Text::from_str(alloc, "QA1_ENA_OPN")?,
+        kind: ElementaryType::Bool,
+        writable: true,
+        origin: ENABLE,
     };
-    assert_eq!(rt; typed.variables.len(), 3);
-    for (variable, (name, origin, initial)) in typed.variables.iter().zip([
-        ("QA1_ENA_OPN", Some(enable), false),
-        ("X", None, true),
-        ("Y", None, false),
-    ]
-    .iter())
-    {
-        assert_eq!(rt; variable.name.as_str(), *name);
-        assert!(rt; variable.origin == *origin && variable.initial == *initial);
-        assert!(rt; variable.writable, "{name}");
+    let points = vec![in alloc; point]?;
+    let program = read_program(alloc, text)?;
+    Ok(check(alloc, &program, points.as_slice())?)
+}
+
+fn declared() -> &'static str {
+    "PROGRAM P\nVAR\nd : DINT := 7;\nt1 : TON;\nEND_VAR\nVAR_EXTERNAL\nqa1_Ena_Opn : BOOL;\nEND_VAR\n"
+}
+
+#[test]
+fn declarations(rt: HostRuntime) -> Result<(), Fail> {
+    let text = format!(in rt.alloc(); "{}END_PROGRAM\n", declared())?;
+    let typed = checked(rt.alloc(), text.as_str())?;
+    for external in typed.externals() {
+        assert_eq!(rt; external.name.as_str(), "QA1_ENA_OPN");
+        assert!(rt; external.kind == ElementaryType::Bool && external.writable);
+        assert!(rt; external.origin == ENABLE);
     }
+    for variable in typed.variables() {
+        assert_eq!(rt; variable.name.as_str(), "D");
+        assert!(rt; variable.initial == Value::Long(7));
+    }
+    for timer in typed.timers() {
+        assert_eq!(rt; timer.name.as_str(), "T1");
+    }
+    assert_eq!(rt; typed.externals().len(), 1);
+    assert_eq!(rt; typed.variables().len(), 1);
+    assert_eq!(rt; typed.timers().len(), 1);
+    Ok(())
+}
+
+/// The operation of an item, if it is one.
+fn operation_of(item: Option<&TypedItem>) -> Option<Operation> {
+    match item {
+        Some(TypedItem::Entry(TypedEntry::Operation(operation))) => Some(*operation),
+        _ => None,
+    }
+}
+
+#[test]
+fn operations(rt: HostRuntime) -> Result<(), Fail> {
+    let lines = "LD 40000\nADD d\nGT 5\nST QA1_ENA_OPN\nEND_PROGRAM\n";
+    let text = format!(in rt.alloc(); "{}{lines}", declared())?;
+    let typed = checked(rt.alloc(), text.as_str())?;
     let expected = [
-        TypedInstruction::Load {
-            negated: true,
-            source: Source::Slot(2),
+        Operation::Load {
+            negated: false,
+            operand: TypedOperand::Literal(Value::Long(40_000)),
         },
-        TypedInstruction::Combine {
-            connective: Connective::Or,
-            source: Source::Slot(1),
+        Operation::Combine {
+            operator: Operator::Add,
+            kind: ElementaryType::Dint,
+            negated: false,
+            operand: TypedOperand::Slot(Slot::Variable(0)),
         },
-        TypedInstruction::Combine {
-            connective: Connective::And,
-            source: Source::Literal(false),
+        Operation::Combine {
+            operator: Operator::Gt,
+            kind: ElementaryType::Dint,
+            negated: false,
+            operand: TypedOperand::Literal(Value::Long(5)),
         },
-        TypedInstruction::Store { slot: 0 },
+        Operation::Store {
+            kind: StoreKind::Plain,
+            slot: Slot::External(0),
+        },
     ];
-    assert!(rt; typed.instructions.as_slice() == expected.as_slice());
+    assert_eq!(rt; typed.items().len(), 4);
+    for (i, operation) in expected.iter().enumerate() {
+        assert!(rt; operation_of(typed.items().get(i)) == Some(*operation), "{i}");
+    }
+    Ok(())
+}
+
+/// The jump, return or call that an item is, if it is one.
+fn transfer_of(item: Option<&TypedItem>) -> Option<Transfer> {
+    match item {
+        Some(TypedItem::Transfer(transfer)) => Some(*transfer),
+        _ => None,
+    }
+}
+
+#[test]
+fn transfers(rt: HostRuntime) -> Result<(), Fail> {
+    let lines = "CAL T1(PT := T#5s)\nLD t1.q\nJMPC L\nRET\nl:\nEND_PROGRAM\n";
+    let text = format!(in rt.alloc(); "{}{lines}", declared())?;
+    let typed = checked(rt.alloc(), text.as_str())?;
+    let preset = TypedArgument {
+        input: Input::Pt,
+        operand: TypedOperand::Literal(Value::Span(5_000)),
+    };
+    let call = Transfer::Call {
+        timer: 0,
+        arguments: TypedArguments::One(preset),
+    };
+    let jump = Transfer::Jump {
+        condition: Condition::IfTrue,
+        label: 0,
+    };
+    let load = Operation::Load {
+        negated: false,
+        operand: TypedOperand::Output {
+            timer: 0,
+            output: Output::Q,
+        },
+    };
+    assert_eq!(rt; typed.items().len(), 5);
+    assert!(rt; transfer_of(typed.items().get(0)) == Some(call));
+    assert!(rt; operation_of(typed.items().get(1)) == Some(load));
+    assert!(rt; transfer_of(typed.items().get(2)) == Some(jump));
+    assert!(rt; transfer_of(typed.items().get(3)) == Some(Transfer::Return(Condition::Always)));
     Ok(())
 }
 
 #[test]
 fn messages(rt: HostRuntime) -> Result<(), Fail> {
     let faults = [
-        (
-            CheckFault::OutsideSubset { line: 1 },
-            "the line is outside the language that is checked",
-        ),
         (CheckFault::UnknownName { line: 1 }, "the name is unknown"),
         (
-            CheckFault::DuplicateName { line: 1 },
-            "the name is declared twice",
+            CheckFault::BackwardJump { line: 1 },
+            "the jump goes backward",
         ),
         (
-            CheckFault::TypeMismatch { line: 1 },
-            "the type is not the point's",
-        ),
-        (CheckFault::UnsetResult { line: 1 }, "the result is not set"),
-        (
-            CheckFault::ReadOnly { line: 1 },
-            "the point may only be read",
-        ),
-        (
-            CheckFault::TooMany { line: 1 },
-            "too many names are declared",
+            CheckFault::Unreachable { line: 1 },
+            "the instruction can't be reached",
         ),
         (CheckFault::OutOfMemory, "out of memory"),
     ];

@@ -1,5 +1,5 @@
 use Rattle.std.proofs.Common.{◌≡◌, map, take}
-use Rattle.il_check.specs.declared.typed.Variable.{Variable}
+use Rattle.bay_device.specs.declared.straight.Variable.{Variable}
 use Rattle.bay_device.proofs.bind.initial_values.Given as goal
 
 abbrev pub invariant-loop-variable : goal.invariant-loop-variable

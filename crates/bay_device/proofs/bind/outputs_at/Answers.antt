@@ -1,7 +1,7 @@
 use Rattle.std.proofs.Common.{◌≡◌, position, refl}
 use Rattle.bay_config.specs.declared.bay.SwitchPoint.{SwitchPoint}
 use Rattle.bay_config.specs.declared.bay.SwitchPoint.TheVariants.{EnableOpen, EnableClose}
-use Rattle.il_check.specs.declared.typed.Variable.{Variable}
+use Rattle.bay_device.specs.declared.straight.Variable.{Variable}
 use Rattle.bay_device.specs.Device.{is_point}
 use Rattle.bay_device.specs.Slots.{origins_of}
 use Rattle.bay_device.proofs.ListLemmas.{position_mapped}

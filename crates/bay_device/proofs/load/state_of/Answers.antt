@@ -1,5 +1,6 @@
 use Rattle.std.proofs.Common.{◌≡◌, length, ap, sym, ◌∙◌}
-use Rattle.il_check.specs.TypedView.{typed_view}
+use Rattle.il_check.specs.ProgramViews.{checked_view}
+use Rattle.bay_device.specs.Straight.{straight_of}
 use Rattle.bay_device.specs.Bound.{bound_from}
 use Rattle.bay_device.specs.Layout.{Layout, layout_of, switches_of}
 use Rattle.bay_device.specs.Nodes.{AreAllRows}
@@ -35,4 +36,4 @@ returns c =
     let same : length rows ≡ length c.in_ok-nodes.nodes.items = c.in_ok-rows.ensures.sized ∙ ap length c.as_slice.ensures.value in
     let made : c.new.result ≡ bound_from slots 0 bay.switches rows = c.new.ensures ∙ rw (c.as_slice-2.ensures.value, c.as_slice-3.ensures, c.into_vec-2.ensures) at c.in_ok-switches.ensures in
     let switches : switches_of c.new.result ≡ bay.switches = ap switches_of made ∙ bound-switches slots 0 bay.switches rows (sym c.in_ok-nodes.ensures.sized ∙ sym same) in
-    loaded-view bay (typed_view c.args.typed) c.in_ok-program.program c.in_ok-program.values c.in_ok-tree.tree (switches_of c.new.result) c.in_ok-program.ensures (c.in_ok-tree.ensures ∙ c.into_vec.ensures) switches
+    loaded-view bay (straight_of (checked_view c.args.typed)) c.in_ok-program.program c.in_ok-program.values c.in_ok-tree.tree (switches_of c.new.result) c.in_ok-program.ensures (c.in_ok-tree.ensures ∙ c.into_vec.ensures) switches

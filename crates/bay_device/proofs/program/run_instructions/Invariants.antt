@@ -1,6 +1,6 @@
 use Rattle.std.proofs.Common.{◌≡◌, ℕ, List, length, drop, None}
-use Rattle.il_check.specs.Meaning.{mean_from}
-use Rattle.il_check.specs.Slots.{AreApart, items_named}
+use Rattle.bay_device.specs.Meaning.{mean_from}
+use Rattle.bay_device.specs.Named.{AreApart, items_named}
 use Rattle.bay_device.proofs.SlotLemmas.{at_slots}
 use Rattle.bay_device.proofs.program.run_instructions.Given as goal
 

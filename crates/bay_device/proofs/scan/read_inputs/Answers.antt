@@ -1,7 +1,7 @@
 use Rattle.std.proofs.Common.{◌∙◌, ◌≡◌, ◌<◌, length, get_or, sym, ap, arith}
 use Rattle.std.proofs.Math.ListN.{length-set, get_or-map}
 use Rattle.std.proofs.lemmas.List.{length-map}
-use Rattle.il_check.specs.declared.typed.Variable.{Variable}
+use Rattle.bay_device.specs.declared.straight.Variable.{Variable}
 use Rattle.bay_device.specs.Scans.{slot_input}
 use Rattle.bay_device.specs.Slots.{origins_of}
 use Rattle.bay_device.proofs.ScanLemmas.{inputs-turn, inputs-kept}

@@ -1,29 +1,31 @@
-use Rattle.std.proofs.Common.{inr}
+use Rattle.std.proofs.Common.{inr, map, Ok, ap, sym, ◌∙◌}
 use Rattle.il_text.specs.Views.{plain_program}
-use Rattle.il_check.specs.Straight.{program_in}
-use Rattle.il_check.proofs.CheckedLemmas.{IsRead, is_read, refused, within-all, apart-all, passed}
+use Rattle.il_check.specs.ProgramViews.{item_view, checked_view}
+use Rattle.il_check.specs.declared.names.Names.{Names}
+use Rattle.il_check.proofs.CheckedLemmas.{IsRead, is_read, refused, passed, apart_names}
 use Rattle.il_check.proofs.check.check.Goals as goal
+
+pub of_parts-requires : goal.of_parts-requires
+of_parts-requires c =
+    let names : Names = record { meanings = c.in_ok-declared.declared.meanings; labels = c.in_ok-labels.labels.numbers } in
+    let read : IsRead c.args.points.now (plain_program c.args.program.now) c.in_ok-declared.declared c.in_ok-labels.labels names (map item_view c.in_ok-items.items.items) c.items.new.self.found =
+    is_read c.args.points.now c.args.program.now c.as_slice.result.now c.as_slice-2.result.now c.as_slice-3.result.now c.in_ok-declared.declared c.in_ok-labels.labels _ _
+    c.as_slice.ensures.value c.as_slice-2.ensures.value c.as_slice-3.ensures.value c.in_ok-declared.ensures.stands c.in_ok-declared.ensures.found c.in_ok-labels.ensures c.in_ok-items.ensures.left c.in_ok-items.ensures.found in
+    record { apart = apart_names c.args.points.now (plain_program c.args.program.now) c.in_ok-declared.declared c.in_ok-labels.labels names _ _ read c.in-None.is }
 
 pub returns-in-Some : goal.returns-in-Some
 returns-in-Some c =
-    let read : IsRead c.args.points.now (program_in (plain_program c.args.program.now)) c.in_ok-declared.declared c.in_ok-resolved.resolved =
-    is_read c.args.points.now c.args.program.now c.as_slice.result.now c.as_slice-2.result.now c.in_ok-declared.declared c.in_ok-resolved.resolved c.as_slice.ensures.value c.as_slice-2.ensures.value
-    c.in_ok-declared.ensures.stands c.in_ok-declared.ensures.found c.in_ok-resolved.ensures.instructions c.in_ok-resolved.ensures.found in
-    inr (refused c.args.points.now (program_in (plain_program c.args.program.now)) c.in_ok-declared.declared c.in_ok-resolved.resolved read c.in-Some.fault c.in-Some.is)
+    let names : Names = record { meanings = c.in_ok-declared.declared.meanings; labels = c.in_ok-labels.labels.numbers } in
+    let read : IsRead c.args.points.now (plain_program c.args.program.now) c.in_ok-declared.declared c.in_ok-labels.labels names (map item_view c.in_ok-items.items.items) c.items.new.self.found =
+    is_read c.args.points.now c.args.program.now c.as_slice.result.now c.as_slice-2.result.now c.as_slice-3.result.now c.in_ok-declared.declared c.in_ok-labels.labels _ _
+    c.as_slice.ensures.value c.as_slice-2.ensures.value c.as_slice-3.ensures.value c.in_ok-declared.ensures.stands c.in_ok-declared.ensures.found c.in_ok-labels.ensures c.in_ok-items.ensures.left c.in_ok-items.ensures.found in
+    inr (refused c.args.points.now (plain_program c.args.program.now) c.in_ok-declared.declared c.in_ok-labels.labels names _ _ read c.in-Some.fault c.in-Some.is)
 
-pub invariant_of-result : goal.invariant_of-result
-invariant_of-result c =
-    let read : IsRead c.args.points.now (program_in (plain_program c.args.program.now)) c.in_ok-declared.declared c.in_ok-resolved.resolved =
-    is_read c.args.points.now c.args.program.now c.as_slice.result.now c.as_slice-2.result.now c.in_ok-declared.declared c.in_ok-resolved.resolved c.as_slice.ensures.value c.as_slice-2.ensures.value
-    c.in_ok-declared.ensures.stands c.in_ok-declared.ensures.found c.in_ok-resolved.ensures.instructions c.in_ok-resolved.ensures.found in
-    record {
-      apart = apart-all c.args.points.now (program_in (plain_program c.args.program.now)) c.in_ok-declared.declared c.in_ok-resolved.resolved read c.in-None.is;
-      within = within-all c.args.points.now (program_in (plain_program c.args.program.now)) c.in_ok-declared.declared c.in_ok-resolved.resolved read;
-    }
-
-pub returns : goal.returns
-returns c =
-    let read : IsRead c.args.points.now (program_in (plain_program c.args.program.now)) c.in_ok-declared.declared c.in_ok-resolved.resolved =
-    is_read c.args.points.now c.args.program.now c.as_slice.result.now c.as_slice-2.result.now c.in_ok-declared.declared c.in_ok-resolved.resolved c.as_slice.ensures.value c.as_slice-2.ensures.value
-    c.in_ok-declared.ensures.stands c.in_ok-declared.ensures.found c.in_ok-resolved.ensures.instructions c.in_ok-resolved.ensures.found in
-    passed c.args.points.now (program_in (plain_program c.args.program.now)) c.in_ok-declared.declared c.in_ok-resolved.resolved read c.in-None.is
+pub returns-in-None : goal.returns-in-None
+returns-in-None c =
+    let names : Names = record { meanings = c.in_ok-declared.declared.meanings; labels = c.in_ok-labels.labels.numbers } in
+    let read : IsRead c.args.points.now (plain_program c.args.program.now) c.in_ok-declared.declared c.in_ok-labels.labels names (map item_view c.in_ok-items.items.items) c.items.new.self.found =
+    is_read c.args.points.now c.args.program.now c.as_slice.result.now c.as_slice-2.result.now c.as_slice-3.result.now c.in_ok-declared.declared c.in_ok-labels.labels _ _
+    c.as_slice.ensures.value c.as_slice-2.ensures.value c.as_slice-3.ensures.value c.in_ok-declared.ensures.stands c.in_ok-declared.ensures.found c.in_ok-labels.ensures c.in_ok-items.ensures.left c.in_ok-items.ensures.found in
+    passed c.args.points.now (plain_program c.args.program.now) c.in_ok-declared.declared c.in_ok-labels.labels names _ _ read c.in-None.is
+    ∙ ap (λ t. Ok (checked_view t)) (sym c.of_parts.ensures)

@@ -1,10 +1,9 @@
-use Rattle.il_check.proofs.StandingLemmas.{so_far-more, so_far-none}
-use Rattle.std.proofs.Common.{None, arith}
-use Rattle.il_text.specs.declared.program.Declaration.{Declaration}
-use Rattle.il_text.specs.declared.program.Scope.TheVariants.{Local}
-use Rattle.il_text.specs.declared.program.DeclaredType.TheVariants.{Elementary}
+use Rattle.std.proofs.Common.{None, [], arith}
 use Rattle.bay_base.specs.declared.types.ElementaryType.TheVariants as elementary
-use Rattle.std.proofs.Common.{[]}
+use Rattle.il_text.specs.declared.program.Declaration.{Declaration}
+use Rattle.il_text.specs.declared.program.DeclaredType.TheVariants.{Elementary}
+use Rattle.il_text.specs.declared.program.Scope.TheVariants.{Local}
+use Rattle.il_check.proofs.StandingLemmas.{so_far-more, so_far-none}
 use Rattle.il_check.proofs.declare.declare_all.Goals as goal
 
 pub loop-declaration-init : goal.loop-declaration-init
@@ -14,9 +13,4 @@ pub loop-declaration-preserved : goal.loop-declaration-preserved
 loop-declaration-preserved c =
     let at : Declaration = record { line = 0; scope = Local; name = record { ref_ptr = (0, 0); now = [] }; kind = Elementary elementary.Bool; initial = None } in
     so_far-more c.args.points.now c.args.declarations.now c.loop-declaration.declaration-index at c.loop-declaration.declared c.declare.new.self
-    c.loop-declaration.declared.variables.ok.0 (omega arith) c.loop-declaration.invariant
-    (record {
-      variables = c.in_ok-declare.ensures.variables;
-      places = c.in_ok-declare.ensures.places;
-      found = c.in_ok-declare.ensures.found;
-    })
+    (omega arith) c.loop-declaration.invariant c.in_ok-declare.ensures

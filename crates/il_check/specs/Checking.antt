@@ -1,0 +1,31 @@
+-- What checking a program comes to: the checked program, or the fault that is answered.
+use Rattle.std.specs.Prelude.{List, [], ◌++◌, map, Result}
+use Rattle.bay_base.specs.Exact.{judged}
+use Rattle.bay_config.specs.declared.bay.Point.{Point}
+use Rattle.il_text.specs.Listing as text
+use Rattle.il_check.specs.Declaring.{names_in, labels_from, externals_of, variables_of, timers_of, declarations_faults}
+use Rattle.il_check.specs.Faults.{least_fault}
+use Rattle.il_check.specs.Program.{Checked}
+use Rattle.il_check.specs.WellTyped.{Standing, first, unreached, items_faults, items_left}
+use Rattle.il_check.specs.declared.fault.CheckFault.{CheckFault}
+
+-- before the first item no jump goes to a label
+abbrev pub start : text.PlainProgram → Standing
+start program = first (map (λ l. unreached) (labels_from 0 program.items))
+
+-- all faults of a program
+abbrev pub faults_of : List Point → text.PlainProgram → List CheckFault
+faults_of points program =
+    declarations_faults points [] program.declarations ++ items_faults (names_in points program) program.items (start program)
+
+abbrev pub checked_program : List Point → text.PlainProgram → Checked
+checked_program points program = record {
+  externals = externals_of points program.declarations;
+  variables = variables_of program.declarations;
+  timers = timers_of program.declarations;
+  items = items_left (names_in points program) program.items (start program);
+}
+
+-- the checked program, or the fault that is answered
+abbrev pub checked_of : List Point → text.PlainProgram → Result Checked CheckFault
+checked_of points program = judged (least_fault (faults_of points program)) (checked_program points program)

@@ -1,0 +1,175 @@
+-- What the declarations of a program mean (IEC 61131-3:2003, 2.4.3), and their faults.
+use Rattle.std.specs.Prelude.{ℕ, ◌+◌, pos, Bool, true, false, not, ◌&&◌, nat_le, is_some, is_none, List, [], ◌∷◌, ◌++◌, length, find, filter_map, Option, None, Some, if◌then◌else◌}
+use Rattle.std.specs.Str.{bytes_eq}
+use Rattle.bay_base.specs.Names.{upper, same_name}
+use Rattle.bay_base.specs.Types.{same_type}
+use Rattle.bay_base.specs.declared.types.ElementaryType.{ElementaryType}
+use Rattle.bay_base.specs.declared.types.ElementaryType.TheVariants as elementary
+use Rattle.bay_config.specs.declared.bay.Point.{Point}
+use Rattle.il_text.specs.Listing as text
+use Rattle.il_text.specs.declared.program.DeclaredType.{DeclaredType}
+use Rattle.il_text.specs.declared.program.DeclaredType.TheVariants.{Elementary, Timer}
+use Rattle.il_text.specs.declared.program.Literal.{Literal}
+use Rattle.il_text.specs.declared.program.Literal.TheVariants as literal
+use Rattle.il_text.specs.declared.program.Scope.{Scope}
+use Rattle.il_text.specs.declared.program.Scope.TheVariants.{Local, External}
+use Rattle.il_image.specs.declared.value.Value.{Value}
+use Rattle.il_image.specs.declared.value.Value.TheVariants as value
+use Rattle.il_image.specs.Values.{type_of}
+use Rattle.il_check.specs.Faults.{fault_if}
+use Rattle.il_check.specs.Given.{Names}
+use Rattle.il_check.specs.Rules.{number_in}
+use Rattle.il_check.specs.declared.typed.External as given
+use Rattle.il_check.specs.declared.typed.Variable.{Variable}
+use Rattle.il_check.specs.declared.typed.Timer as own
+use Rattle.il_check.specs.declared.typed.Slot.TheVariants as slot
+use Rattle.il_check.specs.declared.given.Meaning.{Meaning}
+use Rattle.il_check.specs.declared.given.Meaning.TheVariants as meaning
+use Rattle.il_check.specs.declared.fault.CheckFault.{CheckFault}
+use Rattle.il_check.specs.declared.fault.CheckFault.TheVariants.{UnknownName, DuplicateName, TypeMismatch, TooMany}
+
+abbrev pub is_external : Scope → Bool
+is_external Local = false
+is_external External = true
+
+abbrev pub point_of : List Point → List ℕ → Option Point
+point_of points name = find (λ p. same_name p.name name) points
+
+abbrev pub of_type : ElementaryType → Value → Option Value
+of_type kind v = if same_type (type_of v) kind then Some v else None
+
+-- the value of a type that a literal is, if it is one
+abbrev pub value_in : ElementaryType → Literal → Option Value
+value_in kind (literal.Truth b) = of_type kind (value.Truth b)
+value_in kind (literal.Number z) = number_in kind z
+value_in kind (literal.Int z) = of_type kind (value.Short z)
+value_in kind (literal.Dint z) = of_type kind (value.Long z)
+value_in kind (literal.Lint z) = of_type kind (value.Wide z)
+value_in kind (literal.Time n) = of_type kind (value.Span n)
+
+-- FALSE, 0, or T#0ms
+abbrev pub default_value : ElementaryType → Value
+default_value elementary.Bool = value.Truth false
+default_value elementary.Int = value.Short (pos 0)
+default_value elementary.Dint = value.Long (pos 0)
+default_value elementary.Lint = value.Wide (pos 0)
+default_value elementary.Time = value.Span 0
+
+-- the value that a variable of a type begins with, if the literal fits it
+abbrev pub initial_in : ElementaryType → Option Literal → Option Value
+initial_in kind None = Some (default_value kind)
+initial_in kind (Some given) = value_in kind given
+
+abbrev pub is_kind_of : Option Point → ElementaryType → Bool
+is_kind_of None kind = true
+is_kind_of (Some p) kind = same_type p.kind kind
+
+-- an external has its point's type; a variable's literal fits it; a timer is no point
+abbrev pub is_typed : Scope → DeclaredType → Option Point → Option Literal → Bool
+is_typed Local (Elementary kind) point given = is_some (initial_in kind given)
+is_typed Local (Timer kind) point given = true
+is_typed External (Elementary kind) point given = is_kind_of point kind
+is_typed External (Timer kind) point given = is_none point
+
+abbrev pub is_writable : Option Point → Bool
+is_writable None = false
+is_writable (Some p) = p.writable
+
+abbrev pub external_at : List ℕ → ElementaryType → Option Point → Option given.External
+external_at name kind None = None
+external_at name kind (Some p) = Some (record { name = upper name; kind = kind; writable = p.writable; origin = p.origin })
+
+-- what a declaration adds to the externals, the variables and the timers
+abbrev pub external_in : List Point → text.Declared → Scope → DeclaredType → Option given.External
+external_in points d External (Elementary kind) = external_at d.name kind (point_of points d.name)
+external_in points d scope kind = None
+
+abbrev pub variable_at : List ℕ → Option Value → Option Variable
+variable_at name None = None
+variable_at name (Some v) = Some (record { name = upper name; initial = v })
+
+abbrev pub variable_in : text.Declared → Scope → DeclaredType → Option Variable
+variable_in d Local (Elementary kind) = variable_at d.name (initial_in kind d.initial)
+variable_in d scope kind = None
+
+abbrev pub timer_in : text.Declared → DeclaredType → Option own.Timer
+timer_in d (Timer kind) = Some (record { name = upper d.name; kind = kind })
+timer_in d (Elementary kind) = None
+
+abbrev pub externals_of : List Point → List text.Declared → List given.External
+externals_of points declared = filter_map (λ d. external_in points d d.scope d.kind) declared
+
+abbrev pub variables_of : List text.Declared → List Variable
+variables_of declared = filter_map (λ d. variable_in d d.scope d.kind) declared
+
+abbrev pub timers_of : List text.Declared → List own.Timer
+timers_of declared = filter_map (λ d. timer_in d d.kind) declared
+
+-- how many externals, variables and timers there are
+pub record Counts : Type 0 where
+  pub externals : ℕ
+  pub variables : ℕ
+  pub timers : ℕ
+
+abbrev pub counts_of : List Point → List text.Declared → Counts
+counts_of points declared = record {
+  externals = length (externals_of points declared);
+  variables = length (variables_of declared);
+  timers = length (timers_of declared);
+}
+
+-- what a name means that is declared behind so many others
+abbrev pub meaning_at : Counts → Scope → DeclaredType → Option Point → Meaning
+meaning_at counts Local (Elementary kind) point = meaning.Variable (slot.Variable counts.variables) kind true
+meaning_at counts External (Elementary kind) point = meaning.Variable (slot.External counts.externals) kind (is_writable point)
+meaning_at counts scope (Timer kind) point = meaning.Timer counts.timers
+
+-- what each declared name means, behind others
+abbrev pub meanings_from : List Point → List text.Declared → List text.Declared → List (List ℕ × Meaning)
+meanings_from points before [] = []
+meanings_from points before (d ∷ ds) =
+    (upper d.name, meaning_at (counts_of points before) d.scope d.kind (point_of points d.name)) ∷ meanings_from points (before ++ d ∷ []) ds
+
+abbrev pub meanings_of : List Point → List text.Declared → List (List ℕ × Meaning)
+meanings_of points declared = meanings_from points [] declared
+
+-- what the first entry of a name in upper case gives
+abbrev pub looked_up : {A : Type 0} → List (List ℕ × A) → List ℕ → Option A
+looked_up [] name = None
+looked_up (e ∷ es) name = if bytes_eq e.0 name then Some e.1 else looked_up es name
+
+-- each label's name and number, from a number on
+abbrev pub labels_from : ℕ → List text.Entry → List (List ℕ × ℕ)
+labels_from number [] = []
+labels_from number (text.label line name ∷ es) = (upper name, number) ∷ labels_from (number + 1) es
+labels_from number (text.action line a ∷ es) = labels_from number es
+labels_from number (text.block line operator negated items end ∷ es) = labels_from number es
+
+-- the names of a program
+abbrev pub names_in : List Point → text.PlainProgram → Names
+names_in points program = record {
+  meaning = λ name. looked_up (meanings_of points program.declarations) (upper name);
+  label = λ name. looked_up (labels_from 0 program.items) (upper name);
+}
+
+-- one variable or timer more is too many: there are 512 externals and variables, or 64 timers
+abbrev pub is_full : Counts → DeclaredType → Bool
+is_full counts (Elementary kind) = nat_le 512 (counts.externals + counts.variables)
+is_full counts (Timer kind) = nat_le 64 counts.timers
+
+-- the faults of a declaration, of which it is known whether its name is declared before, and whether it is one too many
+abbrev pub name_faults : Option Point → Bool → Bool → text.Declared → List CheckFault
+name_faults point is_known is_beyond d =
+    fault_if (is_external d.scope && is_none point) (UnknownName d.line)
+    ++ (fault_if is_known (DuplicateName d.line)
+    ++ (fault_if (not (is_typed d.scope d.kind point d.initial)) (TypeMismatch d.line)
+    ++ fault_if is_beyond (TooMany d.line)))
+
+-- the faults of a declaration behind others
+abbrev pub declaration_faults : List Point → List text.Declared → text.Declared → List CheckFault
+declaration_faults points before d =
+    name_faults (point_of points d.name) (is_some (looked_up (meanings_of points before) (upper d.name))) (is_full (counts_of points before) d.kind) d
+
+abbrev pub declarations_faults : List Point → List text.Declared → List text.Declared → List CheckFault
+declarations_faults points before [] = []
+declarations_faults points before (d ∷ ds) = declaration_faults points before d ++ declarations_faults points (before ++ d ∷ []) ds

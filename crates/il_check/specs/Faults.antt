@@ -1,0 +1,34 @@
+-- The fault that is answered, of all that a program has: the least by its line, and of one line by its number.
+use Rattle.std.specs.Prelude.{ℕ, Bool, false, ◌&&◌, ◌||◌, nat_lt, ◌==◌, List, [], ◌∷◌, Option, None, Some, if◌then◌else◌}
+use Rattle.il_check.specs.Code.{code_of, line_of}
+use Rattle.il_check.specs.declared.fault.CheckFault.{CheckFault}
+
+-- the fault, where the test holds
+abbrev pub fault_if : Bool → CheckFault → List CheckFault
+fault_if test fault = if test then fault ∷ [] else []
+
+-- of two numbers the first is the lower
+abbrev pub is_lower : Option ℕ → Option ℕ → Bool
+is_lower (Some first) (Some second) = nat_lt first second
+is_lower first second = false
+
+-- a fault comes before another: its line is less, or it has a lower number on the same line
+abbrev pub is_before : CheckFault → CheckFault → Bool
+is_before f g = nat_lt (line_of f) (line_of g) || (line_of f == line_of g && is_lower (code_of f) (code_of g))
+
+abbrev pub lesser : CheckFault → CheckFault → CheckFault
+lesser f g = if is_before g f then g else f
+
+abbrev pub least_of : CheckFault → List CheckFault → CheckFault
+least_of f [] = f
+least_of f (g ∷ gs) = least_of (lesser f g) gs
+
+-- the fault that is answered
+abbrev pub least_fault : List CheckFault → Option CheckFault
+least_fault [] = None
+least_fault (f ∷ fs) = Some (least_of f fs)
+
+-- the fault that is answered of those so far, if there are any, and of further ones
+abbrev pub noted : Option CheckFault → List CheckFault → Option CheckFault
+noted None fs = least_fault fs
+noted (Some f) fs = Some (least_of f fs)

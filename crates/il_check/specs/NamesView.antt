@@ -1,0 +1,14 @@
+-- The names of a program in the code.
+use Rattle.std.specs.Prelude.{ℕ, ◌&&◌, is_none, List, Option, Some, if◌then◌else◌}
+use Rattle.std.specs.BTreeMap.{get_by_text}
+use Rattle.std.specs.Str.{bytes_eq}
+use Rattle.bay_base.specs.Names.{upper}
+use Rattle.il_check.specs.Given as spec
+use Rattle.il_check.specs.declared.names.Names.{Names}
+
+abbrev pub names_of : Names → spec.Names
+names_of n = record { meaning = λ name. get_by_text n.meanings (upper name); label = λ name. get_by_text n.labels (upper name) }
+
+-- what names have after a name is given a value, which keeps the one that it has
+abbrev pub with_value : {A : Type 0} → (List ℕ → Option A) → List ℕ → A → List ℕ → Option A
+with_value values name value other = if bytes_eq name other && is_none (values name) then Some value else values other

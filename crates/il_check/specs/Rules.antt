@@ -1,0 +1,274 @@
+-- What an instruction wants of the current result, and what it leaves (IEC 61131-3:2003, 3.2.2 and table 52).
+use Rattle.std.specs.Prelude.{ℕ, ℤ, Bool, true, false, not, ◌&&◌, ◌||◌, is_some, is_none, nat_lt, Option, None, Some, option_map, if◌then◌else◌}
+use Rattle.bay_base.specs.declared.types.ElementaryType.{ElementaryType}
+use Rattle.bay_base.specs.declared.types.ElementaryType.TheVariants as elementary
+use Rattle.bay_base.specs.Types.{same_type}
+use Rattle.il_text.specs.declared.program.Operator.{Operator}
+use Rattle.il_text.specs.declared.program.Operator.TheVariants.{And, Or, Xor, Add, Sub, Mul, Div, Mod, Gt, Ge, Eq, Ne, Le, Lt}
+use Rattle.il_text.specs.declared.program.StoreKind.{StoreKind}
+use Rattle.il_text.specs.declared.program.StoreKind.TheVariants as store
+use Rattle.il_text.specs.declared.program.Condition.{Condition}
+use Rattle.il_text.specs.declared.program.Condition.TheVariants.{Always, IfTrue, IfFalse}
+use Rattle.il_text.specs.declared.program.Conversion.{Conversion}
+use Rattle.il_text.specs.declared.program.Conversion.TheVariants.{IntToDint, DintToLint}
+use Rattle.il_text.specs.declared.program.Input.{Input}
+use Rattle.il_text.specs.declared.program.Input.TheVariants as input
+use Rattle.il_image.specs.declared.value.Value.{Value}
+use Rattle.il_image.specs.Values.{value_of}
+use Rattle.il_check.specs.declared.typed.TypedOperand.{TypedOperand}
+use Rattle.il_check.specs.declared.typed.TypedOperand.TheVariants as operand
+use Rattle.il_check.specs.declared.given.Given.{Given}
+use Rattle.il_check.specs.declared.given.Given.TheVariants.{Missing, Misused, Known, Number}
+use Rattle.il_check.specs.declared.given.Called.{Called}
+use Rattle.il_check.specs.declared.given.Called.TheVariants as called
+use Rattle.il_check.specs.declared.given.GivenArgument.{GivenArgument}
+use Rattle.il_check.specs.declared.given.GivenArguments.{GivenArguments}
+use Rattle.il_check.specs.declared.given.GivenArguments.TheVariants as arguments
+use Rattle.il_check.specs.declared.given.Resolved.{Resolved}
+use Rattle.il_check.specs.declared.given.Resolved.TheVariants.{Load, Store, Combine, Not, Convert, Jump, Return, Call}
+
+-- the value of a type that a number without a type stands for; no number is a TIME
+abbrev pub number_in : ElementaryType → ℤ → Option Value
+number_in elementary.Bool z = value_of elementary.Bool z
+number_in elementary.Int z = value_of elementary.Int z
+number_in elementary.Dint z = value_of elementary.Dint z
+number_in elementary.Lint z = value_of elementary.Lint z
+number_in elementary.Time z = None
+
+-- the operand as one of a type, if it can be one
+abbrev pub operand_in : ElementaryType → Given → Option TypedOperand
+operand_in kind Missing = None
+operand_in kind Misused = None
+operand_in kind (Known source) = if same_type source.kind kind then Some source.operand else None
+operand_in kind (Number z) = option_map (λ v. operand.Literal v) (number_in kind z)
+
+abbrev pub fits : ElementaryType → Given → Bool
+fits kind given = is_some (operand_in kind given)
+
+-- the type that a number has by itself: INT where it fits, else DINT where it fits, else LINT
+abbrev pub own_type : ℤ → ElementaryType
+own_type z =
+    if is_some (number_in elementary.Int z) then elementary.Int
+    else (if is_some (number_in elementary.Dint z) then elementary.Dint else elementary.Lint)
+
+-- the type of what a load gives
+abbrev pub load_type : Given → Option ElementaryType
+load_type Missing = None
+load_type Misused = None
+load_type (Known source) = Some source.kind
+load_type (Number z) = Some (own_type z)
+
+abbrev pub is_boolean : ElementaryType → Bool
+is_boolean kind = same_type elementary.Bool kind
+
+abbrev pub is_number : ElementaryType → Bool
+is_number elementary.Bool = false
+is_number elementary.Time = false
+is_number other = true
+
+-- the types that an operator takes on both sides
+abbrev pub takes : Operator → ElementaryType → Bool
+takes And kind = is_boolean kind
+takes Or kind = is_boolean kind
+takes Xor kind = is_boolean kind
+takes Add kind = is_number kind
+takes Sub kind = is_number kind
+takes Mul kind = is_number kind
+takes Div kind = is_number kind
+takes Mod kind = is_number kind
+takes Gt kind = not (is_boolean kind)
+takes Ge kind = not (is_boolean kind)
+takes Eq kind = true
+takes Ne kind = true
+takes Le kind = not (is_boolean kind)
+takes Lt kind = not (is_boolean kind)
+
+-- the type of what an operator gives: comparisons give BOOL, and all others the type of both sides
+abbrev pub gives : Operator → ElementaryType → ElementaryType
+gives And kind = kind
+gives Or kind = kind
+gives Xor kind = kind
+gives Add kind = kind
+gives Sub kind = kind
+gives Mul kind = kind
+gives Div kind = kind
+gives Mod kind = kind
+gives Gt kind = elementary.Bool
+gives Ge kind = elementary.Bool
+gives Eq kind = elementary.Bool
+gives Ne kind = elementary.Bool
+gives Le kind = elementary.Bool
+gives Lt kind = elementary.Bool
+
+abbrev pub divides : Operator → Bool
+divides Div = true
+divides Mod = true
+divides other = false
+
+-- only a BOOL is negated
+abbrev pub may_negate : Bool → ElementaryType → Bool
+may_negate negated kind = not negated || is_boolean kind
+
+-- an operator, which may negate its operand, works on a type
+abbrev pub works : Operator → Bool → ElementaryType → Bool
+works operator negated kind = takes operator kind && may_negate negated kind
+
+abbrev pub is_plain : StoreKind → Bool
+is_plain store.Plain = true
+is_plain store.Negated = false
+is_plain store.Set = false
+is_plain store.Reset = false
+
+abbrev pub is_conditional : Condition → Bool
+is_conditional Always = false
+is_conditional IfTrue = true
+is_conditional IfFalse = true
+
+abbrev pub converted_from : Conversion → ElementaryType
+converted_from IntToDint = elementary.Int
+converted_from DintToLint = elementary.Dint
+
+abbrev pub converted_to : Conversion → ElementaryType
+converted_to IntToDint = elementary.Dint
+converted_to DintToLint = elementary.Lint
+
+abbrev pub input_type : Input → ElementaryType
+input_type input.In = elementary.Bool
+input_type input.Pt = elementary.Time
+
+abbrev pub argument_fits : GivenArgument → Bool
+argument_fits a = fits (input_type a.input) a.given
+
+abbrev pub arguments_fit : GivenArguments → Bool
+arguments_fit arguments.None = true
+arguments_fit (arguments.One a) = argument_fits a
+arguments_fit (arguments.Two a b) = argument_fits a && argument_fits b
+
+abbrev pub is_timer : Called → Bool
+is_timer called.Missing = false
+is_timer called.Misused = false
+is_timer (called.Timer timer) = true
+
+abbrev pub may_load : Bool → Option ElementaryType → Bool
+may_load negated None = false
+may_load negated (Some kind) = may_negate negated kind
+
+-- the instruction is right where the current result has this type
+abbrev pub allows : Resolved → ElementaryType → Bool
+allows (Load negated given) kind = may_load negated (load_type given)
+allows (Store how target) kind = fits kind target && may_negate (not (is_plain how)) kind
+allows (Combine operator negated given is_nonzero) kind = works operator negated kind && fits kind given
+allows Not kind = is_boolean kind
+allows (Convert conversion) kind = same_type kind (converted_from conversion)
+allows (Jump condition label) kind = may_negate (is_conditional condition) kind
+allows (Return condition) kind = may_negate (is_conditional condition) kind
+allows (Call called arguments) kind = is_timer called && arguments_fit arguments
+
+-- the instruction uses the current result
+abbrev pub uses_result : Resolved → Bool
+uses_result (Load negated given) = false
+uses_result (Store how target) = true
+uses_result (Combine operator negated given is_nonzero) = true
+uses_result Not = true
+uses_result (Convert conversion) = true
+uses_result (Jump condition label) = is_conditional condition
+uses_result (Return condition) = is_conditional condition
+uses_result (Call called arguments) = false
+
+-- some type passes the test
+abbrev pub any_type : (ElementaryType → Bool) → Bool
+any_type test = test elementary.Bool || test elementary.Int || test elementary.Dint || test elementary.Lint || test elementary.Time
+
+-- no type that the result may have makes the instruction right
+abbrev pub is_wrong : Resolved → Option ElementaryType → Bool
+is_wrong r None = not (any_type (allows r))
+is_wrong r (Some kind) = not (allows r kind)
+
+abbrev pub is_unset : Resolved → Option ElementaryType → Bool
+is_unset r result = uses_result r && is_none result
+
+-- the type of the result behind the instruction; none where it is unset
+abbrev pub type_after : Resolved → Option ElementaryType → Option ElementaryType
+type_after (Load negated given) result = load_type given
+type_after (Store how target) result = result
+type_after (Combine operator negated given is_nonzero) result = option_map (gives operator) result
+type_after Not result = result
+type_after (Convert conversion) result = Some (converted_to conversion)
+type_after (Jump condition label) result = result
+type_after (Return condition) result = result
+type_after (Call called arguments) result = None
+
+-- what a parenthesis gives may have this type
+abbrev pub may_be : ElementaryType → Option ElementaryType → Bool
+may_be kind None = true
+may_be kind (Some inner) = same_type inner kind
+
+-- the operator of a parenthesis is right on a result of this type
+abbrev pub joins : Operator → Bool → Option ElementaryType → ElementaryType → Bool
+joins operator negated inner kind = works operator negated kind && may_be kind inner
+
+abbrev pub joins_wrong : Operator → Bool → Option ElementaryType → Option ElementaryType → Bool
+joins_wrong operator negated inner None = not (any_type (joins operator negated inner))
+joins_wrong operator negated inner (Some kind) = not (joins operator negated inner kind)
+
+abbrev pub joins_unset : Option ElementaryType → Option ElementaryType → Bool
+joins_unset inner result = is_none inner || is_none result
+
+-- a name is not declared
+abbrev pub is_missing : Given → Bool
+is_missing Missing = true
+is_missing other = false
+
+abbrev pub misses_argument : GivenArguments → Bool
+misses_argument arguments.None = false
+misses_argument (arguments.One a) = is_missing a.given
+misses_argument (arguments.Two a b) = is_missing a.given || is_missing b.given
+
+abbrev pub misses_timer : Called → Bool
+misses_timer called.Missing = true
+misses_timer other = false
+
+abbrev pub misses_name : Resolved → Bool
+misses_name (Load negated given) = is_missing given
+misses_name (Store how target) = is_missing target
+misses_name (Combine operator negated given is_nonzero) = is_missing given
+misses_name (Call called arguments) = misses_timer called || misses_argument arguments
+misses_name other = false
+
+-- a jump to a label above, where so many labels stand above
+abbrev pub is_above : ℕ → Option ℕ → Bool
+is_above passed None = false
+is_above passed (Some label) = nat_lt label passed
+
+abbrev pub jumps_back : ℕ → Resolved → Bool
+jumps_back passed (Jump condition label) = is_above passed label
+jumps_back passed other = false
+
+abbrev pub misses_label : Resolved → Bool
+misses_label (Jump condition label) = is_none label
+misses_label other = false
+
+-- what may only be read
+abbrev pub is_fixed : Given → Bool
+is_fixed (Known source) = not source.writable
+is_fixed other = false
+
+abbrev pub writes_fixed : Resolved → Bool
+writes_fixed (Store how target) = is_fixed target
+writes_fixed other = false
+
+-- a divisor that is not a literal other than 0
+abbrev pub may_divide_by_zero : Resolved → Bool
+may_divide_by_zero (Combine operator negated given is_nonzero) = divides operator && not is_nonzero
+may_divide_by_zero other = false
+
+-- what comes next in the text can be reached from the instruction
+abbrev pub goes_on : Resolved → Bool
+goes_on (Jump condition label) = is_conditional condition
+goes_on (Return condition) = is_conditional condition
+goes_on other = true
+
+-- the label that a jump goes to, if there is one
+abbrev pub target_of : Resolved → Option ℕ
+target_of (Jump condition label) = label
+target_of other = None

@@ -1,0 +1,18 @@
+-- What holds of each checked program: its names differ, and what its items name is there.
+use Rattle.std.specs.Prelude.{◌≡◌, ℕ, ◌<◌, false, List, [], ◌++◌, length, map, slice_index_or}
+use Rattle.bay_base.specs.Names.{same_name}
+use Rattle.il_check.specs.Program.{Checked}
+
+-- the names of the slots: of the externals, then of the variables
+abbrev pub slot_names : Checked → List (List ℕ)
+slot_names c = map (λ e. e.name) c.externals ++ map (λ v. v.name) c.variables
+
+abbrev pub name_at : List (List ℕ) → ℕ → List ℕ
+name_at names slot = slice_index_or names slot []
+
+-- no two names are the same
+abbrev pub AreApart : List (List ℕ) → Type 0
+AreApart names = (i j : ℕ) → i < j → j < length names → same_name (name_at names i) (name_at names j) ≡ false
+
+pub record IsSound (c : Checked) : Type 0 where
+  pub apart : AreApart (slot_names c)

@@ -1,0 +1,114 @@
+-- What is left of an instruction that is right: its operands have the type that it works on.
+use Rattle.std.specs.Prelude.{ℕ, Bool, Option, None, Some, option_map}
+use Rattle.bay_base.specs.declared.types.ElementaryType.{ElementaryType}
+use Rattle.il_text.specs.declared.program.Operator.{Operator}
+use Rattle.il_text.specs.declared.program.StoreKind.{StoreKind}
+use Rattle.il_text.specs.declared.program.Condition.{Condition}
+use Rattle.il_check.specs.Program.{Entry, operation, block, Entries, Item, transfer, plain}
+use Rattle.il_check.specs.Rules.{operand_in, load_type, input_type}
+use Rattle.il_check.specs.declared.typed.TypedOperand.{TypedOperand}
+use Rattle.il_check.specs.declared.typed.TypedOperand.TheVariants as operand
+use Rattle.il_check.specs.declared.typed.Operation.{Operation}
+use Rattle.il_check.specs.declared.typed.Operation.TheVariants as op
+use Rattle.il_check.specs.declared.typed.Transfer.{Transfer}
+use Rattle.il_check.specs.declared.typed.Transfer.TheVariants as go
+use Rattle.il_check.specs.declared.typed.Slot.{Slot}
+use Rattle.il_check.specs.declared.typed.TypedArgument.{TypedArgument}
+use Rattle.il_check.specs.declared.typed.TypedArguments.{TypedArguments}
+use Rattle.il_check.specs.declared.typed.TypedArguments.TheVariants as typed
+use Rattle.il_check.specs.declared.given.Given.{Given}
+use Rattle.il_check.specs.declared.given.Given.TheVariants.{Known}
+use Rattle.il_check.specs.declared.given.Called.{Called}
+use Rattle.il_check.specs.declared.given.Called.TheVariants as called
+use Rattle.il_check.specs.declared.given.GivenArgument.{GivenArgument}
+use Rattle.il_check.specs.declared.given.GivenArguments.{GivenArguments}
+use Rattle.il_check.specs.declared.given.GivenArguments.TheVariants as arguments
+use Rattle.il_check.specs.declared.given.Resolved.{Resolved}
+use Rattle.il_check.specs.declared.given.Resolved.TheVariants.{Load, Store, Combine, Not, Convert, Jump, Return, Call}
+
+abbrev pub loaded : Bool → Option TypedOperand → Option Operation
+loaded negated None = None
+loaded negated (Some o) = Some (op.Load negated o)
+
+abbrev pub load_in : Bool → Given → Option ElementaryType → Option Operation
+load_in negated given None = None
+load_in negated given (Some kind) = loaded negated (operand_in kind given)
+
+-- the slot of an operand that is a variable
+abbrev pub slot_in : TypedOperand → Option Slot
+slot_in (operand.Slot slot) = Some slot
+slot_in other = None
+
+abbrev pub target_slot : Given → Option Slot
+target_slot (Known source) = slot_in source.operand
+target_slot other = None
+
+abbrev pub stored : StoreKind → Option Slot → Option Operation
+stored kind None = None
+stored kind (Some slot) = Some (op.Store kind slot)
+
+abbrev pub combined : Operator → ElementaryType → Bool → Option TypedOperand → Option Operation
+combined operator kind negated None = None
+combined operator kind negated (Some o) = Some (op.Combine operator kind negated o)
+
+abbrev pub combine_in : Operator → Bool → Given → Option ElementaryType → Option Operation
+combine_in operator negated given None = None
+combine_in operator negated given (Some kind) = combined operator kind negated (operand_in kind given)
+
+-- the operation on a result of this type
+abbrev pub operation_in : Resolved → Option ElementaryType → Option Operation
+operation_in (Load negated given) result = load_in negated given (load_type given)
+operation_in (Store kind target) result = stored kind (target_slot target)
+operation_in (Combine operator negated given is_nonzero) result = combine_in operator negated given result
+operation_in Not result = Some op.Not
+operation_in (Convert conversion) result = Some (op.Convert conversion)
+operation_in other result = None
+
+abbrev pub typed_argument : GivenArgument → Option TypedArgument
+typed_argument a = option_map (λ o. record { input = a.input; operand = o }) (operand_in (input_type a.input) a.given)
+
+abbrev pub one_argument : Option TypedArgument → Option TypedArguments
+one_argument None = None
+one_argument (Some a) = Some (typed.One a)
+
+abbrev pub two_arguments : Option TypedArgument → Option TypedArgument → Option TypedArguments
+two_arguments (Some a) (Some b) = Some (typed.Two a b)
+two_arguments a b = None
+
+abbrev pub arguments_in : GivenArguments → Option TypedArguments
+arguments_in arguments.None = Some typed.None
+arguments_in (arguments.One a) = one_argument (typed_argument a)
+arguments_in (arguments.Two a b) = two_arguments (typed_argument a) (typed_argument b)
+
+abbrev pub call_with : ℕ → Option TypedArguments → Option Transfer
+call_with timer None = None
+call_with timer (Some as_typed) = Some (go.Call timer as_typed)
+
+abbrev pub call_in : Called → Option TypedArguments → Option Transfer
+call_in (called.Timer timer) args = call_with timer args
+call_in other args = None
+
+abbrev pub jump_in : Condition → Option ℕ → Option Transfer
+jump_in condition None = None
+jump_in condition (Some label) = Some (go.Jump condition label)
+
+abbrev pub transfer_in : Resolved → Option Transfer
+transfer_in (Jump condition label) = jump_in condition label
+transfer_in (Return condition) = Some (go.Return condition)
+transfer_in (Call timer args) = call_in timer (arguments_in args)
+transfer_in other = None
+
+abbrev pub entry_in : Resolved → Option ElementaryType → Option Entry
+entry_in r result = option_map operation (operation_in r result)
+
+abbrev pub or_entry : Option Transfer → Option Entry → Option Item
+or_entry (Some t) e = Some (transfer t)
+or_entry None e = option_map plain e
+
+abbrev pub item_in : Resolved → Option ElementaryType → Option Item
+item_in r result = or_entry (transfer_in r) (entry_in r result)
+
+-- a parenthesis whose operator works on a result of this type
+abbrev pub block_in : Operator → Bool → Entries → Option ElementaryType → Option Entry
+block_in operator negated entries None = None
+block_in operator negated entries (Some kind) = Some (block operator kind negated entries)

@@ -1,0 +1,6 @@
+-- What is known before an item, in the code.
+use Rattle.il_check.specs.WellTyped.{Standing}
+use Rattle.il_check.specs.declared.walk.Walk.{Walk}
+
+abbrev pub standing_of : Walk → Standing
+standing_of w = record { now = w.reach; arrivals = w.arrivals.items; passed = w.passed }

@@ -1,0 +1,153 @@
+// The faults of one instruction, of a parenthesis, of a label.
+ghost use Rattle.std.specs.Prelude.{◌≡◌};
+ghost use Rattle.il_check.specs.Faults.{noted};
+ghost use Rattle.il_check.specs.WellTyped as spec;
+
+use crate::fault::CheckFault;
+use crate::given::Resolved;
+use crate::note::note_if;
+use crate::rules::{
+    divides, is_unset, is_wrong, joins_wrong, jumps_back, may_divide_by_zero, misses_label,
+    misses_name, writes_fixed,
+};
+use bay_base::types::ElementaryType;
+use il_text::program::Operator;
+
+/// Whether the first label of a name is this one, behind so many others.
+fn is_first(passed: usize, number: Option<usize>) -> bool
+    ensures { result ≡ spec.is_first passed number }
+{
+    match number {
+        Some(number) => number >= passed,
+        None => true,
+    }
+}
+
+/// The most labels that a program may have.
+const MAX_LABELS: usize = 256;
+
+/// Where an instruction stands: whether it can be reached, and behind how many labels.
+#[derive(Clone, Copy, Debug, PartialEq, Eq)]
+pub(crate) struct Place {
+    pub(crate) is_reached: bool,
+    pub(crate) passed: usize,
+}
+
+#[tactic(auto, using(crate::proofs::NotedLemmas::note_rules))]
+fn note_typing(
+    found: Option<CheckFault>,
+    place: Place,
+    line: usize,
+    resolved: Resolved,
+    kind: Option<ElementaryType>,
+) -> Option<CheckFault>
+    ensures { result ≡ noted found (spec.typing_faults place.is_reached place.passed line resolved kind) }
+{
+    let is_wrong = place.is_reached && is_wrong(resolved, kind);
+    let is_unset = place.is_reached && is_unset(resolved, kind);
+    let is_back = jumps_back(place.passed, resolved);
+    let found = note_if(
+        found,
+        misses_name(resolved),
+        CheckFault::UnknownName { line },
+    );
+    let found = note_if(found, is_wrong, CheckFault::TypeMismatch { line });
+    let found = note_if(found, is_unset, CheckFault::UnsetResult { line });
+    note_if(found, is_back, CheckFault::BackwardJump { line })
+}
+
+#[tactic(auto, using(crate::proofs::NotedLemmas::note_rules))]
+fn note_others(
+    found: Option<CheckFault>,
+    is_reached: bool,
+    line: usize,
+    resolved: Resolved,
+) -> Option<CheckFault>
+    ensures { result ≡ noted found (spec.other_faults is_reached line resolved) }
+{
+    let is_read_only = writes_fixed(resolved);
+    let is_zero = may_divide_by_zero(resolved);
+    let found = note_if(
+        found,
+        misses_label(resolved),
+        CheckFault::UnknownLabel { line },
+    );
+    let found = note_if(found, !is_reached, CheckFault::Unreachable { line });
+    let found = note_if(found, is_read_only, CheckFault::ReadOnly { line });
+    note_if(found, is_zero, CheckFault::ZeroDivisor { line })
+}
+
+/// The fault that is answered after an instruction.
+#[tactic(auto, using(crate::proofs::NotedLemmas::noted_two))]
+pub(crate) fn note_instruction(
+    found: Option<CheckFault>,
+    place: Place,
+    line: usize,
+    resolved: Resolved,
+    kind: Option<ElementaryType>,
+) -> Option<CheckFault>
+    ensures { result ≡ noted found (spec.instruction_faults place.is_reached place.passed line resolved kind) }
+{
+    let found = note_typing(found, place, line, resolved, kind);
+    note_others(found, place.is_reached, line, resolved)
+}
+
+/// The fault that is answered after an operator with a parenthesis.
+#[tactic(auto, using(crate::proofs::NotedLemmas::note_rules))]
+pub(crate) fn note_opening(
+    found: Option<CheckFault>,
+    is_reached: bool,
+    line: usize,
+    operator: Operator,
+) -> Option<CheckFault>
+    ensures { result ≡ noted found (spec.opening_faults is_reached line operator) }
+{
+    let found = note_if(found, !is_reached, CheckFault::Unreachable { line });
+    note_if(found, divides(operator), CheckFault::ZeroDivisor { line })
+}
+
+/// The operator of a parenthesis, and the type of what the parenthesis gives.
+#[derive(Clone, Copy, Debug, PartialEq, Eq)]
+pub(crate) struct Closing {
+    pub(crate) operator: Operator,
+    pub(crate) negated: bool,
+    pub(crate) inner: Option<ElementaryType>,
+}
+
+/// The fault that is answered after the `)` of a parenthesis.
+#[tactic(auto, using(crate::proofs::NotedLemmas::note_rules))]
+pub(crate) fn note_closing(
+    found: Option<CheckFault>,
+    is_reached: bool,
+    line: usize,
+    closing: Closing,
+    kind: Option<ElementaryType>,
+) -> Option<CheckFault>
+    ensures { result ≡ noted found (spec.closing_faults is_reached line closing.operator closing.negated closing.inner kind) }
+{
+    let Closing {
+        operator,
+        negated,
+        inner,
+    } = closing;
+    let is_wrong = is_reached && joins_wrong(operator, negated, inner, kind);
+    let is_unset = is_reached && (inner.is_none() || kind.is_none());
+    let found = note_if(found, is_wrong, CheckFault::TypeMismatch { line });
+    let found = note_if(found, is_unset, CheckFault::UnsetResult { line });
+    note_if(found, !is_reached, CheckFault::Unreachable { line })
+}
+
+/// The fault that is answered after a label behind so many others, of which the first of its name is given.
+#[tactic(auto, using(crate::proofs::NotedLemmas::note_rules))]
+pub(crate) fn note_label(
+    found: Option<CheckFault>,
+    line: usize,
+    number: Option<usize>,
+    passed: usize,
+) -> Option<CheckFault>
+    ensures { result ≡ noted found (spec.label_faults line number passed) }
+{
+    let is_repeated = !is_first(passed, number);
+    let found = note_if(found, is_repeated, CheckFault::DuplicateName { line });
+    note_if(found, passed >= MAX_LABELS, CheckFault::TooMany { line })
+}

@@ -1,0 +1,88 @@
+// The names of a program, and what they mean (IEC 61131-3:2003, 2.1.2 and 2.4.3).
+ghost use Rattle.std.specs.Prelude.{◌≡◌, ℕ, List, is_some, IfOk, OnOk, string_bytes};
+ghost use Rattle.std.specs.BTreeMap.{get_by_text};
+ghost use Rattle.bay_base.specs.Names as base;
+ghost use Rattle.il_check.specs.NamesView.{names_of, with_value};
+
+use crate::given::Meaning;
+use std::alloc::{AllocError, Global};
+use std::collections::BTreeMap;
+
+/// What the names of variables and timers mean, and the numbers of labels, by names in upper case.
+#[derive(Drop)]
+pub(crate) struct Names {
+    pub(crate) meanings: BTreeMap<String, Meaning>,
+    pub(crate) labels: BTreeMap<String, usize>,
+}
+
+/// A name in upper case.
+pub(crate) fn upper_case(alloc: Global, name: &str) -> Result<String, AllocError>
+    ensures { IfOk result (λ copy. string_bytes copy ≡ base.upper name.now) }
+{
+    let mut copy = String::from_str(alloc, name)?;
+    copy.make_ascii_uppercase();
+    Ok(copy)
+}
+
+/// Writes a name in upper case in the place of what the buffer holds.
+fn put_upper(buffer: &mut String, name: &str) -> Result<(), AllocError>
+    ensures { OnOk result (string_bytes buffer.new ≡ base.upper name.now) }
+{
+    buffer.clear();
+    buffer.push_str(name)?;
+    buffer.make_ascii_uppercase();
+    Ok(())
+}
+
+/// Gives a name its meaning, unless it has one. Whether it had one.
+pub(crate) fn add_meaning(
+    meanings: &mut BTreeMap<String, Meaning>,
+    name: String,
+    meaning: Meaning,
+) -> Result<bool, AllocError>
+    ensures known { IfOk result (λ known. known ≡ is_some (get_by_text meanings.old (string_bytes name))) }
+    ensures meanings { OnOk result ((other : List ℕ) → get_by_text meanings.new other ≡ with_value (λ q. get_by_text meanings.old q) (string_bytes name) meaning other) }
+{
+    if meanings.contains_key(name.as_str()) {
+        return Ok(true);
+    }
+    meanings.insert(name, meaning)?;
+    Ok(false)
+}
+
+/// Gives a label its number, unless it has one.
+pub(crate) fn add_label(
+    labels: &mut BTreeMap<String, usize>,
+    name: String,
+    number: usize,
+) -> Result<(), AllocError>
+    ensures { OnOk result ((other : List ℕ) → get_by_text labels.new other ≡ with_value (λ q. get_by_text labels.old q) (string_bytes name) number other) }
+{
+    if labels.contains_key(name.as_str()) {
+        return Ok(());
+    }
+    labels.insert(name, number)?;
+    Ok(())
+}
+
+impl Names {
+    /// What a name means, if it is declared.
+    pub(crate) fn meaning(
+        &self,
+        buffer: &mut String,
+        name: &str,
+    ) -> Result<Option<Meaning>, AllocError>
+        ensures { IfOk result (λ found. found ≡ (names_of self.now).meaning name.now) }
+    {
+        put_upper(buffer, name)?;
+        Ok(self.meanings.get(buffer.as_str()).copied())
+    }
+
+    /// The number of the first label of a name, if there is one.
+    pub(crate) fn label(&self, buffer: &mut String, name: &str) -> Result<Option<usize>, AllocError>
+        ensures { IfOk result (λ found. found ≡ (names_of self.now).label name.now) }
+    {
+        put_upper(buffer, name)?;
+        Ok(self.labels.get(buffer.as_str()).copied())
+    }
+}

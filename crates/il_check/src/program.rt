@@ -1,0 +1,112 @@
+// A checked program, which is sound as long as it lives.
+ghost use Rattle.std.specs.Prelude.{◌≡◌};
+ghost use Rattle.il_check.specs.ProgramViews.{checked_view};
+ghost use Rattle.il_check.specs.Sound.{IsSound};
+
+use crate::typed::{External, Timer, TypedItem, Variable};
+use std::marker::Model;
+
+/// A checked program: its externals, variables and timers, each in the order of their declarations, and its
+/// items. Each name is resolved, and each literal has the type that its instruction works on.
+#[derive(Debug, Drop)]
+pub struct Typed {
+    externals: Vec<External>,
+    variables: Vec<Variable>,
+    timers: Vec<Timer>,
+    items: Vec<TypedItem>,
+}
+
+impl Model for Typed {
+    ghost use Rattle.std.specs.Coded.{codes};
+    ghost use Rattle.il_check.specs.contracts.typed.TypedEntry as entry;
+    ghost use Rattle.il_check.specs.Contents.{Contents};
+    ghost use Rattle.il_check.specs.ProgramViews.{checked_view};
+    ghost use Rattle.il_check.specs.Sound.{IsSound};
+
+    ghost Value = { Contents };
+
+    ghost coded = { Prim.hlevel (codes, entry.the_row.coded) };
+
+    ghost view = { λ t. record { externals = t.externals.items; variables = t.variables.items; timers = t.timers.items; items = t.items.items } };
+
+    ghost invariant = { λ t. IsSound (checked_view (record { externals = t.externals.items; variables = t.variables.items; timers = t.timers.items; items = t.items.items })) };
+}
+
+/// What a checked program is made of.
+#[derive(Debug, Drop)]
+pub struct Parts {
+    pub externals: Vec<External>,
+    pub variables: Vec<Variable>,
+    pub timers: Vec<Timer>,
+    pub items: Vec<TypedItem>,
+}
+
+impl Typed {
+    ghost use Rattle.il_check.specs.PartsView.{parts_view};
+
+    /// The program of these parts. It takes no memory.
+    pub(crate) fn of_parts(parts: Parts) -> Self
+        requires { IsSound (checked_view (parts_view parts)) }
+        ensures { result ≡ parts_view parts }
+    {
+        let Parts {
+            externals,
+            variables,
+            timers,
+            items,
+        } = parts;
+        Typed {
+            externals,
+            variables,
+            timers,
+            items,
+        }
+    }
+
+    /// The externals, in the order of their declarations.
+    pub fn externals(&self) -> &[External]
+        ensures { result.now ≡ self.now.externals }
+    {
+        self.externals.as_slice()
+    }
+
+    /// The variables, in the order of their declarations.
+    pub fn variables(&self) -> &[Variable]
+        ensures { result.now ≡ self.now.variables }
+    {
+        self.variables.as_slice()
+    }
+
+    /// The timers, in the order of their declarations.
+    pub fn timers(&self) -> &[Timer]
+        ensures { result.now ≡ self.now.timers }
+    {
+        self.timers.as_slice()
+    }
+
+    /// The items, in the order of the text.
+    pub fn items(&self) -> &[TypedItem]
+        ensures { result.now ≡ self.now.items }
+    {
+        self.items.as_slice()
+    }
+
+    /// The parts of the program, which is given up. It takes no memory.
+    pub fn into_parts(self) -> Parts
+        ensures same { parts_view result ≡ self }
+        ensures sound { IsSound (checked_view self) }
+    {
+        let Typed {
+            externals,
+            variables,
+            timers,
+            items,
+        } = self;
+        Parts {
+            externals,
+            variables,
+            timers,
+            items,
+        }
+    }
+}

@@ -1,0 +1,57 @@
+// What is known of the current result at a place of a program.
+ghost use Rattle.std.specs.Prelude.{◌≡◌};
+ghost use Rattle.il_check.specs.WellTyped as spec;
+
+use bay_base::types::ElementaryType;
+
+/// Whether a place can be reached, and the type of the current result there, if it is set.
+#[derive(Clone, Copy, Debug, PartialEq, Eq)]
+pub struct Reach {
+    pub is_reached: bool,
+    pub kind: Option<ElementaryType>,
+}
+
+/// A place to which no way leads.
+pub(crate) fn unreached() -> Reach
+    ensures { result ≡ spec.unreached }
+{
+    Reach {
+        is_reached: false,
+        kind: None,
+    }
+}
+
+fn same_result(first: Option<ElementaryType>, second: Option<ElementaryType>) -> bool
+    ensures { result ≡ spec.same_result first second }
+{
+    match (first, second) {
+        (Some(first), Some(second)) => first.is(second),
+        _ => false,
+    }
+}
+
+fn met_type(first: Option<ElementaryType>, second: Option<ElementaryType>) -> Option<ElementaryType>
+    ensures { result ≡ spec.met_type first second }
+{
+    if same_result(first, second) {
+        first
+    } else {
+        None
+    }
+}
+
+/// Where two ways meet.
+pub(crate) fn met(first: Reach, second: Reach) -> Reach
+    ensures { result ≡ spec.met first second }
+{
+    if !first.is_reached {
+        second
+    } else if !second.is_reached {
+        first
+    } else {
+        Reach {
+            is_reached: true,
+            kind: met_type(first.kind, second.kind),
+        }
+    }
+}

@@ -1,0 +1,460 @@
+// What instructions want of the current result, and what they leave (IEC 61131-3:2003, 3.2.2 and table 52).
+ghost use Rattle.std.specs.Prelude.{◌≡◌, option_map};
+ghost use Rattle.il_check.specs.Rules as spec;
+
+use crate::given::{Called, Given, GivenArgument, GivenArguments, Resolved};
+use crate::typed::TypedOperand;
+use bay_base::types::ElementaryType;
+use il_image::value::Value;
+use il_text::program::{Condition, Conversion, Input, Operator, StoreKind};
+
+/// The value of a type that a number without a type stands for; no number is a TIME.
+pub(crate) fn number_in(kind: ElementaryType, number: i64) -> Option<Value>
+    ensures { result ≡ spec.number_in kind number }
+{
+    match kind {
+        ElementaryType::Time => None,
+        _ => Value::of(kind, number),
+    }
+}
+
+/// The operand as one of a type, if it can be one.
+pub(crate) fn operand_in(kind: ElementaryType, given: Given) -> Option<TypedOperand>
+    ensures { result ≡ spec.operand_in kind given }
+{
+    match given {
+        Given::Missing | Given::Misused => None,
+        Given::Known(source) => {
+            if source.kind.is(kind) {
+                Some(source.operand)
+            } else {
+                None
+            }
+        }
+        Given::Number(number) => match number_in(kind, number) {
+            Some(value) => Some(TypedOperand::Literal(value)),
+            None => None,
+        },
+    }
+}
+
+fn fits(kind: ElementaryType, given: Given) -> bool
+    ensures { result ≡ spec.fits kind given }
+{
+    operand_in(kind, given).is_some()
+}
+
+/// The type that a number has by itself.
+fn own_type(number: i64) -> ElementaryType
+    ensures { result ≡ spec.own_type number }
+{
+    if number_in(ElementaryType::Int, number).is_some() {
+        ElementaryType::Int
+    } else if number_in(ElementaryType::Dint, number).is_some() {
+        ElementaryType::Dint
+    } else {
+        ElementaryType::Lint
+    }
+}
+
+/// The type of what a load gives.
+pub(crate) fn load_type(given: Given) -> Option<ElementaryType>
+    ensures { result ≡ spec.load_type given }
+{
+    match given {
+        Given::Missing | Given::Misused => None,
+        Given::Known(source) => Some(source.kind),
+        Given::Number(number) => Some(own_type(number)),
+    }
+}
+
+fn is_boolean(kind: ElementaryType) -> bool
+    ensures { result ≡ spec.is_boolean kind }
+{
+    ElementaryType::Bool.is(kind)
+}
+
+fn is_number(kind: ElementaryType) -> bool
+    ensures { result ≡ spec.is_number kind }
+{
+    match kind {
+        ElementaryType::Bool | ElementaryType::Time => false,
+        ElementaryType::Int | ElementaryType::Dint | ElementaryType::Lint => true,
+    }
+}
+
+/// Whether an operator takes a type on both sides.
+fn takes(operator: Operator, kind: ElementaryType) -> bool
+    ensures { result ≡ spec.takes operator kind }
+{
+    match operator {
+        Operator::And | Operator::Or | Operator::Xor => is_boolean(kind),
+        Operator::Add | Operator::Sub | Operator::Mul | Operator::Div | Operator::Mod => {
+            is_number(kind)
+        }
+        Operator::Gt | Operator::Ge | Operator::Le | Operator::Lt => !is_boolean(kind),
+        Operator::Eq | Operator::Ne => true,
+    }
+}
+
+/// The type of what an operator gives.
+fn gives(operator: Operator, kind: ElementaryType) -> ElementaryType
+    ensures { result ≡ spec.gives operator kind }
+{
+    match operator {
+        Operator::And
+        | Operator::Or
+        | Operator::Xor
+        | Operator::Add
+        | Operator::Sub
+        | Operator::Mul
+        | Operator::Div
+        | Operator::Mod => kind,
+        Operator::Gt | Operator::Ge | Operator::Eq | Operator::Ne | Operator::Le | Operator::Lt =>
+            ElementaryType::Bool,
+    }
+}
+
+/// The type behind an operator.
+pub(crate) fn given_type(
+    operator: Operator,
+    result_type: Option<ElementaryType>,
+) -> Option<ElementaryType>
+    ensures { result ≡ option_map (spec.gives operator) result_type }
+{
+    match result_type {
+        Some(kind) => Some(gives(operator, kind)),
+        None => None,
+    }
+}
+
+pub(crate) fn divides(operator: Operator) -> bool
+    ensures { result ≡ spec.divides operator }
+{
+    match operator {
+        Operator::Div | Operator::Mod => true,
+        _ => false,
+    }
+}
+
+fn may_negate(negated: bool, kind: ElementaryType) -> bool
+    ensures { result ≡ spec.may_negate negated kind }
+{
+    !negated || is_boolean(kind)
+}
+
+fn works(operator: Operator, negated: bool, kind: ElementaryType) -> bool
+    ensures { result ≡ spec.works operator negated kind }
+{
+    takes(operator, kind) && may_negate(negated, kind)
+}
+
+fn is_plain(kind: StoreKind) -> bool
+    ensures { result ≡ spec.is_plain kind }
+{
+    match kind {
+        StoreKind::Plain => true,
+        StoreKind::Negated | StoreKind::Set | StoreKind::Reset => false,
+    }
+}
+
+fn is_conditional(condition: Condition) -> bool
+    ensures { result ≡ spec.is_conditional condition }
+{
+    match condition {
+        Condition::Always => false,
+        Condition::IfTrue | Condition::IfFalse => true,
+    }
+}
+
+fn converted_from(conversion: Conversion) -> ElementaryType
+    ensures { result ≡ spec.converted_from conversion }
+{
+    match conversion {
+        Conversion::IntToDint => ElementaryType::Int,
+        Conversion::DintToLint => ElementaryType::Dint,
+    }
+}
+
+fn converted_to(conversion: Conversion) -> ElementaryType
+    ensures { result ≡ spec.converted_to conversion }
+{
+    match conversion {
+        Conversion::IntToDint => ElementaryType::Dint,
+        Conversion::DintToLint => ElementaryType::Lint,
+    }
+}
+
+pub(crate) fn input_type(input: Input) -> ElementaryType
+    ensures { result ≡ spec.input_type input }
+{
+    match input {
+        Input::In => ElementaryType::Bool,
+        Input::Pt => ElementaryType::Time,
+    }
+}
+
+fn argument_fits(argument: GivenArgument) -> bool
+    ensures { result ≡ spec.argument_fits argument }
+{
+    fits(input_type(argument.input), argument.given)
+}
+
+fn arguments_fit(arguments: GivenArguments) -> bool
+    ensures { result ≡ spec.arguments_fit arguments }
+{
+    match arguments {
+        GivenArguments::None => true,
+        GivenArguments::One(first) => argument_fits(first),
+        GivenArguments::Two(first, second) => argument_fits(first) && argument_fits(second),
+    }
+}
+
+fn is_timer(called: Called) -> bool
+    ensures { result ≡ spec.is_timer called }
+{
+    match called {
+        Called::Missing | Called::Misused => false,
+        Called::Timer(_) => true,
+    }
+}
+
+fn may_load(negated: bool, kind: Option<ElementaryType>) -> bool
+    ensures { result ≡ spec.may_load negated kind }
+{
+    match kind {
+        None => false,
+        Some(kind) => may_negate(negated, kind),
+    }
+}
+
+/// Whether the instruction is right where the current result has this type.
+fn allows(resolved: Resolved, kind: ElementaryType) -> bool
+    ensures { result ≡ spec.allows resolved kind }
+{
+    match resolved {
+        Resolved::Load { negated, given } => may_load(negated, load_type(given)),
+        Resolved::Store { kind: how, target } => {
+            fits(kind, target) && may_negate(!is_plain(how), kind)
+        }
+        Resolved::Combine {
+            operator,
+            negated,
+            given,
+            ..
+        } => works(operator, negated, kind) && fits(kind, given),
+        Resolved::Not => is_boolean(kind),
+        Resolved::Convert(conversion) => kind.is(converted_from(conversion)),
+        Resolved::Jump { condition, .. } | Resolved::Return(condition) => {
+            may_negate(is_conditional(condition), kind)
+        }
+        Resolved::Call { called, arguments } => is_timer(called) && arguments_fit(arguments),
+    }
+}
+
+fn uses_result(resolved: Resolved) -> bool
+    ensures { result ≡ spec.uses_result resolved }
+{
+    match resolved {
+        Resolved::Load { .. } | Resolved::Call { .. } => false,
+        Resolved::Store { .. } | Resolved::Combine { .. } | Resolved::Not | Resolved::Convert(_) =>
+            true,
+        Resolved::Jump { condition, .. } | Resolved::Return(condition) => is_conditional(condition),
+    }
+}
+
+/// Whether no type that the result may have makes the instruction right.
+pub(crate) fn is_wrong(resolved: Resolved, kind: Option<ElementaryType>) -> bool
+    ensures { result ≡ spec.is_wrong resolved kind }
+{
+    match kind {
+        Some(kind) => !allows(resolved, kind),
+        None => {
+            !(allows(resolved, ElementaryType::Bool)
+                || allows(resolved, ElementaryType::Int)
+                || allows(resolved, ElementaryType::Dint)
+                || allows(resolved, ElementaryType::Lint)
+                || allows(resolved, ElementaryType::Time))
+        }
+    }
+}
+
+/// Whether the instruction uses a result that is not set.
+pub(crate) fn is_unset(resolved: Resolved, kind: Option<ElementaryType>) -> bool
+    ensures { result ≡ spec.is_unset resolved kind }
+{
+    uses_result(resolved) && kind.is_none()
+}
+
+/// The type of the result behind the instruction, if it is set there.
+pub(crate) fn type_after(resolved: Resolved, kind: Option<ElementaryType>) -> Option<ElementaryType>
+    ensures { result ≡ spec.type_after resolved kind }
+{
+    match resolved {
+        Resolved::Load { given, .. } => load_type(given),
+        Resolved::Combine { operator, .. } => given_type(operator, kind),
+        Resolved::Convert(conversion) => Some(converted_to(conversion)),
+        Resolved::Store { .. } | Resolved::Not | Resolved::Jump { .. } | Resolved::Return(_) =>
+            kind,
+        Resolved::Call { .. } => None,
+    }
+}
+
+/// Whether what a parenthesis gives may have this type.
+fn may_be(kind: ElementaryType, inner: Option<ElementaryType>) -> bool
+    ensures { result ≡ spec.may_be kind inner }
+{
+    match inner {
+        None => true,
+        Some(inner) => inner.is(kind),
+    }
+}
+
+/// Whether the operator of a parenthesis is right on a result of this type.
+fn joins(
+    operator: Operator,
+    negated: bool,
+    inner: Option<ElementaryType>,
+    kind: ElementaryType,
+) -> bool
+    ensures { result ≡ spec.joins operator negated inner kind }
+{
+    works(operator, negated, kind) && may_be(kind, inner)
+}
+
+/// Whether no type that the result may have makes the operator of a parenthesis right.
+pub(crate) fn joins_wrong(
+    operator: Operator,
+    negated: bool,
+    inner: Option<ElementaryType>,
+    kind: Option<ElementaryType>,
+) -> bool
+    ensures { result ≡ spec.joins_wrong operator negated inner kind }
+{
+    match kind {
+        Some(kind) => !joins(operator, negated, inner, kind),
+        None => {
+            !(joins(operator, negated, inner, ElementaryType::Bool)
+                || joins(operator, negated, inner, ElementaryType::Int)
+                || joins(operator, negated, inner, ElementaryType::Dint)
+                || joins(operator, negated, inner, ElementaryType::Lint)
+                || joins(operator, negated, inner, ElementaryType::Time))
+        }
+    }
+}
+
+fn is_missing(given: Given) -> bool
+    ensures { result ≡ spec.is_missing given }
+{
+    match given {
+        Given::Missing => true,
+        Given::Misused | Given::Known(_) | Given::Number(_) => false,
+    }
+}
+
+fn misses_argument(arguments: GivenArguments) -> bool
+    ensures { result ≡ spec.misses_argument arguments }
+{
+    match arguments {
+        GivenArguments::None => false,
+        GivenArguments::One(first) => is_missing(first.given),
+        GivenArguments::Two(first, second) => is_missing(first.given) || is_missing(second.given),
+    }
+}
+
+fn misses_timer(called: Called) -> bool
+    ensures { result ≡ spec.misses_timer called }
+{
+    match called {
+        Called::Missing => true,
+        Called::Misused | Called::Timer(_) => false,
+    }
+}
+
+/// Whether a name of the instruction is not declared.
+pub(crate) fn misses_name(resolved: Resolved) -> bool
+    ensures { result ≡ spec.misses_name resolved }
+{
+    match resolved {
+        Resolved::Load { given, .. } | Resolved::Combine { given, .. } => is_missing(given),
+        Resolved::Store { target, .. } => is_missing(target),
+        Resolved::Call { called, arguments } => misses_timer(called) || misses_argument(arguments),
+        Resolved::Not | Resolved::Convert(_) | Resolved::Jump { .. } | Resolved::Return(_) => false,
+    }
+}
+
+/// Whether the instruction jumps to a label above, where so many labels stand above.
+pub(crate) fn jumps_back(passed: usize, resolved: Resolved) -> bool
+    ensures { result ≡ spec.jumps_back passed resolved }
+{
+    match resolved {
+        Resolved::Jump {
+            label: Some(label),
+            ..
+        } => label < passed,
+        _ => false,
+    }
+}
+
+/// Whether the instruction jumps to a label that is not there.
+pub(crate) fn misses_label(resolved: Resolved) -> bool
+    ensures { result ≡ spec.misses_label resolved }
+{
+    match resolved {
+        Resolved::Jump { label, .. } => label.is_none(),
+        _ => false,
+    }
+}
+
+fn is_fixed(given: Given) -> bool
+    ensures { result ≡ spec.is_fixed given }
+{
+    match given {
+        Given::Known(source) => !source.writable,
+        Given::Missing | Given::Misused | Given::Number(_) => false,
+    }
+}
+
+/// Whether the instruction writes what may only be read.
+pub(crate) fn writes_fixed(resolved: Resolved) -> bool
+    ensures { result ≡ spec.writes_fixed resolved }
+{
+    match resolved {
+        Resolved::Store { target, .. } => is_fixed(target),
+        _ => false,
+    }
+}
+
+/// Whether the instruction divides by what is not a literal other than 0.
+pub(crate) fn may_divide_by_zero(resolved: Resolved) -> bool
+    ensures { result ≡ spec.may_divide_by_zero resolved }
+{
+    match resolved {
+        Resolved::Combine {
+            operator,
+            is_nonzero,
+            ..
+        } => divides(operator) && !is_nonzero,
+        _ => false,
+    }
+}
+
+/// Whether what comes next in the text can be reached from the instruction.
+pub(crate) fn goes_on(resolved: Resolved) -> bool
+    ensures { result ≡ spec.goes_on resolved }
+{
+    match resolved {
+        Resolved::Jump { condition, .. } | Resolved::Return(condition) => is_conditional(condition),
+        _ => true,
+    }
+}
+
+/// The label that a jump goes to, if there is one.
+pub(crate) fn target_of(resolved: Resolved) -> Option<usize>
+    ensures { result ≡ spec.target_of resolved }
+{
+    match resolved {
+        Resolved::Jump { label, .. } => label,
+        _ => None,
+    }
+}

@@ -1,0 +1,428 @@
+// The items of a program, one after another: their faults, and what is left of them.
+ghost use Rattle.std.specs.Prelude.{◌≡◌, ◌<◌, ◌++◌, ◌∷◌, [], List, None, map, option_map, slice_get, IfOk, OnOk};
+ghost use Rattle.std.specs.Option.{option_to_list};
+ghost use Rattle.il_text.specs.Listing as text;
+ghost use Rattle.il_text.specs.Views.{entry_of, action_of};
+ghost use Rattle.il_check.specs.Faults.{noted};
+ghost use Rattle.il_check.specs.NamesView.{names_of};
+ghost use Rattle.il_check.specs.ProgramViews.{entry_view, item_view};
+ghost use Rattle.il_check.specs.Program as plain;
+ghost use Rattle.il_check.specs.Given.{resolved};
+ghost use Rattle.il_check.specs.Typing as typing;
+ghost use Rattle.il_check.specs.Rules as spec_rules;
+ghost use Rattle.il_check.specs.WalkView.{standing_of};
+ghost use Rattle.il_check.specs.WellTyped as spec;
+
+use crate::fault::CheckFault;
+use crate::given::Resolved;
+use crate::judge::{Closing, Place, note_closing, note_instruction, note_label, note_opening};
+use crate::names::Names;
+use crate::reach::{Reach, met, unreached};
+use crate::rules::{given_type, goes_on, target_of, type_after};
+use crate::typed::{TypedEntry, TypedItem};
+use crate::typing::{operation_in, transfer_in};
+use bay_base::types::ElementaryType;
+use il_text::program::{Instruction, Item, Operator};
+use std::alloc::{AllocError, Global};
+
+/// What is kept from item to item: the fault that is answered, if there is one so far, and a buffer for
+/// names that are looked up.
+#[derive(Drop)]
+pub(crate) struct Judge {
+    pub(crate) alloc: Global,
+    pub(crate) buffer: String,
+    pub(crate) found: Option<CheckFault>,
+}
+
+/// The operator of a parenthesis, and the lines of both of its ends.
+#[derive(Clone, Copy, Debug, PartialEq, Eq)]
+struct Frame {
+    line: usize,
+    operator: Operator,
+    negated: bool,
+    end: usize,
+}
+
+/// What is left of entries, and the type of the result behind them.
+#[derive(Drop)]
+struct Passed {
+    entries: Vec<TypedEntry>,
+    kind: Option<ElementaryType>,
+}
+
+impl Judge {
+    /// An instruction with what its names mean; its faults are noted.
+    fn instruction(
+        &mut self,
+        names: &Names,
+        place: Place,
+        line: usize,
+        instruction: Instruction<'_>,
+        kind: Option<ElementaryType>,
+    ) -> Result<Resolved, AllocError>
+        ensures resolved { IfOk result (λ r. r ≡ resolved (names_of names.now) (action_of instruction.entry)) }
+        ensures found { OnOk result (self.new.found
+            ≡ noted self.old.found (spec.instruction_faults place.is_reached place.passed line (resolved (names_of names.now) (action_of instruction.entry)) kind)) }
+    {
+        let resolved = names.resolve(&mut self.buffer, instruction)?;
+        self.found = note_instruction(self.found, place, line, resolved, kind);
+        Ok(resolved)
+    }
+
+    /// The entries of a parenthesis, or of what is before its end.
+    #[cycle(entries)]
+    fn entries(
+        &mut self,
+        names: &Names,
+        place: Place,
+        items: &[Item<'_>],
+    ) -> Result<Passed, AllocError>
+        ensures kind { IfOk result (λ p. p.kind ≡ spec.type_behind_all (names_of names.now) (text.entries_of (map entry_of items.now)) None) }
+        ensures left { IfOk result (λ p. plain.entries_of (map entry_view p.entries.items) ≡ spec.entries_left (names_of names.now) (text.entries_of (map entry_of items.now)) None) }
+        ensures found { OnOk result (self.new.found
+            ≡ noted self.old.found (spec.entries_faults (names_of names.now) place.is_reached place.passed (text.entries_of (map entry_of items.now)) None)) }
+    {
+        let mut passed = Passed {
+            entries: Vec::new(self.alloc),
+            kind: None,
+        };
+        for item in items {
+            self.entry(names, place, item, &mut passed)?;
+        }
+        Ok(passed)
+    }
+
+    /// One entry more.
+    #[cycle(entries)]
+    #[tactic(auto, using(crate::proofs::EntryLemmas::entry_rules))]
+    fn entry(
+        &mut self,
+        names: &Names,
+        place: Place,
+        item: &Item<'_>,
+        passed: &mut Passed,
+    ) -> Result<(), AllocError>
+        ensures kind { OnOk result (passed.new.kind ≡ spec.type_behind (names_of names.now) (entry_of item.now) passed.old.kind) }
+        ensures left { OnOk result (map entry_view passed.new.entries.items
+            ≡ map entry_view passed.old.entries.items ++ option_to_list (spec.entry_left (names_of names.now) (entry_of item.now) passed.old.kind)) }
+        ensures found { OnOk result (self.new.found
+            ≡ noted self.old.found (spec.entry_faults (names_of names.now) place.is_reached place.passed (entry_of item.now) passed.old.kind)) }
+    {
+        match item {
+            Item::Label { .. } => Ok(()),
+            Item::Instruction { line, instruction } => {
+                let resolved = self.instruction(names, place, *line, *instruction, passed.kind)?;
+                passed.add_operation(resolved)
+            }
+            Item::Block {
+                line,
+                operator,
+                negated,
+                items,
+                end,
+            } => {
+                let frame = Frame {
+                    line: *line,
+                    operator: *operator,
+                    negated: *negated,
+                    end: *end,
+                };
+                let block = self.block(names, place, frame, items.as_slice(), passed.kind)?;
+                passed.add_block(frame.operator, block)
+            }
+        }
+    }
+
+    /// A parenthesis: what is left of it on a result of this type, if that is set.
+    #[cycle(entries)]
+    fn block(
+        &mut self,
+        names: &Names,
+        place: Place,
+        frame: Frame,
+        items: &[Item<'_>],
+        kind: Option<ElementaryType>,
+    ) -> Result<Option<TypedEntry>, AllocError>
+        ensures left { IfOk result (λ b. option_map entry_view b
+            ≡ typing.block_in frame.operator frame.negated (spec.entries_left (names_of names.now) (text.entries_of (map entry_of items.now)) None) kind) }
+        ensures found { OnOk result (self.new.found
+            ≡ noted self.old.found (spec.entry_faults (names_of names.now) place.is_reached place.passed
+            (text.block frame.line frame.operator frame.negated (text.entries_of (map entry_of items.now)) frame.end) kind)) }
+    {
+        let Frame {
+            line,
+            operator,
+            negated,
+            end,
+        } = frame;
+        self.found = note_opening(self.found, place.is_reached, line, operator);
+        let inner = self.entries(names, place, items)?;
+        let closing = Closing {
+            operator,
+            negated,
+            inner: inner.kind,
+        };
+        self.found = note_closing(self.found, place.is_reached, end, closing, kind);
+        Ok(block_of(operator, negated, inner.entries, kind))
+    }
+}
+
+/// A parenthesis whose operator works on a result of this type.
+#[tactic(auto, using(crate::proofs::ViewLemmas::view_rules))]
+fn block_of(
+    operator: Operator,
+    negated: bool,
+    entries: Vec<TypedEntry>,
+    kind: Option<ElementaryType>,
+) -> Option<TypedEntry>
+    ensures { option_map entry_view result ≡ typing.block_in operator negated (plain.entries_of (map entry_view entries.items)) kind }
+{
+    match kind {
+        Some(kind) => Some(TypedEntry::Block {
+            operator,
+            kind,
+            negated,
+            entries,
+        }),
+        None => None,
+    }
+}
+
+impl Passed {
+    /// One instruction more.
+    #[tactic(auto, using(crate::proofs::ViewLemmas::view_rules))]
+    fn add_operation(&mut self, resolved: Resolved) -> Result<(), AllocError>
+        ensures kind { OnOk result (self.new.kind ≡ spec_rules.type_after resolved self.old.kind) }
+        ensures left { OnOk result (map entry_view self.new.entries.items
+            ≡ map entry_view self.old.entries.items ++ option_to_list (typing.entry_in resolved self.old.kind)) }
+    {
+        if let Some(operation) = operation_in(resolved, self.kind) {
+            self.entries.push(TypedEntry::Operation(operation))?;
+        }
+        self.kind = type_after(resolved, self.kind);
+        Ok(())
+    }
+
+    /// One parenthesis more, if something is left of it.
+    #[tactic(auto, using(crate::proofs::ViewLemmas::view_rules))]
+    fn add_block(&mut self, operator: Operator, block: Option<TypedEntry>) -> Result<(), AllocError>
+        ensures kind { OnOk result (self.new.kind ≡ option_map (spec_rules.gives operator) self.old.kind) }
+        ensures left { OnOk result (map entry_view self.new.entries.items
+            ≡ map entry_view self.old.entries.items ++ option_to_list (option_map entry_view block)) }
+    {
+        if let Some(entry) = block {
+            self.entries.push(entry)?;
+        }
+        self.kind = given_type(operator, self.kind);
+        Ok(())
+    }
+}
+
+/// What is left of a program's items, and what is known of the current result.
+#[derive(Drop)]
+pub(crate) struct Walk {
+    pub(crate) reach: Reach,
+    pub(crate) arrivals: Vec<Reach>,
+    pub(crate) passed: usize,
+    pub(crate) items: Vec<TypedItem>,
+}
+
+impl Walk {
+    fn place(&self) -> Place
+        ensures { result ≡ record { is_reached = self.now.reach.is_reached; passed = self.now.passed } }
+    {
+        Place {
+            is_reached: self.reach.is_reached,
+            passed: self.passed,
+        }
+    }
+
+    /// What jumps to the label with this number bring, as far as the text is read.
+    fn arrival(&self, label: usize) -> Reach
+        ensures { result ≡ spec.arrival (slice_get self.now.arrivals.items label) }
+    {
+        match self.arrivals.as_slice().get(label) {
+            Some(reach) => *reach,
+            None => unreached(),
+        }
+    }
+
+    /// Notes what a jump brings to its label.
+    fn arrive(&mut self, label: Option<usize>)
+        ensures arrivals { self.new.arrivals.items ≡ spec.arrived label self.old.reach self.old.arrivals.items }
+        ensures reach { self.new.reach ≡ self.old.reach }
+        ensures passed { self.new.passed ≡ self.old.passed }
+        ensures items { self.new.items ≡ self.old.items }
+    {
+        if let Some(label) = label {
+            let reach = met(self.arrival(label), self.reach);
+            if label < self.arrivals.len() {
+                self.arrivals[label] = reach;
+            }
+        }
+    }
+
+    /// Goes behind an instruction.
+    fn follow(&mut self, resolved: Resolved)
+        ensures standing { standing_of self.new ≡ spec.moved resolved (standing_of self.old) }
+        ensures items { self.new.items ≡ self.old.items }
+    {
+        self.arrive(target_of(resolved));
+        self.reach = Reach {
+            is_reached: self.reach.is_reached && goes_on(resolved),
+            kind: type_after(resolved, self.reach.kind),
+        };
+    }
+
+    /// Goes behind a label.
+    fn enter_label(&mut self)
+        requires { self.old.passed < usize.MAX }
+        ensures standing { standing_of self.new ≡ spec.behind_label (standing_of self.old) }
+        ensures items { self.new.items ≡ self.old.items }
+    {
+        self.reach = met(self.reach, self.arrival(self.passed));
+        self.passed += 1;
+    }
+
+    /// What is left of an instruction.
+    #[tactic(auto, using(crate::proofs::ViewLemmas::view_rules))]
+    fn add_instruction(&mut self, resolved: Resolved) -> Result<(), AllocError>
+        ensures items { OnOk result (map item_view self.new.items.items
+            ≡ map item_view self.old.items.items ++ option_to_list (typing.item_in resolved self.old.reach.kind)) }
+        ensures standing { OnOk result (standing_of self.new ≡ standing_of self.old) }
+    {
+        if let Some(transfer) = transfer_in(resolved) {
+            self.items.push(TypedItem::Transfer(transfer))?;
+        } else if let Some(operation) = operation_in(resolved, self.reach.kind) {
+            self.items
+                .push(TypedItem::Entry(TypedEntry::Operation(operation)))?;
+        }
+        Ok(())
+    }
+
+    /// A label, by its number.
+    fn add_label(&mut self) -> Result<(), AllocError>
+        requires { self.old.passed < usize.MAX }
+        ensures items { OnOk result (map item_view self.new.items.items ≡ map item_view self.old.items.items ++ plain.label self.old.passed ∷ []) }
+        ensures standing { OnOk result (standing_of self.new ≡ spec.behind_label (standing_of self.old)) }
+    {
+        self.items.push(TypedItem::Label(self.passed))?;
+        self.enter_label();
+        Ok(())
+    }
+
+    /// A parenthesis, if something is left of it.
+    #[tactic(auto, using(crate::proofs::ViewLemmas::view_rules))]
+    fn add_block(&mut self, operator: Operator, block: Option<TypedEntry>) -> Result<(), AllocError>
+        ensures items { OnOk result (map item_view self.new.items.items
+            ≡ map item_view self.old.items.items ++ option_to_list (option_map (λ e. plain.plain (entry_view e)) block)) }
+        ensures standing { OnOk result (standing_of self.new ≡ spec.behind_block operator (standing_of self.old)) }
+    {
+        if let Some(entry) = block {
+            self.items.push(TypedItem::Entry(entry))?;
+        }
+        self.reach.kind = given_type(operator, self.reach.kind);
+        Ok(())
+    }
+}
+
+impl Judge {
+    /// A label.
+    fn label(
+        &mut self,
+        names: &Names,
+        line: usize,
+        name: &str,
+        walk: &mut Walk,
+    ) -> Result<(), AllocError>
+        requires { walk.old.passed < usize.MAX }
+        ensures standing { OnOk result (standing_of walk.new ≡ spec.behind (names_of names.now) (text.label line name.now) (standing_of walk.old)) }
+        ensures items { OnOk result (map item_view walk.new.items.items ≡ map item_view walk.old.items.items ++ plain.label walk.old.passed ∷ []) }
+        ensures found { OnOk result (self.new.found ≡ noted self.old.found (spec.item_faults (names_of names.now) (text.label line name.now) (standing_of walk.old))) }
+    {
+        let number = names.label(&mut self.buffer, name)?;
+        self.found = note_label(self.found, line, number, walk.passed);
+        walk.add_label()
+    }
+
+    /// An instruction outside of parentheses.
+    fn act(
+        &mut self,
+        names: &Names,
+        line: usize,
+        instruction: Instruction<'_>,
+        walk: &mut Walk,
+    ) -> Result<(), AllocError>
+        ensures standing { OnOk result (standing_of walk.new ≡ spec.behind (names_of names.now) (text.action line (action_of instruction.entry)) (standing_of walk.old)) }
+        ensures items { OnOk result (map item_view walk.new.items.items
+            ≡ map item_view walk.old.items.items ++ option_to_list (spec.item_left (names_of names.now) (text.action line (action_of instruction.entry)) (standing_of walk.old))) }
+        ensures found { OnOk result (self.new.found
+            ≡ noted self.old.found (spec.item_faults (names_of names.now) (text.action line (action_of instruction.entry)) (standing_of walk.old))) }
+    {
+        let resolved = self.instruction(names, walk.place(), line, instruction, walk.reach.kind)?;
+        walk.add_instruction(resolved)?;
+        walk.follow(resolved);
+        Ok(())
+    }
+
+    /// One item more.
+    #[tactic(auto, using(crate::proofs::EntryLemmas::entry_rules))]
+    fn item(&mut self, names: &Names, item: &Item<'_>, walk: &mut Walk) -> Result<(), AllocError>
+        requires { walk.old.passed < usize.MAX }
+        ensures standing { OnOk result (standing_of walk.new ≡ spec.behind (names_of names.now) (entry_of item.now) (standing_of walk.old)) }
+        ensures items { OnOk result (map item_view walk.new.items.items
+            ≡ map item_view walk.old.items.items ++ option_to_list (spec.item_left (names_of names.now) (entry_of item.now) (standing_of walk.old))) }
+        ensures found { OnOk result (self.new.found ≡ noted self.old.found (spec.item_faults (names_of names.now) (entry_of item.now) (standing_of walk.old))) }
+    {
+        match item {
+            Item::Label { line, name } => self.label(names, *line, name, walk),
+            Item::Instruction { line, instruction } => {
+                self.act(names, *line, *instruction, walk)
+            }
+            Item::Block {
+                line,
+                operator,
+                negated,
+                items,
+                end,
+            } => {
+                let frame = Frame {
+                    line: *line,
+                    operator: *operator,
+                    negated: *negated,
+                    end: *end,
+                };
+                let kind = walk.reach.kind;
+                let block = self.block(names, walk.place(), frame, items.as_slice(), kind)?;
+                walk.add_block(frame.operator, block)
+            }
+        }
+    }
+
+    /// All items of a program.
+    pub(crate) fn items(
+        &mut self,
+        names: &Names,
+        items: &[Item<'_>],
+        arrivals: Vec<Reach>,
+    ) -> Result<Vec<TypedItem>, AllocError>
+        ensures left { IfOk result (λ left. map item_view left.items ≡ spec.items_left (names_of names.now) (map entry_of items.now) (spec.first arrivals.items)) }
+        ensures found { OnOk result (self.new.found
+            ≡ noted self.old.found (spec.items_faults (names_of names.now) (map entry_of items.now) (spec.first arrivals.items))) }
+    {
+        let mut walk = Walk {
+            reach: Reach {
+                is_reached: true,
+                kind: None,
+            },
+            arrivals,
+            passed: 0,
+            items: Vec::new(self.alloc),
+        };
+        for item in items {
+            self.item(names, item, &mut walk)?;
+        }
+        let Walk { items, .. } = walk;
+        Ok(items)
+    }
+}
