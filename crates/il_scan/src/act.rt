@@ -6,7 +6,7 @@ ghost use Rattle.il_image.specs.Timers as time;
 ghost use Rattle.il_scan.specs.Words as spec;
 ghost use Rattle.il_scan.specs.Words.{IsReady, IsSpan, is_true, joined, slot_at, timer_at, word_of, worked, words};
 
-use crate::stack::{Stack, pop, push, top};
+use crate::stack::{Stack, pop, push, replace_top, top};
 use il_image::arithmetic::{Comparison, Operation, Width, compare, compute};
 use il_image::instr::Instr;
 use il_image::opcode::{Connective, SlotUse, TimerUse, When};
@@ -19,8 +19,8 @@ fn negate(stack: &mut Stack)
     requires some { 0 < length (reverse stack.old.items) }
     ensures { reverse stack.new.items ≡ word_of (int_eq (spec.top (reverse stack.old.items)) (pos 0)) ∷ drop 1 (reverse stack.old.items) }
 {
-    let word = pop(stack);
-    push(stack, i64::from(word == 0));
+    let word = top(stack);
+    replace_top(stack, i64::from(word == 0));
 }
 
 /// AND: two BOOLs become one.
@@ -31,8 +31,8 @@ fn and(stack: &mut Stack)
     ensures { reverse stack.new.items ≡ joined Connective.And (spec.first (reverse stack.old.items)) (spec.top (reverse stack.old.items)) ∷ drop 2 (reverse stack.old.items) }
 {
     let second = pop(stack);
-    let first = pop(stack);
-    push(stack, if first == 0 { 0 } else { second });
+    let first = top(stack);
+    replace_top(stack, if first == 0 { 0 } else { second });
 }
 
 /// OR: two BOOLs become one.
@@ -43,8 +43,8 @@ fn or(stack: &mut Stack)
     ensures { reverse stack.new.items ≡ joined Connective.Or (spec.first (reverse stack.old.items)) (spec.top (reverse stack.old.items)) ∷ drop 2 (reverse stack.old.items) }
 {
     let second = pop(stack);
-    let first = pop(stack);
-    push(stack, if first == 0 { second } else { 1 });
+    let first = top(stack);
+    replace_top(stack, if first == 0 { second } else { 1 });
 }
 
 /// XOR: two BOOLs become one.
@@ -55,8 +55,8 @@ fn xor(stack: &mut Stack)
     ensures { reverse stack.new.items ≡ joined Connective.Xor (spec.first (reverse stack.old.items)) (spec.top (reverse stack.old.items)) ∷ drop 2 (reverse stack.old.items) }
 {
     let second = pop(stack);
-    let first = pop(stack);
-    push(stack, i64::from(first != second));
+    let first = top(stack);
+    replace_top(stack, i64::from(first != second));
 }
 
 /// AND, OR or XOR.
@@ -82,8 +82,8 @@ fn calculate(stack: &mut Stack, operation: Operation, width: Width)
     ensures { reverse stack.new.items ≡ computed operation width (spec.first (reverse stack.old.items)) (spec.top (reverse stack.old.items)) ∷ drop 2 (reverse stack.old.items) }
 {
     let second = pop(stack);
-    let first = pop(stack);
-    push(stack, compute(operation, width, first, second));
+    let first = top(stack);
+    replace_top(stack, compute(operation, width, first, second));
 }
 
 /// ADD, SUB, MUL, DIV or MOD. Each is a call of its own, so that what is done is known where the opcode is.
@@ -111,8 +111,8 @@ fn relate(stack: &mut Stack, comparison: Comparison)
     ensures { reverse stack.new.items ≡ word_of (compared comparison (spec.first (reverse stack.old.items)) (spec.top (reverse stack.old.items))) ∷ drop 2 (reverse stack.old.items) }
 {
     let second = pop(stack);
-    let first = pop(stack);
-    push(stack, i64::from(compare(comparison, first, second)));
+    let first = top(stack);
+    replace_top(stack, i64::from(compare(comparison, first, second)));
 }
 
 /// GT, GE, EQ, NE, LE or LT.

@@ -1,5 +1,5 @@
 // The operand stack: at most 32 words, which contracts see with the top first.
-ghost use Rattle.std.specs.Prelude.{◌≡◌, ◌<◌, ◌≤◌, ◌∷◌, length, reverse};
+ghost use Rattle.std.specs.Prelude.{◌≡◌, ◌<◌, ◌≤◌, ◌∷◌, drop, length, reverse};
 ghost use Rattle.il_scan.specs.Words as spec;
 
 use arrayvec::ArrayVec;
@@ -35,4 +35,15 @@ pub(crate) fn top(stack: &Stack) -> i64
 {
     let words = stack.as_slice();
     words[words.len() - 1]
+}
+
+/// Puts a word in the place of the top.
+#[inline(always)]
+pub(crate) fn replace_top(stack: &mut Stack, word: i64)
+    requires { 0 < length (reverse stack.old.items) }
+    ensures { reverse stack.new.items ≡ word ∷ drop 1 (reverse stack.old.items) }
+{
+    let words = stack.as_mut_slice();
+    let last = words.len() - 1;
+    words[last] = word;
 }
