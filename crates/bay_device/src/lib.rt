@@ -4,9 +4,10 @@
 // look-ups), `event` (what happens to a device, and what is answered), `fault` (why texts are not loaded, and why
 // an event is refused).
 //
-// Within: `straight` is the part of the language that runs as yet, and `outside` finds what is not of it. `bind` puts a checked program on its slots (`program`, with their `values`) and gives each `switch` of the
-// bay its `rows`, which `nodes` finds by their names. `state` is all that a step works on, and can take no memory:
-// `step` does an event, by `contact` or by `scan`, and `look_ups` answers what is asked.
+// Within: `straight` is the part of the language that runs as yet (its slots are numbered by `counts`), and `outside`
+// finds what is not of it. `bind` puts a checked program on its slots (`program`, with their `values`) and gives each
+// `switch` of the bay its `rows`, which `nodes` finds by their names. `state` is all that a step works on, and can
+// take no memory: `step` does an event, by `contact` or by `scan`, and `look_ups` answers what is asked.
 #![tactic(auto)]
 
 mod bind;

@@ -95,7 +95,10 @@ fn operations(rt: HostRuntime) -> Result<(), Fail> {
     ];
     assert_eq!(rt; typed.items().len(), 4);
     for (i, operation) in expected.iter().enumerate() {
-        assert!(rt; operation_of(typed.items().get(i)) == Some(*operation), "{i}");
+        assert!(rt;
+            operation_of(typed.items().get(i)) == Some(*operation),
+            "{i}"
+        );
     }
     Ok(())
 }
