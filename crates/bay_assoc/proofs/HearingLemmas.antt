@@ -1,5 +1,5 @@
 -- What is spelled so is heard so.
-use Rattle.std.proofs.Common.{◌≡◌, ℕ, pos, List, [], ◌∷◌, Option, Some, None, Result, Ok, Err, refl, sym, ap, ◌∙◌}
+use Rattle.std.proofs.Common.{◌≡◌, ℕ, pos, List, Option, Some, None, Result, Ok, refl, sym, ap, ◌∙◌}
 use Rattle.std.proofs.lemmas.Bool.{eq-eqb}
 use Rattle.bay_assoc.specs.declared.fault.AssocFault.{AssocFault}
 use Rattle.bay_assoc.specs.declared.hearing.Link.{Link}
@@ -16,12 +16,22 @@ use Rattle.bay_assoc.proofs.ValueLemmas.{user_read, request_read, associate_read
 answered : (octets text : List ℕ) (link : Link) → IsAnswered octets text link → hearing Idle octets ≡ Ok (answer text, Open link)
 unfolding hearing connected
 answered octets text link a =
-    rw (spdu_again octets (connect a.user) a.spdu, request_read a.user a.request a.is_request, a.contexts, a.in_acse, eq-eqb link.contexts.acse link.contexts.acse refl,
-        associate_read a.value (record { id = pos link.contexts.mms; value = a.pdu }) a.associate, eq-eqb link.contexts.mms link.contexts.mms refl, a.initiate, a.is_agreed)
+    rw (
+      spdu_again octets (connect a.user) a.spdu,
+      request_read a.user a.request a.is_request,
+      a.contexts,
+      a.in_acse,
+      eq-eqb link.contexts.acse link.contexts.acse refl,
+      associate_read a.value (record { id = pos link.contexts.mms; value = a.pdu }) a.associate,
+      eq-eqb link.contexts.mms link.contexts.mms refl,
+      a.initiate,
+      a.is_agreed,
+    )
     (ap with_size a.size ∙ ap with_text (sym a.is))
   where
     with_size : ℕ → Result (Hearing × Phase) AssocFault
     with_size n = Ok (answer (answer_text a.request link.contexts a.agreed), Open (record { contexts = link.contexts; size = n }))
+
     with_text : List ℕ → Result (Hearing × Phase) AssocFault
     with_text t = Ok (answer t, Open link)
 

@@ -1,19 +1,19 @@
 -- Octets that are a PPDU or an APDU are read as it.
-use Rattle.std.proofs.Common.{◌≡◌, ℕ, ℤ, pos, ◌+◌, ◌<◌, ◌≤◌, ◌&&◌, Bool, true, false, cond, ltb, List, [], ◌∷◌, ◌++◌, length, map, filter, Option, Some, None, refl, sym, ap, ◌∙◌, arith, inl, inr}
+use Rattle.std.proofs.Common.{◌≡◌, ℕ, ℤ, pos, ◌<◌, ◌≤◌, ◌&&◌, Bool, List, [], ◌∷◌, ◌++◌, length, map, filter, Option, Some, None, refl, sym, ap, ◌∙◌, inl, inr}
 use Rattle.std.specs.List.{list_any}
 use Rattle.std.specs.Str.{bytes_eq}
 use Rattle.std.proofs.lemmas.Bool.{lt-ltb, le-ltb}
 use Rattle.bay_ber.specs.declared.tag.Tag.{Tag}
 use Rattle.bay_ber.specs.Options.{◌>>=◌}
-use Rattle.bay_ber.specs.Content.{IsInteger, integer_in}
-use Rattle.bay_ber.specs.Values.{Part, SpellAll, values_in, only_one, value_in, at_most_five, few_in, all_of, each_in, is_known, known_in, under}
+use Rattle.bay_ber.specs.Content.{IsInteger}
+use Rattle.bay_ber.specs.Values.{Part, SpellAll, only_one, value_in, at_most_five, few_in, all_of, is_known, known_in}
 use Rattle.bay_ber.proofs.ContentLemmas.{integer_again}
 use Rattle.bay_ber.proofs.ListingLemmas.{values_again}
 use Rattle.bay_mms.specs.Tags.{context, constructed, sequence, int_tag}
-use Rattle.bay_assoc.specs.Tags.{oid_tag, set_tag, external_tag, application, acse_syntax, mms_syntax, ber_syntax, mms_application}
+use Rattle.bay_assoc.specs.Tags.{oid_tag, set_tag, external_tag, application, mms_syntax, ber_syntax, mms_application}
 use Rattle.bay_assoc.specs.declared.presentation.Context.{Context}
-use Rattle.bay_assoc.specs.Presentation.{integer_under, is_ber, offers_ber, context_id, context_with, context_of, context_as, are_distinct, limited, contexts_in, Carried, carried_as, carried_of, carried_in, carried_under, user_in, Connect, selector_of, selector_as, connect_with, connect_of, normal_in, normal_as, mode_of, mode_as, request_of, request_in}
-use Rattle.bay_assoc.specs.Acse.{application_of, application_as, information_as, associate_of, associate_in, release_in}
+use Rattle.bay_assoc.specs.Presentation.{integer_under, is_ber, offers_ber, context_id, context_with, context_as, contexts_in, Carried, carried_as, carried_of, carried_in, carried_under, user_in, Connect, selector_of, selector_as, connect_with, connect_of, normal_in, normal_as, mode_as, request_in}
+use Rattle.bay_assoc.specs.Acse.{application_as, information_as, associate_in, release_in}
 use Rattle.bay_assoc.specs.SpelledValues.{value, IsName, IsCarried, IsListed, IsUser, IsContext, AreContexts, IsOffer, IsSelectors, IsNormal, IsMode, IsRequest, IsAssociate, IsRelease}
 
 -- ---- one value, few values and known ones
@@ -82,7 +82,7 @@ unfolding context_with
 with_read octets c x =
     rw (integer_read x.number (pos c.id) x.id, id_read c.id x.some x.low, offers_read x.list x.transfers x.listed)
     (ap Some (ap (λ (b : Bool). let made : Context = record { id = c.id; is_acse = b; is_mms = list_any (λ t. bytes_eq t ber_syntax) x.transfers && bytes_eq x.name mms_syntax } in made) (sym x.is_acse)
-        ∙ ap (λ (b : Bool). let made : Context = record { id = c.id; is_acse = c.is_acse; is_mms = b } in made) (sym x.is_mms)))
+    ∙ ap (λ (b : Bool). let made : Context = record { id = c.id; is_acse = c.is_acse; is_mms = b } in made) (sym x.is_mms)))
 
 context_read : (octets : List ℕ) (c : Context) → IsContext octets c → context_as (value sequence octets) ≡ Some c
 unfolding context_as

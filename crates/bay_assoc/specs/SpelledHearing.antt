@@ -3,12 +3,11 @@ use Rattle.std.specs.Prelude.{ℕ, pos, ◌≡◌, List, [], ◌∷◌, Option, 
 use Rattle.bay_mms.specs.declared.request.Proposal.{Proposal}
 use Rattle.bay_mms.specs.declared.response.Agreed.{Agreed}
 use Rattle.bay_mms.specs.Grammar.{initiate_in}
-use Rattle.bay_assoc.specs.declared.hearing.Accepted.{Accepted}
 use Rattle.bay_assoc.specs.declared.hearing.Link.{Link}
 use Rattle.bay_assoc.specs.declared.hearing.Phase.{Phase}
 use Rattle.bay_assoc.specs.declared.hearing.Phase.TheVariants.{Idle, Open, Over, Failed}
 use Rattle.bay_assoc.specs.Session.{connect, finish, abort, transfer}
-use Rattle.bay_assoc.specs.Presentation.{Carried, Connect}
+use Rattle.bay_assoc.specs.Presentation.{Connect}
 use Rattle.bay_assoc.specs.Texts.{disconnect_text, user_text, release_text}
 use Rattle.bay_assoc.specs.Hearing.{Hearing, answer, mms, released, aborted, accepted_of, agreed_of, answer_text}
 use Rattle.bay_assoc.specs.SpelledSession.{IsSpdu}

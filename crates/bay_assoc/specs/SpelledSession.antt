@@ -1,5 +1,5 @@
 -- How SPDUs are spelled (X.225 8.2 and 8.3).
-use Rattle.std.specs.Prelude.{ℕ, ◌≡◌, ◌+◌, ◌*◌, ◌<◌, List, [], ◌∷◌, ◌++◌, length, filter, Option, Some, None}
+use Rattle.std.specs.Prelude.{ℕ, ◌≡◌, ◌+◌, ◌*◌, ◌<◌, List, [], ◌∷◌, ◌++◌, length, filter, Some, None}
 use Rattle.bay_assoc.specs.Session.{Unit, is_user, Spdu, connect, accept, finish, disconnect, abort, transfer}
 
 -- A length is one octet below 255, or 255 and two octets, the higher first (X.225 8.2.5).
