@@ -110,5 +110,5 @@ item_in r result = or_entry (transfer_in r) (entry_in r result)
 
 -- a parenthesis whose operator works on a result of this type
 abbrev pub block_in : Operator → Bool → Entries → Option ElementaryType → Option Entry
-block_in operator negated entries None = None
-block_in operator negated entries (Some kind) = Some (block operator kind negated entries)
+block_in operator negated inner None = None
+block_in operator negated inner (Some kind) = Some (block operator kind negated inner)
