@@ -2,6 +2,7 @@ pub mod ApartLemmas
 pub mod CheckedLemmas
 pub mod EntryLemmas
 pub mod LabelLemmas
+pub mod LabellingLemmas
 pub mod NameLemmas
 pub mod NotedLemmas
 pub mod StandingLemmas

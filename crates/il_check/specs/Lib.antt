@@ -4,6 +4,7 @@ pub mod Contents
 pub mod Declaring
 pub mod Faults
 pub mod Given
+pub mod Labelling
 pub mod LabelsView
 pub mod NamesView
 pub mod PartsView

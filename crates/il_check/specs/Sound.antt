@@ -1,6 +1,9 @@
--- What holds of each checked program: its names differ, and what its items name is there.
-use Rattle.std.specs.Prelude.{◌≡◌, ℕ, ◌<◌, false, List, [], ◌++◌, length, map, slice_index_or}
+-- What holds of each checked program: it is what the checks make of some program that has no fault, and its names differ.
+use Rattle.std.specs.Prelude.{◌≡◌, ℕ, ◌<◌, false, List, [], ◌++◌, length, map, slice_index_or, Ok}
 use Rattle.bay_base.specs.Names.{same_name}
+use Rattle.bay_config.specs.declared.bay.Point.{Point}
+use Rattle.il_text.specs.Listing as text
+use Rattle.il_check.specs.Checking.{checked_of}
 use Rattle.il_check.specs.Program.{Checked}
 
 -- the names of the slots: of the externals, then of the variables
@@ -14,5 +17,10 @@ name_at names slot = slice_index_or names slot []
 abbrev pub AreApart : List (List ℕ) → Type 0
 AreApart names = (i j : ℕ) → i < j → j < length names → same_name (name_at names i) (name_at names j) ≡ false
 
+-- Some program has no fault with some points, and this is what is left of it.
+abbrev pub WasChecked : Checked → Type 0
+WasChecked c = (points : List Point) × (program : text.PlainProgram) × (checked_of points program ≡ Ok c)
+
 pub record IsSound (c : Checked) : Type 0 where
+  pub checked : WasChecked c
   pub apart : AreApart (slot_names c)

@@ -12,6 +12,7 @@
 // - `reach`: what is known of the current result at a place.
 // - `judge`: the faults of one instruction.
 // - `walk`: the items of a program, one after another.
+// - `laws`: what holds of the definitions that the contracts cite.
 // - `note`: the fault that is answered, of all that are found.
 #![tactic(auto)]
 
@@ -21,6 +22,7 @@ pub mod fault;
 pub mod given;
 mod judge;
 mod labels;
+pub mod laws;
 mod names;
 mod note;
 pub mod program;

@@ -84,9 +84,10 @@ impl Typed {
         self.timers.as_slice()
     }
 
-    /// The items, in the order of the text.
+    /// The items, in the order of the text. The program is what the checks make of one without a fault.
     pub fn items(&self) -> &[TypedItem]
-        ensures { result.now ≡ self.now.items }
+        ensures value { result.now ≡ self.now.items }
+        ensures sound { IsSound (checked_view self.now) }
     {
         self.items.as_slice()
     }

@@ -11,7 +11,10 @@ of_parts-requires c =
     let read : IsRead c.args.points.now (plain_program c.args.program.now) c.in_ok-declared.declared c.in_ok-labels.labels names (map item_view c.in_ok-items.items.items) c.items.new.self.found =
     is_read c.args.points.now c.args.program.now c.as_slice.result.now c.as_slice-2.result.now c.as_slice-3.result.now c.in_ok-declared.declared c.in_ok-labels.labels _ _
     c.as_slice.ensures.value c.as_slice-2.ensures.value c.as_slice-3.ensures.value c.in_ok-declared.ensures.stands c.in_ok-declared.ensures.found c.in_ok-labels.ensures c.in_ok-items.ensures.left c.in_ok-items.ensures.found in
-    record { apart = apart_names c.args.points.now (plain_program c.args.program.now) c.in_ok-declared.declared c.in_ok-labels.labels names _ _ read c.in-None.is }
+    record {
+      checked = (c.args.points.now, plain_program c.args.program.now, passed c.args.points.now (plain_program c.args.program.now) c.in_ok-declared.declared c.in_ok-labels.labels names _ _ read c.in-None.is);
+      apart = apart_names c.args.points.now (plain_program c.args.program.now) c.in_ok-declared.declared c.in_ok-labels.labels names _ _ read c.in-None.is;
+    }
 
 pub returns-in-Some : goal.returns-in-Some
 returns-in-Some c =

@@ -1,0 +1,119 @@
+-- Well typed, in words of labels: each label has a type of the current result, or none, with which every instruction is right.
+use Rattle.std.specs.Prelude.{◌≡◌, ℕ, ◌+◌, ◌<◌, ◌==◌, ◌||◌, ◌⊎◌, Bool, true, false, is_some, List, [], ◌∷◌, Option, None, Some, option_map, if◌then◌else◌}
+use Rattle.bay_base.specs.declared.types.ElementaryType.{ElementaryType}
+use Rattle.il_text.specs.Listing as text
+use Rattle.il_text.specs.declared.program.Operator.{Operator}
+use Rattle.il_check.specs.Given.{Names, resolved}
+use Rattle.il_check.specs.Rules.{is_wrong, is_unset, type_after, joins_wrong, joins_unset, misses_name, jumps_back, misses_label, writes_fixed, may_divide_by_zero, divides, gives, goes_on, target_of}
+use Rattle.il_check.specs.WellTyped.{Standing, behind, is_first, type_behind, type_behind_all}
+use Rattle.il_check.specs.declared.given.Resolved.{Resolved}
+
+-- the type of the current result at each label by its number, or none where it is unset
+abbrev pub Labelling : Type 0
+Labelling = ℕ → Option ElementaryType
+
+-- A result of this type is one of that type, or that is unset.
+abbrev pub Becomes : Option ElementaryType → Option ElementaryType → Type 0
+Becomes t u = (u ≡ t) ⊎ (u ≡ None)
+
+-- ---- one instruction
+
+-- The instruction is right on a result of this type, where so many labels stand above it.
+pub record IsRight (passed : ℕ) (r : Resolved) (result : Option ElementaryType) : Type 0 where
+  pub named : misses_name r ≡ false
+  pub allowed : is_wrong r result ≡ false
+  pub set : is_unset r result ≡ false
+  pub forward : jumps_back passed r ≡ false
+  pub labelled : misses_label r ≡ false
+  pub writable : writes_fixed r ≡ false
+  pub nonzero : may_divide_by_zero r ≡ false
+
+-- The operator of a parenthesis is right, which gives a result of this type, on a result of that type.
+pub record IsJoined (operator : Operator) (negated : Bool) (inner result : Option ElementaryType) : Type 0 where
+  pub nonzero : divides operator ≡ false
+  pub allowed : joins_wrong operator negated inner result ≡ false
+  pub set : joins_unset inner result ≡ false
+
+abbrev mutual
+  -- A parenthesis begins with a result that is not set.
+  pub IsRightEntry : Names → ℕ → text.Entry → Option ElementaryType → Type 0
+  IsRightEntry names passed (text.label line name) result = Unit {0}
+  IsRightEntry names passed (text.action line a) result = IsRight passed (resolved names a) result
+  IsRightEntry names passed (text.block line operator negated items end) result =
+      AreRightEntries names passed items None × IsJoined operator negated (type_behind_all names items None) result
+
+  pub AreRightEntries : Names → ℕ → text.Entries → Option ElementaryType → Type 0
+  AreRightEntries names passed text.no_entries result = Unit {0}
+  AreRightEntries names passed (text.entry e es) result = IsRightEntry names passed e result × AreRightEntries names passed es (type_behind names e result)
+
+-- ---- the items
+
+-- what comes to a place: the type of the result, or nothing where no way leads there
+abbrev pub Coming : Type 0
+Coming = Option (Option ElementaryType)
+
+-- A way that leads to a label brings its type, or the label is unset.
+abbrev pub Falls : Labelling → ℕ → Coming → Type 0
+Falls labels number None = Unit {0}
+Falls labels number (Some t) = Becomes t (labels number)
+
+abbrev pub Jumps : Labelling → Option ℕ → Option ElementaryType → Type 0
+Jumps labels None t = Unit {0}
+Jumps labels (Some number) t = Becomes t (labels number)
+
+-- one of the numbers is this one
+abbrev pub is_named : List ℕ → ℕ → Bool
+is_named [] number = false
+is_named (n ∷ ns) number = (n == number) || is_named ns number
+
+-- the labels that were jumped to, and this one
+abbrev pub with_target : Option ℕ → List ℕ → List ℕ
+with_target None named = named
+with_target (Some number) named = number ∷ named
+
+-- behind a label, to which a way leads from above, or by a jump
+abbrev pub behind_label : Labelling → ℕ → List ℕ → Coming → Coming
+behind_label labels number named now = if is_some now || is_named named number then Some (labels number) else None
+
+abbrev pub behind_action : Resolved → Option ElementaryType → Coming
+behind_action r t = if goes_on r then Some (type_after r t) else None
+
+-- Each instruction is reached, and right on the result that comes to it; and each way to a label brings the label's type, or
+-- the label is unset.
+abbrev pub Flows : Names → Labelling → List text.Entry → ℕ → List ℕ → Coming → Type 0
+Flows names labels [] passed named now = Unit {0}
+Flows names labels (text.label line name ∷ es) passed named now =
+    ((is_first passed (names.label name) ≡ true) × (passed < 256) × Falls labels passed now)
+    × Flows names labels es (passed + 1) named (behind_label labels passed named now)
+Flows names labels (text.action line a ∷ es) passed named now =
+    (t : Option ElementaryType)
+    × ((now ≡ Some t) × IsRight passed (resolved names a) t × Jumps labels (target_of (resolved names a)) t)
+    × Flows names labels es passed (with_target (target_of (resolved names a)) named) (behind_action (resolved names a) t)
+Flows names labels (text.block line operator negated items end ∷ es) passed named now =
+    (t : Option ElementaryType)
+    × ((now ≡ Some t) × IsRightEntry names passed (text.block line operator negated items end) t)
+    × Flows names labels es passed named (Some (option_map (gives operator) t))
+
+-- With some labelling every instruction is right. A program begins with a result that is not set.
+abbrev pub IsWellTyped : Names → List text.Entry → Type 0
+IsWellTyped names items = (labels : Labelling) × Flows names labels items 0 [] (Some None)
+
+-- ---- what comes behind items
+
+abbrev pub with_result : (Option ElementaryType → Coming) → Coming → Coming
+with_result f None = None
+with_result f (Some t) = f t
+
+abbrev pub coming_behind : Names → Labelling → List text.Entry → ℕ → List ℕ → Coming → Coming
+coming_behind names labels [] passed named now = now
+coming_behind names labels (text.label line name ∷ es) passed named now =
+    coming_behind names labels es (passed + 1) named (behind_label labels passed named now)
+coming_behind names labels (text.action line a ∷ es) passed named now =
+    coming_behind names labels es passed (with_target (target_of (resolved names a)) named) (with_result (behind_action (resolved names a)) now)
+coming_behind names labels (text.block line operator negated items end ∷ es) passed named now =
+    coming_behind names labels es passed named (with_result (λ t. Some (option_map (gives operator) t)) now)
+
+-- what the checks know behind items
+abbrev pub behind_all : Names → List text.Entry → Standing → Standing
+behind_all names [] s = s
+behind_all names (e ∷ es) s = behind_all names es (behind names e s)
