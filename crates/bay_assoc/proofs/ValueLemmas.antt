@@ -66,7 +66,7 @@ unfolding is_ber
 names_read [] = refl
 names_read (t ∷ transfers) = rw (names_read transfers) refl
 
-any_map : (transfers : List (List ℕ)) → list_any (λ b. b) (map (λ t. bytes_eq t ber_syntax) transfers) ≡ list_any (λ t. bytes_eq t ber_syntax) transfers
+pub any_map : (transfers : List (List ℕ)) → list_any (λ b. b) (map (λ t. bytes_eq t ber_syntax) transfers) ≡ list_any (λ t. bytes_eq t ber_syntax) transfers
 any_map [] = refl
 any_map (t ∷ transfers) = rw (any_map transfers) refl
 

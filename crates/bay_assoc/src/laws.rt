@@ -1,5 +1,6 @@
 // Laws of what is heard. Each function does nothing, and its contract is the law.
 ghost use Rattle.std.specs.Prelude.{◌≡◌, List, ℕ, Some, Ok};
+ghost use Rattle.bay_ber.specs.Octets.{AreOctets};
 ghost use Rattle.bay_assoc.specs.declared.hearing.Phase.{Phase};
 ghost use Rattle.bay_assoc.specs.Acse.{associate_in};
 ghost use Rattle.bay_assoc.specs.Hearing.{Hearing, hearing};
@@ -10,9 +11,10 @@ ghost use Rattle.bay_assoc.specs.SpelledSession.{IsSpdu};
 ghost use Rattle.bay_assoc.specs.SpelledValues.{IsUser, IsRequest, IsAssociate};
 
 /// A TSDU is heard in one way: what is spelled by the layers' relations is heard as that and nothing else, in the phase that
-/// follows.
+/// follows; and what is heard is spelled so.
 pub fn one_hearing()
     ensures heard { (old new : Phase) (octets : List ℕ) (h : Hearing) → IsHeard old octets h new → hearing old octets ≡ Ok (h, new) }
+    ensures spelled { (old new : Phase) (octets : List ℕ) (h : Hearing) → AreOctets octets → hearing old octets ≡ Ok (h, new) → IsHeard old octets h new }
     ensures one { (old new next : Phase) (octets : List ℕ) (h k : Hearing) → IsHeard old octets h new → IsHeard old octets k next → (h ≡ k) × (new ≡ next) }
 {}
 
@@ -23,4 +25,12 @@ pub fn one_spelling()
     ensures user { (octets : List ℕ) (c : Carried) → IsUser octets c → user_in octets ≡ Some c }
     ensures request { (octets : List ℕ) (c : Connect) → IsRequest octets c → request_in octets ≡ Some c }
     ensures associate { (octets : List ℕ) (c : Carried) → IsAssociate octets c → associate_in octets ≡ Some c }
+{}
+
+/// Octets that are read as an SPDU, as user data, as a request for a connection or as one for an association spell it.
+pub fn read_is_spelled()
+    ensures spdu { (octets : List ℕ) (s : Spdu) → AreOctets octets → spdu_in octets ≡ Some s → IsSpdu octets s }
+    ensures user { (octets : List ℕ) (c : Carried) → AreOctets octets → user_in octets ≡ Some c → IsUser octets c }
+    ensures request { (octets : List ℕ) (c : Connect) → AreOctets octets → request_in octets ≡ Some c → IsRequest octets c }
+    ensures associate { (octets : List ℕ) (c : Carried) → AreOctets octets → associate_in octets ≡ Some c → IsAssociate octets c }
 {}

@@ -1,0 +1,193 @@
+-- What octets are read as, they spell: values, fields and contents.
+use Rattle.std.proofs.Common.{◌≡◌, ℕ, zero, suc, ℤ, pos, negsuc, ◌+◌, ◌<◌, ◌&&◌, Bool, true, false, cond, ltb, List, [], ◌∷◌, ◌++◌, length, filter, Option, Some, None, refl, ap, subst, ◌∙◌, arith}
+use Rattle.std.specs.Prelude.{FitsSigned}
+use Rattle.std.specs.Int.{w64}
+use Rattle.std.proofs.lemmas.Bool.{eqb-true, ltb-true}
+use Rattle.std.proofs.lemmas.Int.{ints}
+use Rattle.std.proofs.lemmas.List.{get_or-append-add}
+use Rattle.bay_ber.specs.declared.tag.Class.{Class}
+use Rattle.bay_ber.specs.declared.tag.Class.TheVariants.{Universal, Application, ContextSpecific, Private}
+use Rattle.bay_ber.specs.declared.tag.Tag.{Tag}
+use Rattle.bay_ber.specs.Options.{◌>>=◌}
+use Rattle.bay_ber.specs.Content.{IsInteger, integer_in, is_integer, is_long, signed_of}
+use Rattle.bay_ber.specs.Spelling.{Spells}
+use Rattle.bay_ber.specs.Tags.{same_class, same_form, same_tag}
+use Rattle.bay_ber.specs.Values.{Part, SpellAll, values_in, only_one, value_in, at_most_five, few_in, all_of, each_in, is_known, known_in, under}
+use Rattle.bay_ber.proofs.ReadLemmas.{IsBytes}
+use Rattle.bay_ber.proofs.ListingLemmas.{values_take}
+use Rattle.bay_mms.specs.Tags.{int_tag}
+use Rattle.bay_assoc.specs.Presentation.{integer_under}
+use Rattle.bay_assoc.specs.SpelledValues.{value}
+use Rattle.bay_assoc.proofs.UnitLemmas.{bind_some}
+
+-- ---- octets
+
+pub bytes_behind : (xs ys : List ℕ) → IsBytes (xs ++ ys) → IsBytes ys
+bytes_behind xs ys b i = subst (λ (n : ℕ). n < 256) (get_or-append-add xs ys i 0) (b (length xs + i))
+
+pub bytes_before : (xs ys : List ℕ) → IsBytes (xs ++ ys) → IsBytes xs
+bytes_before [] ys b i = omega arith
+bytes_before (x ∷ xs) ys b zero = b 0
+bytes_before (x ∷ xs) ys b (suc i) = bytes_before xs ys (λ j. b (suc j)) i
+
+content_bytes : (octets : List ℕ) (tag : Tag) (content : List ℕ) → Spells octets tag content → IsBytes octets → IsBytes content
+content_bytes octets tag content s b = bytes_behind s.len content (bytes_behind s.front (s.len ++ content) (subst IsBytes s.parts b))
+
+abbrev pub AllBytes : List Part → Type 0
+AllBytes [] = Unit {0}
+AllBytes (p ∷ ps) = IsBytes p.content × AllBytes ps
+
+all_bytes : (octets : List ℕ) (parts : List Part) → IsBytes octets → SpellAll octets parts → AllBytes parts
+all_bytes octets [] b s = tt
+all_bytes octets (p ∷ ps) b s =
+    let whole : IsBytes (s.0 ++ s.1) = subst IsBytes s.2 b in
+    (content_bytes s.0 p.tag p.content s.3 (bytes_before s.0 s.1 whole), all_bytes s.1 ps (bytes_behind s.0 s.1 whole) s.4)
+
+chosen_bytes : (x : Bool) (p : Part) (more : List Part) → IsBytes p.content → AllBytes more → AllBytes (cond x (p ∷ more) more)
+chosen_bytes true p more b bs = (b, bs)
+chosen_bytes false p more b bs = bs
+
+filter_bytes : (f : Part → Bool) (parts : List Part) → AllBytes parts → AllBytes (filter f parts)
+filter_bytes f [] b = tt
+filter_bytes f (p ∷ ps) b = chosen_bytes (f p) p (filter f ps) b.0 (filter_bytes f ps b.1)
+
+-- ---- tags
+
+pub both : (a b : Bool) → (a && b) ≡ true → (a ≡ true) × (b ≡ true)
+both true true e = (refl, refl)
+both true false e = absurd cc
+both false true e = absurd cc
+both false false e = absurd cc
+
+class_is : (a b : Class) → same_class a b ≡ true → a ≡ b
+class_is Universal Universal e = refl
+class_is Universal Application e = absurd cc
+class_is Universal ContextSpecific e = absurd cc
+class_is Universal Private e = absurd cc
+class_is Application Universal e = absurd cc
+class_is Application Application e = refl
+class_is Application ContextSpecific e = absurd cc
+class_is Application Private e = absurd cc
+class_is ContextSpecific Universal e = absurd cc
+class_is ContextSpecific Application e = absurd cc
+class_is ContextSpecific ContextSpecific e = refl
+class_is ContextSpecific Private e = absurd cc
+class_is Private Universal e = absurd cc
+class_is Private Application e = absurd cc
+class_is Private ContextSpecific e = absurd cc
+class_is Private Private e = refl
+
+form_is : (a b : Bool) → same_form a b ≡ true → a ≡ b
+form_is true true e = refl
+form_is true false e = absurd cc
+form_is false true e = absurd cc
+form_is false false e = refl
+
+abbrev tag_with : Class → Bool → ℕ → Tag
+tag_with class constructed number = record { class = class; constructed = constructed; number = number }
+
+pub tag_is : (a b : Tag) → same_tag a b ≡ true → a ≡ b
+tag_is a b e =
+    let x = both _ _ e in
+    let y = both _ _ x.1 in
+    let class = class_is a.class b.class x.0 in
+    let form = form_is a.constructed b.constructed y.0 in
+    let number : a.number ≡ b.number = eqb-true a.number b.number y.1 in
+    ap (λ (c : Class). tag_with c a.constructed a.number) class ∙ ap (λ (f : Bool). tag_with b.class f a.number) form ∙ ap (λ (n : ℕ). tag_with b.class b.constructed n) number
+
+pub guard_true : {A : Type 0} (b : Bool) (x y : A) → cond b (Some x) None ≡ Some y → (b ≡ true) × (x ≡ y)
+guard_true true x y e = (refl, cc)
+guard_true false x y e = absurd cc
+
+pub guard_false : {A : Type 0} (b : Bool) (x y : A) → cond b None (Some x) ≡ Some y → (b ≡ false) × (x ≡ y)
+guard_false true x y e = absurd cc
+guard_false false x y e = (refl, cc)
+
+pub under_is : (tag : Tag) (p : Part) (content : List ℕ) → under tag p ≡ Some content → p ≡ value tag content
+under_is tag p content e =
+    let g = guard_true (same_tag p.tag tag) p.content content e in
+    ap (λ (t : Tag). value t p.content) (tag_is p.tag tag g.0) ∙ ap (value tag) g.1
+
+-- ---- integers
+
+long_is : (z : ℤ) → is_long z ≡ true → FitsSigned w64 z
+long_is (pos n) e = let b : n < 9223372036854775808 = ltb-true _ _ e in omega (arith, ints)
+long_is (negsuc n) e = let b : n < 9223372036854775808 = ltb-true _ _ e in omega (arith, ints)
+
+integer_is : (content : List ℕ) → is_integer content ≡ true → IsInteger content (signed_of content)
+unfolding is_integer
+integer_is content e =
+    let a = both _ _ e in
+    let b = both _ _ a.1 in
+    record { some = ltb-true _ _ a.0; few = (let f : length content < 10 = ltb-true _ _ b.0 in omega arith); is = refl; fits = long_is (signed_of content) b.1 }
+
+pub integer_back : (content : List ℕ) (z : ℤ) → integer_in content ≡ Some z → IsInteger content z
+integer_back content z e =
+    let g = guard_true (is_integer content) (signed_of content) z e in
+    subst (IsInteger content) g.1 (integer_is content g.0)
+
+-- ---- one value, few values and known ones
+
+pub all_back : (octets : List ℕ) (parts : List Part) → IsBytes octets → values_in octets ≡ Some parts → SpellAll octets parts × AllBytes parts
+all_back octets parts b e = let s = values_take octets parts b e in (s, all_bytes octets parts b s)
+
+only_is : (parts : List Part) (p : Part) → only_one parts ≡ Some p → parts ≡ p ∷ []
+only_is [] p e = absurd cc
+only_is (q ∷ []) p e = let same : q ≡ p = cc in ap (λ (x : Part). x ∷ []) same
+only_is (q ∷ r ∷ parts) p e = absurd cc
+
+pub one_back : (octets : List ℕ) (p : Part) → IsBytes octets → value_in octets ≡ Some p → SpellAll octets (p ∷ []) × IsBytes p.content
+one_back octets p b e =
+    let x = bind_some (values_in octets) only_one p e in
+    let parts = only_is x.0 p x.2 in
+    let s = all_back octets (p ∷ []) b (x.1 ∙ ap (λ (ps : List Part). Some ps) parts) in
+    (s.0, s.1.0)
+
+-- one value under a tag
+pub one_under : (tag : Tag) (octets content : List ℕ) → IsBytes octets → (value_in octets >>= under tag) ≡ Some content → SpellAll octets (value tag content ∷ []) × IsBytes content
+one_under tag octets content b e =
+    let x = bind_some (value_in octets) (under tag) content e in
+    let same = under_is tag x.0 content x.2 in
+    let one = one_back octets x.0 b x.1 in
+    (subst (λ (p : Part). SpellAll octets (p ∷ [])) same one.0, subst IsBytes (ap (λ (p : Part). p.content) same) one.1)
+
+five_is : (parts few : List Part) → at_most_five parts ≡ Some few → parts ≡ few
+five_is parts few e = (guard_true (ltb (length parts) 6) parts few e).1
+
+pub few_back : (octets : List ℕ) (parts : List Part) → IsBytes octets → few_in octets ≡ Some parts → SpellAll octets parts × AllBytes parts
+few_back octets parts b e =
+    let x = bind_some (values_in octets) at_most_five parts e in
+    all_back octets parts b (x.1 ∙ ap (λ (ps : List Part). Some ps) (five_is x.0 parts x.2))
+
+pub record Fields (tags : List Tag) (octets : List ℕ) (known : List Part) : Type 0 where
+  pub fields : List Part
+  pub spelled : SpellAll octets fields
+  pub are : filter (is_known tags) fields ≡ known
+  pub bytes : AllBytes known
+
+pub known_back : (tags : List Tag) (octets : List ℕ) (known : List Part) → IsBytes octets → known_in tags octets ≡ Some known → Fields tags octets known
+unfolding known_in
+known_back tags octets known b e =
+    let x = bind_some (values_in octets) (λ parts. at_most_five (filter (is_known tags) parts)) known e in
+    let all = all_back octets x.0 b x.1 in
+    let are = five_is (filter (is_known tags) x.0) known x.2 in
+    record { fields = x.0; spelled = all.0; are = are; bytes = subst AllBytes are (filter_bytes (is_known tags) x.0 all.1) }
+
+pub record Each {B : Type 0} (f : Part → Option B) (octets : List ℕ) (xs : List B) : Type 0 where
+  pub parts : List Part
+  pub spelled : SpellAll octets parts
+  pub bytes : AllBytes parts
+  pub all : all_of f parts ≡ Some xs
+
+pub each_back : {B : Type 0} (f : Part → Option B) (octets : List ℕ) (xs : List B) → IsBytes octets → each_in f octets ≡ Some xs → Each f octets xs
+each_back f octets xs b e =
+    let x = bind_some (values_in octets) (all_of f) xs e in
+    let all = all_back octets x.0 b x.1 in
+    record { parts = x.0; spelled = all.0; bytes = all.1; all = x.2 }
+
+-- an integer under its tag
+pub number_back : (p : Part) (z : ℤ) → integer_under p ≡ Some z → (number : List ℕ) × (p ≡ value int_tag number) × IsInteger number z
+unfolding integer_under
+number_back p z e =
+    let x = bind_some (under int_tag p) integer_in z e in
+    (x.0, under_is int_tag p x.0 x.1, integer_back x.0 z x.2)
