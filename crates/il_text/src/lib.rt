@@ -3,7 +3,7 @@
 // form, and the first faulty line is the refusal.
 //
 // Handed out: `read` (a text becomes a program, or its first faulty line), `program` (what that is),
-// `fault`, and `laws` (how a text may be respelled). Inside: `piece` (what stands at a place of the
+// `fault`, and `laws` (that a text is read in one way, how it may be respelled, and what a duration is). Inside: `piece` (what stands at a place of the
 // text), `lexeme` (a token, with `literal`, `reserved` and `character`), `token`, `form` (the forms of
 // lines) and `listing` (what the lines make).
 #![tactic(auto)]
