@@ -77,19 +77,25 @@ fn check_case(alloc: Global, points: &[Point], declarations: &str, line: &str) -
     Ok(())
 }
 
+/// What the next programs declare.
+#[derive(Drop)]
+struct Declared<'a> {
+    lines: &'a str,
+}
+
 fn main(rt: HostRuntime) -> Result<()> {
     let alloc = rt.alloc();
     let mut text = String::new(alloc);
     rt.reader().read_to_string(&mut text)?;
     let points = points(alloc)?;
-    let mut declarations = "";
+    let mut declared = Declared { lines: "" };
     let mut cases = 0u32;
     for line in text.as_str().lines() {
         match line.strip_prefix("= ") {
-            Some(others) => declarations = others,
+            Some(others) => declared.lines = others,
             None if line.is_empty() || line.starts_with("#") => {}
             None => {
-                check_case(alloc, points.as_slice(), declarations, line)?;
+                check_case(alloc, points.as_slice(), declared.lines, line)?;
                 cases = cases.saturating_add(1);
             }
         }
