@@ -5,7 +5,10 @@ use Rattle.std.proofs.lemmas.Bool.{eqb-true, ltb-false}
 use Rattle.std.proofs.lemmas.Bool.Decides.{nat_tests}
 use Rattle.bay_ber.specs.Options.{◌>>=◌}
 use Rattle.bay_ber.proofs.ReadLemmas.{IsBytes}
+use Rattle.bay_ber.proofs.ContentLemmas.{both}
+use Rattle.bay_ber.proofs.BackLemmas.{bind_some, bytes_behind, bytes_before, guard_false}
 use Rattle.bay_mms.specs.Grammar.{initiate_in}
+use Rattle.bay_mms.proofs.InitiateLemmas.{initiate_back}
 use Rattle.bay_assoc.specs.declared.fault.AssocFault.{AssocFault}
 use Rattle.bay_assoc.specs.declared.fault.AssocFault.TheVariants as fault
 use Rattle.bay_assoc.specs.declared.hearing.Accepted.{Accepted}
@@ -21,8 +24,6 @@ use Rattle.bay_assoc.specs.Hearing.{Hearing, answer, mms, released, aborted, is_
 use Rattle.bay_assoc.specs.SpelledSession.{IsSize, SpellUnits, Framed, user_data, IsSpdu}
 use Rattle.bay_assoc.specs.SpelledValues.{IsUser, IsAssociate}
 use Rattle.bay_assoc.specs.SpelledHearing.{IsHeard}
-use Rattle.bay_assoc.proofs.UnitLemmas.{bind_some}
-use Rattle.bay_assoc.proofs.BackLemmas.{bytes_behind, bytes_before, both, guard_false}
 use Rattle.bay_assoc.proofs.ValueBackLemmas.{user_back, request_back, associate_back, release_back}
 
 some_is : {A : Type 0} (x y : A) → Some x ≡ Some y → x ≡ y
@@ -355,6 +356,8 @@ connected_back octets user h new spdu b e =
     let in_acse = acse_is a.0 request.0.user value.0 value.1 in
     let bytes = subst IsBytes (ap (λ (c : Carried). c.value) in_acse) r.1 in
     let i = associate_back value.0 information.0 bytes information.1 in
+    let in_mms = mms_is a.0 information.0 pdu.0 pdu.1 in
+    let inner = subst IsBytes (ap (λ (c : Carried). c.value) in_mms) i.1 in
     let link : Link = record { contexts = a.0; size = agreed.0.size } in
     let text = answer_text request.0 a.0 agreed.0 in
     heard_as Idle octets (answer text) h (Open link) new (pair_is (answer text) h (Open link) new agreed.2) (
@@ -370,8 +373,8 @@ connected_back octets user h new spdu b e =
         is_request = r.0;
         contexts = a.1;
         in_acse = in_acse;
-        associate = subst (IsAssociate value.0) (mms_is a.0 information.0 pdu.0 pdu.1) i.0;
-        initiate = proposal.1;
+        associate = subst (IsAssociate value.0) in_mms i.0;
+        initiate = initiate_back pdu.0 proposal.0 inner proposal.1;
         is_agreed = agreed.1;
         size = refl;
         is = refl;

@@ -10,6 +10,7 @@ use Rattle.bay_assoc.specs.Hearing.{Hearing, answer, mms, released, aborted, ans
 use Rattle.bay_assoc.specs.SpelledSession.{IsSpdu}
 use Rattle.bay_assoc.specs.SpelledValues.{IsUser}
 use Rattle.bay_assoc.specs.SpelledHearing.{IsAnswered, IsReleased, IsHeard}
+use Rattle.bay_mms.proofs.InitiateLemmas.{initiate_read}
 use Rattle.bay_assoc.proofs.SpduLemmas.{spdu_again}
 use Rattle.bay_assoc.proofs.ValueLemmas.{user_read, request_read, associate_read, release_read}
 
@@ -24,7 +25,7 @@ answered octets text link a =
       eq-eqb link.contexts.acse link.contexts.acse refl,
       associate_read a.value (record { id = pos link.contexts.mms; value = a.pdu }) a.associate,
       eq-eqb link.contexts.mms link.contexts.mms refl,
-      a.initiate,
+      initiate_read a.pdu a.proposal a.initiate,
       a.is_agreed,
     )
     (ap with_size a.size ∙ ap with_text (sym a.is))

@@ -1,4 +1,3 @@
-pub mod BackLemmas
 pub mod ContextLemmas
 pub mod HearingBackLemmas
 pub mod HearingLemmas

@@ -8,20 +8,27 @@ use Rattle.bay_ber.specs.declared.tag.Tag.{Tag}
 use Rattle.bay_ber.specs.Options.{◌>>=◌}
 use Rattle.bay_ber.specs.Content.{IsInteger, integer_in}
 use Rattle.bay_ber.specs.Tags.{same_tag}
-use Rattle.bay_ber.specs.Values.{Part, SpellAll, value_in, few_in, all_of, each_in, known_in, under}
+use Rattle.bay_ber.specs.Values.{Part, value, SpellAll, value_in, few_in, all_of, each_in, known_in, under}
 use Rattle.bay_ber.proofs.ReadLemmas.{IsBytes}
+use Rattle.bay_ber.proofs.ContentLemmas.{both}
+use Rattle.bay_ber.proofs.BackLemmas.{bind_some, AllBytes, tag_is, guard_true, guard_false, under_is, integer_back, one_back, one_under, few_back, known_back, each_back}
 use Rattle.bay_mms.specs.Tags.{context, constructed, sequence, int_tag}
 use Rattle.bay_assoc.specs.Tags.{oid_tag, set_tag, external_tag, application, acse_syntax, mms_syntax, ber_syntax, mms_application}
 use Rattle.bay_assoc.specs.declared.presentation.Context.{Context}
 use Rattle.bay_assoc.specs.Presentation.{integer_under, is_ber, offers_ber, context_id, context_with, context_of, context_as, are_distinct, limited, contexts_in, Carried, carried_as, carried_of, carried_in, carried_under, user_in, Connect, selector_of, selector_as, connect_with, connect_of, normal_in, normal_as, mode_of, mode_as, request_of, request_in}
 use Rattle.bay_assoc.specs.Acse.{application_of, application_as, information_as, associate_of, associate_in, release_in}
-use Rattle.bay_assoc.specs.SpelledValues.{value, IsCarried, IsListed, IsUser, IsContext, AreContexts, IsOffer, IsSelectors, IsNormal, IsMode, IsRequest, IsAssociate, IsRelease}
-use Rattle.bay_assoc.proofs.UnitLemmas.{bind_some}
+use Rattle.bay_assoc.specs.SpelledValues.{IsCarried, IsListed, IsUser, IsContext, AreContexts, IsOffer, IsSelectors, IsNormal, IsMode, IsRequest, IsAssociate, IsRelease}
 use Rattle.bay_assoc.proofs.ValueLemmas.{any_map}
-use Rattle.bay_assoc.proofs.BackLemmas.{AllBytes, both, tag_is, guard_true, guard_false, under_is, integer_back, one_back, one_under, few_back, known_back, each_back, number_back}
 
 some_is : {A : Type 0} (x y : A) → Some x ≡ Some y → x ≡ y
 some_is x y e = cc
+
+-- an integer under its tag
+pub number_back : (p : Part) (z : ℤ) → integer_under p ≡ Some z → (number : List ℕ) × (p ≡ value int_tag number) × IsInteger number z
+unfolding integer_under
+number_back p z e =
+    let x = bind_some (under int_tag p) integer_in z e in
+    (x.0, under_is int_tag p x.0 x.1, integer_back x.0 z x.2)
 
 -- ---- presentation data values
 

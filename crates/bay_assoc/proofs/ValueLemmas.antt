@@ -1,32 +1,22 @@
 -- Octets that are a PPDU or an APDU are read as it.
-use Rattle.std.proofs.Common.{◌≡◌, ℕ, ℤ, pos, ◌<◌, ◌≤◌, ◌&&◌, Bool, List, [], ◌∷◌, ◌++◌, length, map, filter, Option, Some, None, refl, sym, ap, ◌∙◌, inl, inr}
+use Rattle.std.proofs.Common.{◌≡◌, ℕ, ℤ, pos, ◌<◌, ◌≤◌, ◌&&◌, Bool, List, [], ◌∷◌, ◌++◌, length, map, Option, Some, None, refl, sym, ap, ◌∙◌, inl, inr}
 use Rattle.std.specs.List.{list_any}
 use Rattle.std.specs.Str.{bytes_eq}
 use Rattle.std.proofs.lemmas.Bool.{lt-ltb, le-ltb}
-use Rattle.bay_ber.specs.declared.tag.Tag.{Tag}
 use Rattle.bay_ber.specs.Options.{◌>>=◌}
 use Rattle.bay_ber.specs.Content.{IsInteger}
-use Rattle.bay_ber.specs.Values.{Part, SpellAll, only_one, value_in, at_most_five, few_in, all_of, is_known, known_in}
+use Rattle.bay_ber.specs.Values.{Part, value, SpellAll, at_most_five, few_in, all_of}
 use Rattle.bay_ber.proofs.ContentLemmas.{integer_again}
 use Rattle.bay_ber.proofs.ListingLemmas.{values_again}
+use Rattle.bay_ber.proofs.BackLemmas.{one_read, few_read, known_read}
 use Rattle.bay_mms.specs.Tags.{context, constructed, sequence, int_tag}
 use Rattle.bay_assoc.specs.Tags.{oid_tag, set_tag, external_tag, application, mms_syntax, ber_syntax, mms_application}
 use Rattle.bay_assoc.specs.declared.presentation.Context.{Context}
 use Rattle.bay_assoc.specs.Presentation.{integer_under, is_ber, offers_ber, context_id, context_with, context_as, contexts_in, Carried, carried_as, carried_of, carried_in, carried_under, user_in, Connect, selector_of, selector_as, connect_with, connect_of, normal_in, normal_as, mode_as, request_in}
 use Rattle.bay_assoc.specs.Acse.{application_as, information_as, associate_in, release_in}
-use Rattle.bay_assoc.specs.SpelledValues.{value, IsName, IsCarried, IsListed, IsUser, IsContext, AreContexts, IsOffer, IsSelectors, IsNormal, IsMode, IsRequest, IsAssociate, IsRelease}
+use Rattle.bay_assoc.specs.SpelledValues.{IsName, IsCarried, IsListed, IsUser, IsContext, AreContexts, IsOffer, IsSelectors, IsNormal, IsMode, IsRequest, IsAssociate, IsRelease}
 
--- ---- one value, few values and known ones
-
-one_read : (octets : List ℕ) (part : Part) → SpellAll octets (part ∷ []) → value_in octets ≡ Some part
-one_read octets part is = ap (λ (o : Option (List Part)). o >>= only_one) (values_again octets (part ∷ []) is)
-
-few_read : (octets : List ℕ) (parts : List Part) → SpellAll octets parts → few_in octets ≡ at_most_five parts
-few_read octets parts is = ap (λ (o : Option (List Part)). o >>= at_most_five) (values_again octets parts is)
-
-known_read : (tags : List Tag) (octets : List ℕ) (fields known : List Part) → SpellAll octets fields → filter (is_known tags) fields ≡ known → known_in tags octets ≡ at_most_five known
-unfolding known_in
-known_read tags octets fields known is are = ap (λ (o : Option (List Part)). o >>= λ parts. at_most_five (filter (is_known tags) parts)) (values_again octets fields is) ∙ ap at_most_five are
+-- ---- integers
 
 integer_read : (number : List ℕ) (z : ℤ) → IsInteger number z → integer_under (value int_tag number) ≡ Some z
 unfolding integer_under

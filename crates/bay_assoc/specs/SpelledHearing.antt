@@ -2,7 +2,7 @@
 use Rattle.std.specs.Prelude.{ℕ, pos, ◌≡◌, List, [], ◌∷◌, Option, Some, None}
 use Rattle.bay_mms.specs.declared.request.Proposal.{Proposal}
 use Rattle.bay_mms.specs.declared.response.Agreed.{Agreed}
-use Rattle.bay_mms.specs.Grammar.{initiate_in}
+use Rattle.bay_mms.specs.SpelledInitiate.{IsInitiate}
 use Rattle.bay_assoc.specs.declared.hearing.Link.{Link}
 use Rattle.bay_assoc.specs.declared.hearing.Phase.{Phase}
 use Rattle.bay_assoc.specs.declared.hearing.Phase.TheVariants.{Idle, Open, Over, Failed}
@@ -27,7 +27,7 @@ pub record IsAnswered (octets text : List ℕ) (link : Link) : Type 0 where
   pub contexts : accepted_of request.contexts ≡ Some link.contexts
   pub in_acse : request.user ≡ record { id = pos link.contexts.acse; value = value }
   pub associate : IsAssociate value (record { id = pos link.contexts.mms; value = pdu })
-  pub initiate : initiate_in pdu ≡ Some proposal
+  pub initiate : IsInitiate pdu proposal
   pub is_agreed : agreed_of proposal ≡ Some agreed
   pub size : agreed.size ≡ link.size
   pub is : text ≡ answer_text request link.contexts agreed

@@ -3,17 +3,12 @@
 use Rattle.std.specs.Prelude.{ℕ, pos, ◌≡◌, ◌<◌, ◌≤◌, ◌&&◌, ◌⊎◌, true, List, [], ◌∷◌, ◌++◌, length, map, filter, Option, Some, None}
 use Rattle.std.specs.List.{list_any}
 use Rattle.std.specs.Str.{bytes_eq}
-use Rattle.bay_ber.specs.declared.tag.Tag.{Tag}
 use Rattle.bay_ber.specs.Content.{IsInteger}
-use Rattle.bay_ber.specs.Values.{Part, SpellAll, is_known}
+use Rattle.bay_ber.specs.Values.{Part, value, SpellAll, is_known}
 use Rattle.bay_mms.specs.Tags.{context, constructed, sequence, int_tag}
 use Rattle.bay_assoc.specs.Tags.{oid_tag, set_tag, external_tag, application, acse_syntax, mms_syntax, ber_syntax, mms_application}
 use Rattle.bay_assoc.specs.declared.presentation.Context.{Context}
 use Rattle.bay_assoc.specs.Presentation.{are_distinct, Carried, Connect}
-
--- a value under a tag
-abbrev pub value : Tag → List ℕ → Part
-value tag content = record { tag = tag; content = content }
 
 -- ---- presentation data values
 

@@ -43,7 +43,7 @@ bits_err content unused behind (Err fault) whole err =
 
 -- ---- the functions are the relations
 
-both : (a b : Bool) → (a && b) ≡ true → (a ≡ true) × (b ≡ true)
+pub both : (a b : Bool) → (a && b) ≡ true → (a ≡ true) × (b ≡ true)
 both true true e = (refl, refl)
 both true false e = absurd cc
 both false true e = absurd cc
@@ -63,7 +63,7 @@ integer_yes content value is =
     let fits : FitsSigned w64 (signed_of content) = subst (FitsSigned w64) is.is is.fits in
     rw (lt-ltb 0 (length content) is.some, lt-ltb (length content) 10 (let f = is.few in omega arith), long_yes (signed_of content) fits) refl
 
-integer_is : (content : List ℕ) → is_integer content ≡ true → IsInteger content (signed_of content)
+pub integer_is : (content : List ℕ) → is_integer content ≡ true → IsInteger content (signed_of content)
 unfolding is_integer
 integer_is content e =
     let a = both _ _ e in
@@ -77,12 +77,12 @@ pub integer_exact : (content : List ℕ) (result : Result ℤ BerFault) → IfOk
 integer_exact content (Ok value) ok err = sym (cond-true (is_integer content) (Some (signed_of content)) None (integer_yes content value ok) ∙ ap Some (sym ok.is))
 integer_exact content (Err fault) ok err = sym (cond-false (is_integer content) (Some (signed_of content)) None (false_from_ne_true (is_integer content) (λ e. err.1 (signed_of content) (integer_is content e))))
 
-unused_yes : (unused : ℕ) (octets : List ℕ) (count : ℕ) → HasBits unused octets count → are_unused unused octets ≡ true
+pub unused_yes : (unused : ℕ) (octets : List ℕ) (count : ℕ) → HasBits unused octets count → are_unused unused octets ≡ true
 unfolding are_unused
 unused_yes unused octets count h =
     rw (lt-ltb unused 8 (let f = h.few in omega arith), lt-ltb unused (8 * length octets + 1) (let f = h.filled in omega arith), lt-ltb (length octets) 2305843009213693952 (let f = h.within in omega arith)) refl
 
-unused_is : (unused : ℕ) (octets : List ℕ) → are_unused unused octets ≡ true → HasBits unused octets (8 * length octets - unused)
+pub unused_is : (unused : ℕ) (octets : List ℕ) → are_unused unused octets ≡ true → HasBits unused octets (8 * length octets - unused)
 unfolding are_unused
 unused_is unused octets e =
     let a = both _ _ e in

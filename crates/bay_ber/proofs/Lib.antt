@@ -1,3 +1,4 @@
+pub mod BackLemmas
 pub mod ContentLemmas
 pub mod KnownLemmas
 pub mod ListingLemmas

@@ -36,6 +36,9 @@ grows tag old new first middle last is =
     let content = first ++ middle ++ last in
     rw is (omega (arith, length-append old (element tag content), length-element tag content, length-append (first ++ middle) last, length-append first middle))
 
+pub grows_by : (tag : Tag) (old new content : List ℕ) → new ≡ old ++ element tag content → length new ≤ length old + length content + 6
+grows_by tag old new content is = rw is (omega (arith, length-append old (element tag content), length-element tag content))
+
 pub length-element-is : (tag : Tag) (content : List ℕ) → length (element tag content) ≡ element_length (length content)
 unfolding element
 length-element-is tag content =

@@ -14,6 +14,10 @@ pub record Part : Type 0 where
   pub tag : Tag
   pub content : List ℕ
 
+-- a value under a tag
+abbrev pub value : Tag → List ℕ → Part
+value tag content = record { tag = tag; content = content }
+
 abbrev pub part_of : Value → Part
 part_of v = record { tag = v.tag; content = v.content.now }
 

@@ -65,6 +65,24 @@ fn move_forward(octets: &mut Vec<u8>, start: usize, middle: usize)
     octets[start..start + count].copy_from_slice(&moved[..count]);
 }
 
+// Appends a value. A refused call may leave some of its octets at the end.
+#[tactic(auto, unfolding(crate::specs::Writing::element, crate::specs::Writing::header, crate::specs::Writing::length_octets))]
+fn append_value(out: &mut Vec<u8>, tag: Tag, content: &[u8]) -> Result<(), AllocError>
+    requires low { tag.number < 31 }
+    requires short { length content.now < 2 ^ 32 }
+    ensures ok { OnOk result (out.new.items ≡ out.old.items ++ element tag content.now) }
+    ensures err { OnErr result (Extends out.old.items out.new.items) }
+{
+    out.reserve(6 + content.len())?;
+    if content.len() < 0x80 {
+        out.extend_from_slice(&[tag.octet(), content.len() as u8])?;
+    } else {
+        append_header(out, tag, content.len() as u32)?;
+    }
+    out.extend_from_slice(content)?;
+    Ok(())
+}
+
 // Appends a value whose content has three parts. A refused call may leave some of its octets at the end.
 #[tactic(auto, unfolding(crate::specs::Writing::element))]
 fn append(
@@ -174,7 +192,7 @@ impl Writer {
         ensures few { OnOk result (length self.new ≤ length self.old + 14) }
         ensures err { OnErr result (self.new ≡ self.old) }
     {
-        self.element(tag, &[], without_needless(&value.to_be_bytes()), &[])
+        self.value(tag, without_needless(&value.to_be_bytes()))
     }
 
     /// Writes a bit string (X.690 8.6): its bits in the octets that they need, with 0 in the unused bits.
@@ -201,7 +219,7 @@ impl Writer {
         ensures err { OnErr result (self.new ≡ self.old) }
     {
         let octet = if value { 0xFF } else { 0x00 };
-        self.element(tag, &[], &[octet], &[])
+        self.value(tag, &[octet])
     }
 
     /// Writes a string of octets (X.690 8.7).
@@ -212,7 +230,7 @@ impl Writer {
         ensures few { OnOk result (length self.new ≤ length self.old + length octets.now + 6) }
         ensures err { OnErr result (self.new ≡ self.old) }
     {
-        self.element(tag, &[], octets, &[])
+        self.value(tag, octets)
     }
 
     /// Writes a text (X.690 8.23), as its octets in UTF-8.
@@ -222,7 +240,7 @@ impl Writer {
         ensures ok { OnOk result (self.new ≡ self.old ++ element tag text.now) }
         ensures err { OnErr result (self.new ≡ self.old) }
     {
-        self.element(tag, &[], text.as_bytes(), &[])
+        self.value(tag, text.as_bytes())
     }
 
     /// Writes a value that is made of values (X.690 8.9), whose octets are given.
@@ -233,7 +251,7 @@ impl Writer {
         ensures few { OnOk result (length self.new ≤ length self.old + length inner.now + 6) }
         ensures err { OnErr result (self.new ≡ self.old) }
     {
-        self.element(tag, &[], inner, &[])
+        self.value(tag, inner)
     }
 
     /// Makes all that was written since a place the content of one value (X.690 8.9), in place. The place is what `len` was
@@ -272,6 +290,24 @@ impl Writer {
     {
         let Writer { octets } = self;
         octets
+    }
+
+    // Writes a value; a refused call appends nothing.
+    fn value(&mut self, tag: Tag, content: &[u8]) -> Result<(), AllocError>
+        requires low { tag.number < 31 }
+        requires short { length content.now < 2 ^ 32 }
+        ensures ok { OnOk result (self.new ≡ self.old ++ element tag content.now) }
+        ensures few { OnOk result (length self.new ≤ length self.old + length content.now + 6) }
+        ensures err { OnErr result (self.new ≡ self.old) }
+    {
+        let written = self.octets.len();
+        match append_value(&mut self.octets, tag, content) {
+            Ok(()) => Ok(()),
+            Err(error) => {
+                self.octets.truncate(written);
+                Err(error)
+            }
+        }
     }
 
     // Writes a value whose content has three parts; a refused call appends nothing.

@@ -1,22 +1,24 @@
 -- What holds of every bay that is read.
-use Rattle.std.proofs.Common.{◌≡◌, ◌≢◌, ℕ, zero, suc, ◌+◌, ◌<◌, ◌≤◌, Bool, true, false, cond, nat_lt, List, [], ◌∷◌, ◌++◌, length, map, drop, get_or, slice_get, Option, None, Some, is_some, option_to_list, option_and_then, unwrap_or, Ok, codes, All, Contains, refl, sym, subst, arith, lit<, suc-add}
+use Rattle.std.proofs.Common.{◌≡◌, ◌≢◌, ℕ, zero, suc, ◌+◌, ◌<◌, ◌≤◌, Bool, true, false, not, ◌&&◌, cond, nat_lt, List, [], ◌∷◌, ◌++◌, length, map, drop, get_or, slice_get, Option, None, Some, is_some, option_to_list, unwrap_or, Ok, codes, All, Contains, refl, sym, ap, subst, ◌∙◌, arith, lit<, suc-add}
 use Rattle.std.proofs.lemmas.Bool.{and_parts, ltb-false}
 use Rattle.std.proofs.lemmas.List.{length-map}
-use Rattle.std.proofs.lemmas.List.Elements.{All-from_recursion, All-contains, Contains-get_or}
+use Rattle.std.proofs.lemmas.List.Elements.{All-append, All-from_recursion, All-contains, Contains-get_or}
 use Rattle.std.proofs.lemmas.Slice.Eq.{bytes_eq-Decides}
 use Rattle.std.specs.List.{AllByRecursion}
 use Rattle.std.specs.Str.{bytes_eq}
-use Rattle.toml.specs.Data.{Data, Items, no_items, item, Members, get_member, as_array, as_table}
+use Rattle.toml.specs.Data.{Data, Items, no_items, item, Members, get_member, as_table}
 use Rattle.bay_config.specs.declared.bay.Bay.{Bay}
 use Rattle.bay_config.specs.declared.bay.Point.{Point}
 use Rattle.bay_config.specs.declared.bay.Switch.{Switch}
 use Rattle.bay_config.specs.declared.fault.BayFault.{BayFault}
-use Rattle.bay_config.specs.declared.fault.BayFault.TheVariants.{DuplicateName, TooMany}
-use Rattle.bay_config.specs.Bay.{bay_section, switch_section, sections, switches_in, switch_tables, bay_in, bay_of_table, file_refusal}
-use Rattle.bay_config.specs.Key.{first_of, is_among, unknown_refusal}
+use Rattle.bay_config.specs.declared.fault.BayFault.TheVariants.{MissingKey, BadValue, DuplicateName, TooMany}
+use Rattle.bay_config.specs.declared.names.NameSection.{NameSection}
+use Rattle.bay_config.specs.declared.names.NameSection.TheVariants.{Input, Meter}
+use Rattle.bay_config.specs.Bay.{bay_section, switch_section, name_section, most_names, name_in, name_keys, sections, switches_in, names_in, bay_table, nameplate_in, bay_in, bay_of_table, file_refusal}
+use Rattle.bay_config.specs.Key.{Key, first_of, is_among, unknown_refusal, refused_if}
 use Rattle.bay_config.specs.Laws.{IsOwned, IsBay}
-use Rattle.bay_config.specs.Point.{points_of, points_from, points_of_all, has_twin, names_refusal, refused_if}
-use Rattle.bay_config.specs.Section.{some, are_tables, tables_of, list_refusal, shape_refusal, section_refusal}
+use Rattle.bay_config.specs.Point.{points_of, points_from, input_point, inputs_from, meter_points, meters_from, points_of_all, has_twin, names_refusal}
+use Rattle.bay_config.specs.Section.{are_tables, count_of, tables_of, items_at, items_refusal, list_refusal, section_refusal, section_tables}
 use Rattle.bay_config.specs.Switch.{switch_keys, switch_in}
 use Rattle.bay_config.proofs.KeyLemmas.{judged-Ok, or-false_parts}
 use Rattle.bay_config.proofs.NumberLemmas.{rows_make_tree}
@@ -57,21 +59,21 @@ each-append P [] ys front back = back
 each-append P (x ∷ xs) ys front back = (front.0, each-append P xs ys front.1 back)
 
 -- where a list goes on with an item from a place on, the item stands there, and behind it the rest
-first-of-rest : (all : List Switch) (k : ℕ) (s : Switch) (ss : List Switch) → drop k all ≡ s ∷ ss → slice_get all k ≡ Some s
+first-of-rest : {T : Type 0} (all : List T) (k : ℕ) (s : T) (ss : List T) → drop k all ≡ s ∷ ss → slice_get all k ≡ Some s
 first-of-rest [] zero s ss rest = cc
 first-of-rest [] (suc k) s ss rest = cc
 first-of-rest (t ∷ all) zero s ss rest = cc
 first-of-rest (t ∷ all) (suc k) s ss rest = first-of-rest all k s ss rest
 
-rest-of-rest : (all : List Switch) (k : ℕ) (s : Switch) (ss : List Switch) → drop k all ≡ s ∷ ss → drop (k + 1) all ≡ ss
+rest-of-rest : {T : Type 0} (all : List T) (k : ℕ) (s : T) (ss : List T) → drop k all ≡ s ∷ ss → drop (k + 1) all ≡ ss
 rest-of-rest [] zero s ss rest = cc
 rest-of-rest [] (suc k) s ss rest = cc
 rest-of-rest (t ∷ all) zero s ss rest = cc
 rest-of-rest (t ∷ all) (suc k) s ss rest = rw (suc-add k 1) (rest-of-rest all k s ss rest)
 
 -- the points of a switch belong to it
-own-points : (all : List Switch) (k : ℕ) (s : Switch) → slice_get all k ≡ Some s → AllByRecursion (IsOwned all) (points_of k s)
-own-points all k s here = (
+own-points : (all : List Switch) (is ms : List (List ℕ)) (k : ℕ) (s : Switch) → slice_get all k ≡ Some s → AllByRecursion (IsOwned all is ms) (points_of k s)
+own-points all is ms k s here = (
   record { switch = s; here = here; has = (0, lit< tt, refl) },
   (
     record { switch = s; here = here; has = (1, lit< tt, refl) },
@@ -86,15 +88,46 @@ own-points all k s here = (
 )
 
 -- so do those of the switches from a place on
-own-points-from : (all : List Switch) (k : ℕ) (ss : List Switch) → drop k all ≡ ss → AllByRecursion (IsOwned all) (points_from k ss)
-own-points-from all k [] rest = tt
-own-points-from all k (s ∷ ss) rest =
-    each-append (IsOwned all) (points_of k s) (points_from (k + 1) ss)
-    (own-points all k s (first-of-rest all k s ss rest))
-    (own-points-from all (k + 1) ss (rest-of-rest all k s ss rest))
+own-points-from : (all : List Switch) (is ms : List (List ℕ)) (k : ℕ) (ss : List Switch) → drop k all ≡ ss → AllByRecursion (IsOwned all is ms) (points_from k ss)
+own-points-from all is ms k [] rest = tt
+own-points-from all is ms k (s ∷ ss) rest =
+    each-append (IsOwned all is ms) (points_of k s) (points_from (k + 1) ss)
+    (own-points all is ms k s (first-of-rest all k s ss rest))
+    (own-points-from all is ms (k + 1) ss (rest-of-rest all k s ss rest))
 
-all-owned : (ss : List Switch) → All (IsOwned ss) (points_of_all ss)
-all-owned ss = All-from_recursion (IsOwned ss) (points_of_all ss) (own-points-from ss 0 ss refl)
+-- and those of the inputs and of the meters
+own-inputs : (ss : List Switch) (all ms : List (List ℕ)) (k : ℕ) (is : List (List ℕ)) → drop k all ≡ is → AllByRecursion (IsOwned ss all ms) (inputs_from k is)
+own-inputs ss all ms k [] rest = tt
+own-inputs ss all ms k (i ∷ is) rest =
+    (record { name = i; here = first-of-rest all k i is rest; is = refl }, own-inputs ss all ms (k + 1) is (rest-of-rest all k i is rest))
+
+own-fields : (ss : List Switch) (is all : List (List ℕ)) (k : ℕ) (m : List ℕ) → slice_get all k ≡ Some m → AllByRecursion (IsOwned ss is all) (meter_points k m)
+own-fields ss is all k m here = (
+  record { id = m; here = here; has = (0, lit< tt, refl) },
+  (
+    record { id = m; here = here; has = (1, lit< tt, refl) },
+    (
+      record { id = m; here = here; has = (2, lit< tt, refl) },
+      (
+        record { id = m; here = here; has = (3, lit< tt, refl) },
+        (record { id = m; here = here; has = (4, lit< tt, refl) }, (record { id = m; here = here; has = (5, lit< tt, refl) }, tt)),
+      ),
+    ),
+  ),
+)
+
+own-meters : (ss : List Switch) (is all : List (List ℕ)) (k : ℕ) (ms : List (List ℕ)) → drop k all ≡ ms → AllByRecursion (IsOwned ss is all) (meters_from k ms)
+own-meters ss is all k [] rest = tt
+own-meters ss is all k (m ∷ ms) rest =
+    each-append (IsOwned ss is all) (meter_points k m) (meters_from (k + 1) ms) (own-fields ss is all k m (first-of-rest all k m ms rest)) (own-meters ss is all (k + 1) ms (rest-of-rest all k m ms rest))
+
+all-owned : (ss : List Switch) (is ms : List (List ℕ)) → All (IsOwned ss is ms) (points_of_all ss is ms)
+all-owned ss is ms =
+    All-append (IsOwned ss is ms) (points_from 0 ss) (inputs_from 0 is ++ meters_from 0 ms)
+    (All-from_recursion (IsOwned ss is ms) (points_from 0 ss) (own-points-from ss is ms 0 ss refl))
+    (All-append (IsOwned ss is ms) (inputs_from 0 is) (meters_from 0 ms)
+    (All-from_recursion (IsOwned ss is ms) (inputs_from 0 is) (own-inputs ss is ms 0 is refl))
+    (All-from_recursion (IsOwned ss is ms) (meters_from 0 ms) (own-meters ss is ms 0 ms refl)))
 
 -- what checks without a refusal say
 first_of-None : (check : Option BayFault) (rest : List (Option BayFault)) → first_of (check ∷ rest) ≡ None → (check ≡ None) × (first_of rest ≡ None)
@@ -105,51 +138,83 @@ refused_if-None : (b : Bool) (e : BayFault) → refused_if b e ≡ None → b �
 refused_if-None true e h = cc
 refused_if-None false e h = refl
 
-few-tables : (n : ℕ) (rest : Option BayFault) (b : Bool) → nat_lt 32 n ≡ b → cond b (Some TooMany) rest ≡ None → n ≤ 32
-few-tables n rest true e h = cc
-few-tables n rest false e h = ltb-false 32 n e
+not-false-is : (b : Bool) → not b ≡ false → b ≡ true
+not-false-is true h = refl
+not-false-is false h = cc
 
-some-table : (o : Option Members) (ts : List Members) → is_some o ≡ true → 1 ≤ length (option_to_list o ++ ts)
-some-table None ts h = cc
-some-table (Some t) ts h = omega arith
+count-tables : (items : Items) → are_tables items ≡ true → length (tables_of items) ≡ count_of items
+count-tables no_items h = refl
+count-tables (item d ds) h =
+    let parts = and_parts (is_some (as_table d)) (are_tables ds) h in
+    one-more (as_table d) (tables_of ds) (count_of ds) parts.0 (count-tables ds parts.1)
+  where
+    one-more : (o : Option Members) (ts : List Members) (n : ℕ) → is_some o ≡ true → length ts ≡ n → length (option_to_list o ++ ts) ≡ n + 1
+    one-more None ts n h e = cc
+    one-more (Some t) ts n h e = omega arith
 
-list-counts : (d : Data) (ds : Items) (b : Bool) → are_tables (item d ds) ≡ b → list_refusal 32 switch_keys (Some (item d ds)) ≡ None → (1 ≤ length (tables_of (item d ds))) × (length (tables_of (item d ds)) ≤ 32)
-list-counts d ds false e h = let h' = rw e at h in cc
-list-counts d ds true e h =
-    let tables = tables_of (item d ds) in
-    let h' = rw e at h in
-    let parts = and_parts (is_some (as_table d)) (are_tables ds) e in
-    (some-table (as_table d) (tables_of ds) parts.0, few-tables (length tables) _ (nat_lt 32 (length tables)) refl h')
+-- a list that is not refused has neither too few nor too many tables
+record AreCounted (least most : ℕ) (tables : List Members) : Type 0 where
+  least_is : least ≤ length tables
+  most_is : length tables ≤ most
 
-items-counts : (o : Option Items) → list_refusal 32 switch_keys o ≡ None → (1 ≤ length (tables_of (unwrap_or o no_items))) × (length (tables_of (unwrap_or o no_items)) ≤ 32)
-items-counts None h = cc
-items-counts (Some no_items) h = cc
-items-counts (Some (item d ds)) h = list-counts d ds (are_tables (item d ds)) refl h
+items-counts : (least most : ℕ) (keys : Members → List Key) (items : Items) → items_refusal least most keys items ≡ None → AreCounted least most (tables_of items)
+items-counts least most keys items h =
+    let one = first_of-None (refused_if (nat_lt (count_of items) least) MissingKey) _ h in
+    let two = first_of-None (refused_if (not (are_tables items)) BadValue) _ one.1 in
+    let three = first_of-None (refused_if (nat_lt most (count_of items)) TooMany) _ two.1 in
+    let enough = ltb-false (count_of items) least (refused_if-None _ MissingKey one.0) in
+    let few = ltb-false most (count_of items) (refused_if-None _ TooMany three.0) in
+    let same = count-tables items (not-false-is _ (refused_if-None _ BadValue two.0)) in
+    record { least_is = omega arith; most_is = omega arith }
 
-data-counts : (o : Option Data) → shape_refusal (some 32) switch_keys o ≡ None → (1 ≤ length (tables_of (unwrap_or (option_and_then as_array o) no_items))) × (length (tables_of (unwrap_or (option_and_then as_array o) no_items)) ≤ 32)
-data-counts None h = cc
-data-counts (Some d) h = items-counts (as_array d) h
+list-counts : (least most : ℕ) (keys : Members → List Key) (o : Option Items) → list_refusal least most keys o ≡ None → AreCounted least most (tables_of (unwrap_or o no_items))
+list-counts least most keys None h = cc
+list-counts least most keys (Some items) h = items-counts least most keys items h
+
+names-counts : (f : Members) (which : NameSection) → section_refusal f (name_section which) ≡ None → length (names_in f which) ≤ most_names which
+names-counts f Input h =
+    let counts = list-counts 0 64 (λ _. name_keys Input) (items_at (get_member (codes "input") f)) h in
+    let long : length (names_in f Input) ≡ length (section_tables f (name_section Input)) = length-map (section_tables f (name_section Input)) (name_in Input) in
+    omega (arith, counts.most_is)
+names-counts f Meter h =
+    let counts = list-counts 0 8 (λ _. name_keys Meter) (items_at (get_member (codes "meter") f)) h in
+    let long : length (names_in f Meter) ≡ length (section_tables f (name_section Meter)) = length-map (section_tables f (name_section Meter)) (name_in Meter) in
+    omega (arith, counts.most_is)
 
 sound-bay : (f : Members) → file_refusal f ≡ None → IsBay (bay_in f)
 sound-bay f h =
     let ss = switches_in f in
-    let names = names_refusal (points_of_all ss) in
-    let one = first_of-None (unknown_refusal (map (λ section. section.name) sections) f) (section_refusal f bay_section ∷ section_refusal f switch_section ∷ names ∷ []) h in
-    let two = first_of-None (section_refusal f bay_section) (section_refusal f switch_section ∷ names ∷ []) one.1 in
-    let three = first_of-None (section_refusal f switch_section) (names ∷ []) two.1 in
-    let four = first_of-None names [] three.1 in
-    let counts = data-counts (get_member (codes "switch") f) three.0 in
-    let long : length ss ≡ length (switch_tables f) = length-map (switch_tables f) switch_in in
-    let twin = first_of-None (refused_if (has_twin (names_of (points_of_all ss))) DuplicateName) _ four.0 in
-    let differ = AllDiffer-from_twin (names_of (points_of_all ss)) (refused_if-None _ DuplicateName twin.0) in
+    let is = names_in f Input in
+    let ms = names_in f Meter in
+    let names = names_refusal (points_of_all ss is ms) in
+    let bay = section_refusal f bay_section in
+    let switches = section_refusal f switch_section in
+    let inputs = section_refusal f (name_section Input) in
+    let meters = section_refusal f (name_section Meter) in
+    let one = first_of-None (unknown_refusal (map (λ section. section.name) sections) f) (bay ∷ switches ∷ inputs ∷ meters ∷ names ∷ []) h in
+    let two = first_of-None bay (switches ∷ inputs ∷ meters ∷ names ∷ []) one.1 in
+    let three = first_of-None switches (inputs ∷ meters ∷ names ∷ []) two.1 in
+    let four = first_of-None inputs (meters ∷ names ∷ []) three.1 in
+    let five = first_of-None meters (names ∷ []) four.1 in
+    let six = first_of-None names [] five.1 in
+    let counts = list-counts 1 32 switch_keys (items_at (get_member (codes "switch") f)) three.0 in
+    let long : length ss ≡ length (section_tables f switch_section) = length-map (section_tables f switch_section) switch_in in
+    let some : 1 ≤ length ss = omega (arith, counts.least_is) in
+    let few : length ss ≤ 32 = omega (arith, counts.most_is) in
+    let few_inputs : length is ≤ 64 = names-counts f Input four.0 in
+    let few_meters : length ms ≤ 8 = names-counts f Meter five.0 in
+    let twin = first_of-None (refused_if (has_twin (names_of (points_of_all ss is ms))) DuplicateName) _ six.0 in
+    let differ = AllDiffer-from_twin (names_of (points_of_all ss is ms)) (refused_if-None _ DuplicateName twin.0) in
     record {
-      some_switch = omega (arith, counts.0);
-      few_switches = omega (arith, counts.1);
+      some_switch = some;
+      few_switches = few;
+      few_inputs = few_inputs;
+      few_meters = few_meters;
       points = refl;
       rows = refl;
-      names = pairs-differ (points_of_all ss) differ;
-      owners = all-owned ss;
-      tree = rows_make_tree ss (omega (arith, counts.1));
+      names = pairs-differ (points_of_all ss is ms) differ;
+      owners = all-owned ss is ms;
+      tree = rows_make_tree (nameplate_in (bay_table f)) ss ms (omega arith) (omega arith);
     }
 
 -- a bay that is read is sound

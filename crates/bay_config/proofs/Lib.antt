@@ -1,6 +1,8 @@
 pub mod BayLemmas
 pub mod KeyLemmas
 pub mod LawLemmas
+pub mod ListLemmas
+pub mod NameLemmas
 pub mod NamedLemmas
 pub mod NodeLemmas
 pub mod NumberLemmas

@@ -5,11 +5,14 @@ use Rattle.std.proofs.lemmas.List.Elements.{Contains-append_left, Contains-appen
 use Rattle.std.specs.List.{enumerate_from, flat_map}
 use Rattle.bay_tree.specs.declared.row.Row.{Row}
 use Rattle.bay_config.specs.declared.bay.Bay.{Bay}
+use Rattle.bay_config.specs.declared.bay.Control.{Control}
+use Rattle.bay_config.specs.declared.bay.Control.TheVariants.{Status, Direct, Sbo, SboEnhanced}
 use Rattle.bay_config.specs.declared.bay.Switch.{Switch}
+use Rattle.bay_config.specs.declared.nameplate.Nameplate.{Nameplate}
 use Rattle.bay_config.specs.declared.bay.SwitchKind.{SwitchKind}
 use Rattle.bay_config.specs.declared.bay.SwitchKind.TheVariants.{Breaker, Disconnector, Earthing}
-use Rattle.bay_config.specs.Laws.{IsBay, HasNode, HasPosition, HasEnable, NamesPosition, NamesInterlocking}
-use Rattle.bay_config.specs.Node.{Node, row, node_rows, node_name, class_of, is_breaker, is_of, node_number, position_node, position_nodes, position_parts, interlocking_node, interlocking_nodes, interlocking_parts, nodes_of}
+use Rattle.bay_config.specs.Laws.{nameplate_of, IsBay, HasNode, HasPosition, HasControl, HasEnable, HasMeter, NamesPosition, NamesControl, NamesInterlocking, NamesMeter}
+use Rattle.bay_config.specs.Node.{Parts, Node, row, node_rows, node_name, class_of, is_breaker, is_of, node_number, device_node, physical_node, position_node, position_nodes, position_parts, control_node, control_nodes, control_parts, interlocking_node, interlocking_nodes, interlocking_parts, meter_node, meter_nodes, meter_parts, nodes_of}
 
 Contains-cons : {X : Type 0} (y : X) (xs : List X) (x : X) → Contains xs x → Contains (y ∷ xs) x
 Contains-cons y xs x w = (suc w.0, omega (arith, w.1), w.2)
@@ -50,15 +53,15 @@ numbered-has b (t ∷ ss) zero s n here is =
 numbered-has b (t ∷ ss) (suc place) s n here is =
     numbered-step b t ss place s n (is_of b t) refl (λ m. numbered-has b ss place s m here is)
 
-enumerate-has : (ss : List Switch) (place n : ℕ) → place < length ss → (s : Switch) × Contains (enumerate_from n ss) (n + place, s)
+enumerate-has : {T : Type 0} (ts : List T) (place n : ℕ) → place < length ts → (t : T) × Contains (enumerate_from n ts) (n + place, t) × (slice_get ts place ≡ Some t)
 enumerate-has [] place n lt = absurd (omega arith)
-enumerate-has (t ∷ ss) zero n lt =
+enumerate-has (t ∷ ts) zero n lt =
     let none : n + 0 ≡ n = omega arith in
-    (t, (0, omega arith, ap (λ m. (m, t)) (sym none)))
-enumerate-has (t ∷ ss) (suc place) n lt =
-    let w = enumerate-has ss place (n + 1) (omega arith) in
+    (t, (0, omega arith, ap (λ m. (m, t)) (sym none)), refl)
+enumerate-has (t ∷ ts) (suc place) n lt =
+    let w = enumerate-has ts place (n + 1) (omega arith) in
     let more : n + 1 + place ≡ n + suc place = omega arith in
-    (w.0, subst (λ m. Contains ((n, t) ∷ enumerate_from (n + 1) ss) (m, w.0)) more (Contains-cons (n, t) (enumerate_from (n + 1) ss) (n + 1 + place, w.0) w.1))
+    (w.0, subst (λ m. Contains ((n, t) ∷ enumerate_from (n + 1) ts) (m, w.0)) more (Contains-cons (n, t) (enumerate_from (n + 1) ts) (n + 1 + place, w.0) w.1), w.2)
 
 among-class : (b : Bool) (ss : List Switch) (place : ℕ) (s : Switch) → slice_get ss place ≡ Some s → is_breaker s.kind ≡ b → Contains (position_nodes b ss) (position_node (length (filter (is_of b) (take place ss)) + 1, s))
 among-class b ss place s here e =
@@ -71,15 +74,43 @@ among-class b ss place s here e =
     is-own true s e = e
     is-own false s e = rw e
 
-position-among : (b : Bool) (ss : List Switch) (place : ℕ) (s : Switch) → slice_get ss place ≡ Some s → is_breaker s.kind ≡ b → Contains (nodes_of ss) (position_node (length (filter (is_of b) (take place ss)) + 1, s))
-position-among true ss place s here e =
-    let node = position_node (length (filter (is_of true) (take place ss)) + 1, s) in
-    Contains-append_left (position_nodes true ss ++ position_nodes false ss) (interlocking_nodes ss) node
-    (Contains-append_left (position_nodes true ss) (position_nodes false ss) node (among-class true ss place s here e))
-position-among false ss place s here e =
-    let node = position_node (length (filter (is_of false) (take place ss)) + 1, s) in
-    Contains-append_left (position_nodes true ss ++ position_nodes false ss) (interlocking_nodes ss) node
-    (Contains-append_right (position_nodes true ss) (position_nodes false ss) node (among-class false ss place s here e))
+-- the groups of nodes are among the nodes of a bay
+abbrev behind_positions : List Switch → List (List ℕ) → List Node
+behind_positions ss ms = control_nodes ss ++ (interlocking_nodes ss ++ meter_nodes ms)
+
+abbrev general : Nameplate → List Node
+general n = device_node n ∷ physical_node n ∷ []
+
+breakers-within : (n : Nameplate) (ss : List Switch) (ms : List (List ℕ)) (node : Node) → Contains (position_nodes true ss) node → Contains (nodes_of n ss ms) node
+breakers-within n ss ms node h =
+    Contains-append_right (general n) (position_nodes true ss ++ (position_nodes false ss ++ behind_positions ss ms)) node
+    (Contains-append_left (position_nodes true ss) (position_nodes false ss ++ behind_positions ss ms) node h)
+
+behind-breakers : (n : Nameplate) (ss : List Switch) (ms : List (List ℕ)) (node : Node) → Contains (position_nodes false ss ++ behind_positions ss ms) node → Contains (nodes_of n ss ms) node
+behind-breakers n ss ms node h =
+    Contains-append_right (general n) (position_nodes true ss ++ (position_nodes false ss ++ behind_positions ss ms)) node
+    (Contains-append_right (position_nodes true ss) (position_nodes false ss ++ behind_positions ss ms) node h)
+
+others-within : (n : Nameplate) (ss : List Switch) (ms : List (List ℕ)) (node : Node) → Contains (position_nodes false ss) node → Contains (nodes_of n ss ms) node
+others-within n ss ms node h = behind-breakers n ss ms node (Contains-append_left (position_nodes false ss) (behind_positions ss ms) node h)
+
+behind-within : (n : Nameplate) (ss : List Switch) (ms : List (List ℕ)) (node : Node) → Contains (behind_positions ss ms) node → Contains (nodes_of n ss ms) node
+behind-within n ss ms node h = behind-breakers n ss ms node (Contains-append_right (position_nodes false ss) (behind_positions ss ms) node h)
+
+controls-within : (n : Nameplate) (ss : List Switch) (ms : List (List ℕ)) (node : Node) → Contains (control_nodes ss) node → Contains (nodes_of n ss ms) node
+controls-within n ss ms node h = behind-within n ss ms node (Contains-append_left (control_nodes ss) (interlocking_nodes ss ++ meter_nodes ms) node h)
+
+interlockings-within : (n : Nameplate) (ss : List Switch) (ms : List (List ℕ)) (node : Node) → Contains (interlocking_nodes ss) node → Contains (nodes_of n ss ms) node
+interlockings-within n ss ms node h =
+    behind-within n ss ms node (Contains-append_right (control_nodes ss) (interlocking_nodes ss ++ meter_nodes ms) node (Contains-append_left (interlocking_nodes ss) (meter_nodes ms) node h))
+
+meters-within : (n : Nameplate) (ss : List Switch) (ms : List (List ℕ)) (node : Node) → Contains (meter_nodes ms) node → Contains (nodes_of n ss ms) node
+meters-within n ss ms node h =
+    behind-within n ss ms node (Contains-append_right (control_nodes ss) (interlocking_nodes ss ++ meter_nodes ms) node (Contains-append_right (interlocking_nodes ss) (meter_nodes ms) node h))
+
+position-among : (b : Bool) (n : Nameplate) (ss : List Switch) (ms : List (List ℕ)) (place : ℕ) (s : Switch) → slice_get ss place ≡ Some s → is_breaker s.kind ≡ b → Contains (nodes_of n ss ms) (position_node (length (filter (is_of b) (take place ss)) + 1, s))
+position-among true n ss ms place s here e = breakers-within n ss ms _ (among-class true ss place s here e)
+position-among false n ss ms place s here e = others-within n ss ms _ (among-class false ss place s here e)
 
 -- the rows of a position and of an interlocking, by their places in their nodes
 has-position : (bay : Bay) (name : List ℕ) (kind : SwitchKind) → HasNode bay (record { name = name; parts = position_parts kind }) → HasPosition bay.rows name
@@ -93,35 +124,66 @@ has-open bay name h = record { value = h 3 (row name None) (omega arith); qualit
 has-close : (bay : Bay) (name : List ℕ) → HasNode bay (record { name = name; parts = interlocking_parts }) → HasEnable bay.rows name (codes "$ST$EnaCls")
 has-close bay name h = record { value = h 7 (row name None) (omega arith); quality = h 8 (row name None) (omega arith); moment = h 9 (row name None) (omega arith) }
 
+has-control : (bay : Bay) (name : List ℕ) (control : Control) (timeout : ℕ) → HasNode bay (record { name = name; parts = control_parts control timeout }) → HasControl bay.rows name
+has-control bay name Status timeout h = record { position = h 3 (row name None) (omega arith); quality = h 4 (row name None) (omega arith); moment = h 5 (row name None) (omega arith); selected = h 6 (row name None) (omega arith) }
+has-control bay name Direct timeout h = record { position = h 3 (row name None) (omega arith); quality = h 4 (row name None) (omega arith); moment = h 5 (row name None) (omega arith); selected = h 6 (row name None) (omega arith) }
+has-control bay name Sbo timeout h = record { position = h 3 (row name None) (omega arith); quality = h 4 (row name None) (omega arith); moment = h 5 (row name None) (omega arith); selected = h 6 (row name None) (omega arith) }
+has-control bay name SboEnhanced timeout h = record { position = h 3 (row name None) (omega arith); quality = h 4 (row name None) (omega arith); moment = h 5 (row name None) (omega arith); selected = h 6 (row name None) (omega arith) }
+
+has-meter : (bay : Bay) (name : List ℕ) → HasNode bay (record { name = name; parts = meter_parts }) → HasMeter bay.rows name
+has-meter bay name h = record {
+  tot_w = record { value = h 4 (row name None) (omega arith); quality = h 5 (row name None) (omega arith); moment = h 6 (row name None) (omega arith) };
+  tot_var = record { value = h 9 (row name None) (omega arith); quality = h 10 (row name None) (omega arith); moment = h 11 (row name None) (omega arith) };
+  hz = record { value = h 14 (row name None) (omega arith); quality = h 15 (row name None) (omega arith); moment = h 16 (row name None) (omega arith) };
+  phase_a = record { value = h 21 (row name None) (omega arith); quality = h 22 (row name None) (omega arith); moment = h 23 (row name None) (omega arith) };
+  phase_b = record { value = h 27 (row name None) (omega arith); quality = h 28 (row name None) (omega arith); moment = h 29 (row name None) (omega arith) };
+  phase_c = record { value = h 33 (row name None) (omega arith); quality = h 34 (row name None) (omega arith); moment = h 35 (row name None) (omega arith) };
+}
+
+-- a node of a bay has its rows there
+node-there : (bay : Bay) (node : Node) → IsBay bay → Contains (nodes_of (nameplate_of bay) bay.switches bay.meters) node → HasNode bay node
+node-there bay node is_bay at =
+    subst (λ rows. All (Contains rows) (node_rows node)) (sym is_bay.rows) (has-node (nodes_of (nameplate_of bay) bay.switches bay.meters) node at)
+
 position-node : (bay : Bay) (place : ℕ) (s : Switch) (name : List ℕ) → slice_get bay.switches place ≡ Some s → name ≡ node_name (class_of s.kind) (node_number bay.switches s place) → IsBay bay → HasNode bay (record { name = name; parts = position_parts s.kind })
 position-node bay place s name here named is_bay =
     let ss = bay.switches in
+    let all = nodes_of (nameplate_of bay) ss bay.meters in
     let node : Node = record { name = name; parts = position_parts s.kind } in
     let own : position_node (node_number ss s place, s) ≡ node = ap (λ n. record { name = n; parts = position_parts s.kind }) (sym named) in
-    subst (λ rows. All (Contains rows) (node_rows node)) (sym is_bay.rows) (has-node (nodes_of ss) node (subst (Contains (nodes_of ss)) own (position-among (is_breaker s.kind) ss place s here refl)))
+    node-there bay node is_bay (subst (Contains all) own (position-among (is_breaker s.kind) (nameplate_of bay) ss bay.meters place s here refl))
 
-abbrev interlocking_node_named : ℕ → Node
-interlocking_node_named m = record { name = node_name (codes "CILO") m; parts = interlocking_parts }
-
-interlocking-node : (bay : Bay) (place : ℕ) (name : List ℕ) → place < length bay.switches → name ≡ node_name (codes "CILO") (place + 1) → IsBay bay → HasNode bay (record { name = name; parts = interlocking_parts })
-interlocking-node bay place name lt named is_bay =
-    let ss = bay.switches in
-    let node : Node = record { name = name; parts = interlocking_parts } in
-    let own : (m : ℕ) → m ≡ place + 1 → interlocking_node_named m ≡ node = λ m e. ap interlocking_node_named e ∙ ap (λ n. record { name = n; parts = interlocking_parts }) (sym named) in
-    let w = enumerate-has ss place 1 lt in
-    let at : Contains (nodes_of ss) (interlocking_node (1 + place, w.0)) =
-    Contains-append_right (position_nodes true ss ++ position_nodes false ss) (interlocking_nodes ss) (interlocking_node (1 + place, w.0)) (Contains-map interlocking_node (enumerate_from 1 ss) (1 + place, w.0) w.1) in
-    subst (λ rows. All (Contains rows) (node_rows node)) (sym is_bay.rows) (has-node (nodes_of ss) node (subst (Contains (nodes_of ss)) (own (1 + place) (omega arith)) at))
+-- a node that is numbered by its place
+numbered-among : {T : Type 0} (make : ℕ × T → Node) (class : List ℕ) (parts : T → Parts) → ((n : ℕ) (t : T) → make (n, t) ≡ record { name = node_name class n; parts = parts t }) → (ts : List T) (place : ℕ) (name : List ℕ) → place < length ts → name ≡ node_name class (place + 1)
+    → (t : T) × Contains (map make (enumerate_from 1 ts)) (record { name = name; parts = parts t }) × (slice_get ts place ≡ Some t)
+numbered-among make class parts is ts place name lt named =
+    let w = enumerate-has ts place 1 lt in
+    let e : 1 + place ≡ place + 1 = omega arith in
+    let own : make (1 + place, w.0) ≡ record { name = name; parts = parts w.0 } = is (1 + place) w.0 ∙ ap (λ m. record { name = node_name class m; parts = parts w.0 }) e ∙ ap (λ n. record { name = n; parts = parts w.0 }) (sym named) in
+    (w.0, subst (Contains (map make (enumerate_from 1 ts))) own (Contains-map make (enumerate_from 1 ts) (1 + place, w.0) w.1), w.2)
 
 pub names_position : (bay : Bay) (place : ℕ) (s : Switch) (name : List ℕ) → slice_get bay.switches place ≡ Some s → name ≡ node_name (class_of s.kind) (node_number bay.switches s place) → NamesPosition bay place name
 names_position bay place s name here named =
     let node = position-node bay place s name here named in
     record { switch = s; here = here; named = named; node = node; rows = λ is_bay. has-position bay name s.kind (node is_bay) }
 
+pub names_control : (bay : Bay) (place : ℕ) (name : List ℕ) → place < length bay.switches → name ≡ node_name (codes "CSWI") (place + 1) → NamesControl bay place name
+names_control bay place name lt named =
+    let w = numbered-among control_node (codes "CSWI") (λ s. control_parts s.control s.sbo_timeout_ms) (λ n t. refl) bay.switches place name lt named in
+    let node : IsBay bay → HasNode bay (record { name = name; parts = control_parts w.0.control w.0.sbo_timeout_ms }) = λ is_bay. node-there bay _ is_bay (controls-within (nameplate_of bay) bay.switches bay.meters _ w.1) in
+    record { switch = w.0; here = w.2; named = named; node = node; rows = λ is_bay. has-control bay name w.0.control w.0.sbo_timeout_ms (node is_bay) }
+
 pub names_interlocking : (bay : Bay) (place : ℕ) (name : List ℕ) → place < length bay.switches → name ≡ node_name (codes "CILO") (place + 1) → NamesInterlocking bay place name
 names_interlocking bay place name lt named =
-    let node = interlocking-node bay place name lt named in
+    let w = numbered-among interlocking_node (codes "CILO") (λ s. interlocking_parts) (λ n t. refl) bay.switches place name lt named in
+    let node : IsBay bay → HasNode bay (record { name = name; parts = interlocking_parts }) = λ is_bay. node-there bay _ is_bay (interlockings-within (nameplate_of bay) bay.switches bay.meters _ w.1) in
     record { named = named; node = node; open_rows = λ is_bay. has-open bay name (node is_bay); close_rows = λ is_bay. has-close bay name (node is_bay) }
+
+pub names_meter : (bay : Bay) (place : ℕ) (name : List ℕ) → place < length bay.meters → name ≡ node_name (codes "MMXU") (place + 1) → NamesMeter bay place name
+names_meter bay place name lt named =
+    let w = numbered-among meter_node (codes "MMXU") (λ s. meter_parts) (λ n t. refl) bay.meters place name lt named in
+    let node : IsBay bay → HasNode bay (record { name = name; parts = meter_parts }) = λ is_bay. node-there bay _ is_bay (meters-within (nameplate_of bay) bay.switches bay.meters _ w.1) in
+    record { named = named; node = node; rows = λ is_bay. has-meter bay name (node is_bay) }
 
 pub get-at : (ss : List Switch) (place : ℕ) (s : Switch) → place < length ss → s ≡ get_or ss place s → slice_get ss place ≡ Some s
 get-at [] place s lt at = absurd (omega arith)

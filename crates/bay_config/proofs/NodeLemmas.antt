@@ -1,30 +1,72 @@
 -- The rows of the nodes, as they are appended.
-use Rattle.std.proofs.Common.{◌≡◌, ℕ, arith, ◌+◌, ◌<◌, pos, Bool, true, false, cond, List, [], ◌∷◌, ◌++◌, length, map, filter, get_or, drop, codes, None, Some, append_assoc, append-nil, sym, ap, ◌∙◌}
-use Rattle.std.proofs.lemmas.List.{drop_more}
+use Rattle.std.proofs.Common.{◌≡◌, ℕ, arith, ◌+◌, ◌<◌, Bool, true, false, cond, List, [], ◌∷◌, ◌++◌, length, map, filter, get_or, drop, codes, None, Some, append_assoc, append-nil, sym, ap, ◌∙◌}
+use Rattle.std.specs.Borrow.{Bor}
+use Rattle.std.proofs.lemmas.List.{drop_more, get_or_default, map-append}
 use Rattle.std.specs.Fmt.{decimal}
 use Rattle.std.specs.List.{flat_map, enumerate_from}
 use Rattle.bay_tree.specs.declared.row.Row.{Row}
-use Rattle.bay_tree.specs.declared.leaf.Leaf.TheVariants.{Truth, Dbpos, Int8, Int32}
-use Rattle.bay_tree.specs.declared.leaf.Dbpos.TheVariants.{Intermediate}
-use Rattle.bay_tree.specs.declared.leaf.Quality.TheVariants.{Good, Invalid}
+use Rattle.bay_tree.specs.declared.leaf.Leaf.TheVariants.{Unsigned32}
+use Rattle.bay_config.specs.declared.bay.Control.{Control}
+use Rattle.bay_config.specs.declared.bay.Control.TheVariants.{Status, Direct, Sbo, SboEnhanced}
 use Rattle.bay_config.specs.declared.bay.Switch.{Switch}
 use Rattle.bay_config.specs.declared.bay.SwitchKind.{SwitchKind}
 use Rattle.bay_config.specs.declared.bay.SwitchKind.TheVariants.{Breaker, Disconnector, Earthing}
-use Rattle.bay_config.specs.Node.{row, node_rows, position_node, position_parts, interlocking_node, interlocking_parts, is_of}
-use Rattle.bay_config.specs.NodeRows.{status_rows, type_rows}
+use Rattle.bay_config.specs.declared.nameplate.Nameplate.{Nameplate}
+use Rattle.bay_config.specs.declared.tables.InitialValue.{InitialValue}
+use Rattle.bay_config.specs.Node.{Parts, Node, row, rows_of, rows_of_parts, node_rows, device_node, device_parts, physical_node, physical_parts, position_node, position_parts, control_parts, operation, cancelling, is_of}
+use Rattle.bay_config.specs.NodeRows.{line_row, under, table_rows, status_group, type_rows, position_model, group_row, select_row, command_rows, control_group, control_model}
+
+-- one line more of a table
+pub table_turn : (n : Nameplate) (node : List ℕ) (table : List (Bor (List ℕ) × InitialValue)) (i : ℕ) (line : Bor (List ℕ) × InitialValue) (done : List Row) → i < length table → line ≡ get_or table i line → done ++ table_rows n node (drop i table) ≡ (done ++ under node (line_row n line) ∷ []) ++ table_rows n node (drop (i + 1) table)
+table_turn n node table i line done h at =
+    ap (λ ls. done ++ table_rows n node ls) (drop_more table i line h ∙ ap (λ l. l ∷ drop (i + 1) table) (sym at))
+    ∙ sym (append_assoc done (under node (line_row n line) ∷ []) (table_rows n node (drop (i + 1) table)))
+
+-- a node's own row, and the rows of its table
+pub node_appended : (n : Nameplate) (node : List ℕ) (table : List (Bor (List ℕ) × InitialValue)) (parts : Parts) → map (line_row n) table ≡ rows_of_parts [] parts → row node None ∷ table_rows n node table ≡ node_rows (record { name = node; parts = parts })
+node_appended n node table parts same = ap (λ rs. row node None ∷ map (under node) rs) same
+
+-- what is appended for the device itself makes its nodes
+pub device_appended : (n : Nameplate) (old : List Row) (device physical : List (Bor (List ℕ) × InitialValue)) → map (line_row n) device ≡ rows_of_parts [] (device_parts n) → map (line_row n) physical ≡ rows_of_parts [] (physical_parts n)
+    → (old ++ row (codes "LLN0") None ∷ table_rows n (codes "LLN0") device) ++ row (codes "LPHD1") None ∷ table_rows n (codes "LPHD1") physical ≡ old ++ flat_map node_rows (device_node n ∷ physical_node n ∷ [])
+device_appended n old device physical d p =
+    let first = node_rows (device_node n) in
+    let second = node_rows (physical_node n) in
+    ap (λ rs. (old ++ rs) ++ row (codes "LPHD1") None ∷ table_rows n (codes "LPHD1") physical) (node_appended n (codes "LLN0") device (device_parts n) d)
+    ∙ ap (λ rs. (old ++ first) ++ rs) (node_appended n (codes "LPHD1") physical (physical_parts n) p)
+    ∙ append_assoc old first second
+    ∙ ap (λ rs. old ++ (first ++ rs)) (sym (append-nil second))
 
 -- what is appended for a switch's position makes its node
-pub position_appended : (old : List Row) (node : List ℕ) (kind : SwitchKind) → (((((((((old ++ row (node ++ []) None ∷ []) ++ row (node ++ codes "$ST") None ∷ []) ++ status_rows node (codes "$ST$Pos") (Dbpos Intermediate) Invalid) ++ status_rows node (codes "$ST$BlkOpn") (Truth false) Good) ++ status_rows node (codes "$ST$BlkCls") (Truth false) Good) ++ status_rows node (codes "$ST$OpCnt") (Int32 (pos 0)) Good) ++ type_rows node kind) ++ row (node ++ codes "$CF") None ∷ []) ++ row (node ++ codes "$CF$Pos") None ∷ []) ++ row (node ++ codes "$CF$Pos$ctlModel") (Some (Int8 (pos 0))) ∷ [] ≡ old ++ node_rows (record { name = node; parts = position_parts kind })
+pub position_appended : (old : List Row) (node : List ℕ) (kind : SwitchKind) → (((old ++ row (node ++ []) None ∷ []) ++ map (under node) status_group) ++ map (under node) (type_rows kind)) ++ map (under node) position_model ≡ old ++ node_rows (record { name = node; parts = position_parts kind })
 position_appended old node Breaker = simp (append_assoc, append-nil)
 position_appended old node Disconnector = simp (append_assoc, append-nil)
 position_appended old node Earthing = simp (append_assoc, append-nil)
 
--- the rows of the breakers or of the other switches, and of the interlocking, numbered from n
+-- what is appended for its commands
+pub direct_appended : (old : List Row) (node : List ℕ) → (old ++ map (under node) group_row) ++ map (under node) (rows_of (codes "$CO$Pos") (operation (codes "Oper"))) ≡ old ++ map (under node) (command_rows Direct)
+direct_appended old node = simp append_assoc
+
+pub sbo_appended : (old : List Row) (node : List ℕ) → (((old ++ map (under node) group_row) ++ map (under node) select_row) ++ map (under node) (rows_of (codes "$CO$Pos") (operation (codes "Oper")))) ++ map (under node) (rows_of (codes "$CO$Pos") cancelling) ≡ old ++ map (under node) (command_rows Sbo)
+sbo_appended old node = simp append_assoc
+
+pub enhanced_appended : (old : List Row) (node : List ℕ) → (((old ++ map (under node) group_row) ++ map (under node) (rows_of (codes "$CO$Pos") (operation (codes "SBOw")))) ++ map (under node) (rows_of (codes "$CO$Pos") (operation (codes "Oper")))) ++ map (under node) (rows_of (codes "$CO$Pos") cancelling) ≡ old ++ map (under node) (command_rows SboEnhanced)
+enhanced_appended old node = simp append_assoc
+
+-- and for its control
+control-appended : (old : List Row) (node : List ℕ) (control : Control) (timeout : ℕ) → ((((old ++ row (node ++ []) None ∷ []) ++ map (under node) control_group) ++ map (under node) (command_rows control)) ++ map (under node) (control_model control)) ++ row (node ++ codes "$CF$Pos$sboTimeout") (Some (Unsigned32 timeout)) ∷ [] ≡ old ++ node_rows (record { name = node; parts = control_parts control timeout })
+control-appended old node Status timeout = simp (append_assoc, append-nil)
+control-appended old node Direct timeout = simp (append_assoc, append-nil)
+control-appended old node Sbo timeout = simp (append_assoc, append-nil)
+control-appended old node SboEnhanced timeout = simp (append_assoc, append-nil)
+
+pub control_appended : (n : Nameplate) (old : List Row) (node : List ℕ) (control : Control) (timeout : ℕ) (first last : List (Bor (List ℕ) × InitialValue)) → map (line_row n) first ≡ control_group → map (line_row n) last ≡ control_model control
+    → ((((old ++ row (node ++ []) None ∷ []) ++ table_rows n node first) ++ map (under node) (command_rows control)) ++ table_rows n node last) ++ row (node ++ codes "$CF$Pos$sboTimeout") (Some (Unsigned32 timeout)) ∷ [] ≡ old ++ node_rows (record { name = node; parts = control_parts control timeout })
+control_appended n old node control timeout first last f l = rw (f, l) (control-appended old node control timeout)
+
+-- the rows of the breakers or of the other switches, numbered from n
 abbrev pub positions_from : Bool → ℕ → List Switch → List Row
 positions_from breakers n ss = flat_map node_rows (map position_node (enumerate_from n (filter (is_of breakers) ss)))
-
-abbrev pub interlockings_from : ℕ → List Switch → List Row
-interlockings_from n ss = flat_map node_rows (map interlocking_node (enumerate_from n ss))
 
 positions-cons : (breakers : Bool) (n : ℕ) (s : Switch) (ss : List Switch) (b : Bool) → is_of breakers s ≡ b → positions_from breakers n (s ∷ ss) ≡ cond b (node_rows (position_node (n, s)) ++ positions_from breakers (n + 1) ss) (positions_from breakers n ss)
 positions-cons breakers n s ss true e = rw e
@@ -45,13 +87,24 @@ position_turn breakers ss i n s done h at e =
 pub position_passed : (breakers : Bool) (ss : List Switch) (i n : ℕ) (s : Switch) (done : List Row) → i < length ss → s ≡ get_or ss i s → is_of breakers s ≡ false → done ++ positions_from breakers n (drop i ss) ≡ done ++ positions_from breakers n (drop (i + 1) ss)
 position_passed breakers ss i n s done h at e = ap (λ rows. done ++ rows) (positions-at breakers ss i n s false h at e)
 
-first_of_drop : (ss : List Switch) (i : ℕ) → i < length ss → (s : Switch) × (drop i ss ≡ s ∷ drop (i + 1) ss)
-first_of_drop [] i h = absurd (omega arith)
-first_of_drop (s ∷ ss) i h = (get_or (s ∷ ss) i s, drop_more (s ∷ ss) i s h)
+-- the rows of nodes that are numbered one after the other from n
+abbrev pub numbered_from : {T : Type 0} → (ℕ × T → Node) → ℕ → List T → List Row
+numbered_from make n ts = flat_map node_rows (map make (enumerate_from n ts))
 
--- one turn of the interlocking
-pub interlocking_turn : (ss : List Switch) (i : ℕ) (done : List Row) → i < length ss → done ++ interlockings_from (i + 1) (drop i ss) ≡ (done ++ node_rows (record { name = codes "CILO" ++ decimal (i + 1); parts = interlocking_parts })) ++ interlockings_from (i + 1 + 1) (drop (i + 1) ss)
-interlocking_turn ss i done h =
-    let s = first_of_drop ss i h in
-    ap (λ ts. done ++ interlockings_from (i + 1) ts) s.1
-    ∙ sym (append_assoc done (node_rows (interlocking_node (i + 1, s.0))) (interlockings_from (i + 1 + 1) (drop (i + 1) ss)))
+-- one turn of them
+pub numbered_turn : {T : Type 0} (make : ℕ × T → Node) (ts : List T) (i : ℕ) (t : T) (done : List Row) → i < length ts → t ≡ get_or ts i t → done ++ numbered_from make (i + 1) (drop i ts) ≡ (done ++ node_rows (make (i + 1, t))) ++ numbered_from make (i + 1 + 1) (drop (i + 1) ts)
+numbered_turn make ts i t done h at =
+    ap (λ us. done ++ numbered_from make (i + 1) us) (drop_more ts i t h ∙ ap (λ u. u ∷ drop (i + 1) ts) (sym at))
+    ∙ sym (append_assoc done (node_rows (make (i + 1, t))) (numbered_from make (i + 1 + 1) (drop (i + 1) ts)))
+
+first-of-drop : {T : Type 0} (ts : List T) (i : ℕ) → i < length ts → (t : T) × (drop i ts ≡ t ∷ drop (i + 1) ts)
+first-of-drop [] i h = absurd (omega arith)
+first-of-drop (t ∷ ts) i h = (get_or (t ∷ ts) i t, drop_more (t ∷ ts) i t h)
+
+-- one turn of nodes that are the same but for their numbers
+pub alike_turn : {T : Type 0} (make : ℕ × T → Node) (node : ℕ → Node) (ts : List T) (i : ℕ) (done : List Row) → i < length ts → ((t : T) → make (i + 1, t) ≡ node (i + 1)) → done ++ numbered_from make (i + 1) (drop i ts) ≡ (done ++ node_rows (node (i + 1))) ++ numbered_from make (i + 1 + 1) (drop (i + 1) ts)
+alike_turn make node ts i done h alike =
+    let t = first-of-drop ts i h in
+    ap (λ us. done ++ numbered_from make (i + 1) us) t.1
+    ∙ sym (append_assoc done (node_rows (make (i + 1, t.0))) (numbered_from make (i + 1 + 1) (drop (i + 1) ts)))
+    ∙ ap (λ m. (done ++ node_rows m) ++ numbered_from make (i + 1 + 1) (drop (i + 1) ts)) (alike t.0)

@@ -12,6 +12,7 @@ use Rattle.bay_tree.specs.Names.{parent_of}
 use Rattle.bay_tree.specs.Rows.{IsStructureNamed, CanFollow}
 use Rattle.bay_config.specs.Key.{is_among, passes}
 use Rattle.bay_config.specs.Node.{Node, row, node_rows, rows_of_parts}
+use Rattle.bay_config.specs.NodeRows.{under}
 use Rattle.bay_config.proofs.KeyLemmas.{or-false_parts}
 use Rattle.bay_config.proofs.TreeLemmas.{Follow, Follow-append}
 
@@ -44,10 +45,6 @@ parent-word (c ∷ w) plain = rw (parent-word w plain.1, plain.0)
 parent-join : (w s p : List ℕ) → parent_of s ≡ Some p → parent_of (w ++ s) ≡ Some (w ++ p)
 parent-join [] s p h = h
 parent-join (c ∷ w) s p h = rw (parent-join w s p h)
-
--- a row of a node, by its row within the node
-abbrev pub under : List ℕ → Row → Row
-under node r = row (node ++ r.name) r.leaf
 
 -- a row's path is empty, or its parent is a structure among the rows before it
 abbrev parent_stands : List Row → List ℕ → Bool

@@ -1,17 +1,19 @@
 -- The bay of a table: the sections of a bay file, its first refusal, and what it describes.
 use Rattle.std.specs.Prelude.{ℕ, List, [], ◌∷◌, ◌++◌, map, codes, Option, None, Some, option_and_then, unwrap_or, Result, Err}
-use Rattle.toml.specs.Data.{Members, no_members, no_items, get_member, as_table, as_array}
+use Rattle.toml.specs.Data.{Members, no_members, get_member, as_table}
 use Rattle.toml.specs.Parse.{parse_document}
 use Rattle.bay_config.specs.declared.bay.Bay.{Bay}
 use Rattle.bay_config.specs.declared.bay.Switch.{Switch}
-use Rattle.bay_config.specs.declared.section.Nameplate.{Nameplate}
+use Rattle.bay_config.specs.declared.nameplate.Nameplate.{Nameplate}
+use Rattle.bay_config.specs.declared.names.NameSection.{NameSection}
+use Rattle.bay_config.specs.declared.names.NameSection.TheVariants.{Input, Meter}
 use Rattle.bay_config.specs.declared.fault.BayFault.{BayFault}
 use Rattle.bay_config.specs.declared.fault.BayFault.TheVariants.{BadToml}
 use Rattle.bay_base.specs.Exact.{judged}
 use Rattle.bay_config.specs.Key.{Key, identifier, description, number, first_of, unknown_refusal, text_in, number_in}
 use Rattle.bay_config.specs.Node.{rows_of_all}
 use Rattle.bay_config.specs.Point.{points_of_all, names_refusal}
-use Rattle.bay_config.specs.Section.{Section, one, some, tables_of, section_refusal}
+use Rattle.bay_config.specs.Section.{Section, one, many, section_refusal, section_tables}
 use Rattle.bay_config.specs.Switch.{switch_keys, switch_in}
 
 abbrev pub bay_keys : List Key
@@ -27,18 +29,34 @@ abbrev pub bay_section : Section
 bay_section = record { name = codes "bay"; shape = one; keys = λ _. bay_keys }
 
 abbrev pub switch_section : Section
-switch_section = record { name = codes "switch"; shape = some 32; keys = switch_keys }
+switch_section = record { name = codes "switch"; shape = many 1 32; keys = switch_keys }
+
+-- the one key of an input and of a meter
+abbrev pub name_key : NameSection → List ℕ
+name_key Input = codes "name"
+name_key Meter = codes "id"
+
+abbrev pub name_keys : NameSection → List Key
+name_keys which = record { name = name_key which; form = identifier 16 } ∷ []
+
+abbrev pub section_name : NameSection → List ℕ
+section_name Input = codes "input"
+section_name Meter = codes "meter"
+
+abbrev pub most_names : NameSection → ℕ
+most_names Input = 64
+most_names Meter = 8
+
+abbrev pub name_section : NameSection → Section
+name_section which = record { name = section_name which; shape = many 0 (most_names which); keys = λ _. name_keys which }
 
 -- the sections of a bay file, in their order
 abbrev pub sections : List Section
-sections = bay_section ∷ switch_section ∷ []
+sections = bay_section ∷ switch_section ∷ name_section Input ∷ name_section Meter ∷ []
 
--- the one table of the section `bay`, and the tables of the section `switch`
+-- the one table of the section `bay`
 abbrev pub bay_table : Members → Members
 bay_table file = unwrap_or (option_and_then as_table (get_member (codes "bay") file)) no_members
-
-abbrev pub switch_tables : Members → List Members
-switch_tables file = tables_of (unwrap_or (option_and_then as_array (get_member (codes "switch") file)) no_items)
 
 -- what a file that is not refused describes
 abbrev pub nameplate_in : Members → Nameplate
@@ -50,28 +68,40 @@ nameplate_in table = record {
   scan_max_age_ms = number_in table (codes "scan_max_age_ms");
 }
 
-abbrev pub bay_with : Nameplate → List Switch → Bay
-bay_with nameplate switches = record {
+abbrev pub switches_in : Members → List Switch
+switches_in file = map switch_in (section_tables file switch_section)
+
+abbrev pub name_in : NameSection → Members → List ℕ
+name_in which table = text_in table (name_key which)
+
+abbrev pub names_in : Members → NameSection → List (List ℕ)
+names_in file which = map (name_in which) (section_tables file (name_section which))
+
+abbrev pub bay_with : Nameplate → List Switch → List (List ℕ) → List (List ℕ) → Bay
+bay_with nameplate switches inputs meters = record {
   domain = nameplate.domain;
   vendor = nameplate.vendor;
   model = nameplate.model;
   revision = nameplate.revision;
   scan_max_age_ms = nameplate.scan_max_age_ms;
-  rows = rows_of_all switches;
-  points = points_of_all switches;
+  rows = rows_of_all nameplate switches meters;
+  points = points_of_all switches inputs meters;
   switches = switches;
+  inputs = inputs;
+  meters = meters;
 }
 
-abbrev pub switches_in : Members → List Switch
-switches_in file = map switch_in (switch_tables file)
-
 abbrev pub bay_in : Members → Bay
-bay_in file = bay_with (nameplate_in (bay_table file)) (switches_in file)
+bay_in file = bay_with (nameplate_in (bay_table file)) (switches_in file) (names_in file Input) (names_in file Meter)
 
 -- the first refusal of a file: a key that is no section, then section by section, then the names of the points
 abbrev pub file_refusal : Members → Option BayFault
 file_refusal file =
-    first_of (unknown_refusal (map (λ section. section.name) sections) file ∷ map (section_refusal file) sections ++ names_refusal (points_of_all (switches_in file)) ∷ [])
+    first_of
+    (unknown_refusal (map (λ section. section.name) sections) file
+    ∷ map (section_refusal file) sections
+    ++ names_refusal (points_of_all (switches_in file) (names_in file Input) (names_in file Meter))
+    ∷ [])
 
 abbrev pub bay_of_table : Members → Result Bay BayFault
 bay_of_table file = judged (file_refusal file) (bay_in file)

@@ -64,6 +64,9 @@ held_refusal form (Some d) = if accepts form d then None else Some BadValue
 abbrev pub key_refusal : Members → Key → Option BayFault
 key_refusal table key = held_refusal key.form (get_member key.name table)
 
+abbrev pub refused_if : Bool → BayFault → Option BayFault
+refused_if test fault = if test then Some fault else None
+
 -- the first refusal of a list of checks
 abbrev pub first_of : List (Option BayFault) → Option BayFault
 first_of [] = None

@@ -1,19 +1,20 @@
--- The points of switches, and the refusal of their names.
-use Rattle.std.specs.Prelude.{ℕ, ◌+◌, Bool, true, false, ◌||◌, List, [], ◌∷◌, ◌++◌, map, codes, Option, None, Some, is_some, if◌then◌else◌}
+-- The points of switches, inputs and meters, and the refusal of their names.
+use Rattle.std.specs.Prelude.{ℕ, ◌+◌, Bool, true, false, ◌||◌, List, [], ◌∷◌, ◌++◌, map, codes, Option, is_some}
 use Rattle.std.specs.List.{list_any}
 use Rattle.std.specs.Str.{str_to_ascii_uppercase}
 use Rattle.bay_config.specs.declared.bay.Switch.{Switch}
 use Rattle.bay_config.specs.declared.bay.Point.{Point}
-use Rattle.bay_config.specs.declared.bay.Origin.{Origin}
 use Rattle.bay_config.specs.declared.bay.Origin.TheVariants as origins
+use Rattle.bay_config.specs.declared.bay.MeterField.{MeterField}
+use Rattle.bay_config.specs.declared.bay.MeterField.TheVariants.{TotW, TotVAr, Hz, PhaseA, PhaseB, PhaseC}
 use Rattle.bay_config.specs.declared.bay.SwitchPoint.{SwitchPoint}
 use Rattle.bay_config.specs.declared.bay.SwitchPoint.TheVariants.{Position, Open, Closed, EnableOpen, EnableClose}
 use Rattle.bay_base.specs.Words.{reserved_of}
 use Rattle.bay_base.specs.declared.types.ElementaryType.{ElementaryType}
-use Rattle.bay_base.specs.declared.types.ElementaryType.TheVariants.{Bool as Truth, Int}
+use Rattle.bay_base.specs.declared.types.ElementaryType.TheVariants.{Bool as Truth, Int, Dint}
 use Rattle.bay_config.specs.declared.fault.BayFault.{BayFault}
 use Rattle.bay_config.specs.declared.fault.BayFault.TheVariants.{BadValue, DuplicateName}
-use Rattle.bay_config.specs.Key.{is_among, first_of}
+use Rattle.bay_config.specs.Key.{is_among, first_of, refused_if}
 
 -- a point of the switch at a place with this id: what follows the id in its name, its type, whether it may
 -- be written, and which of the switch's points it is
@@ -49,20 +50,43 @@ abbrev pub points_from : ℕ → List Switch → List Point
 points_from place [] = []
 points_from place (switch ∷ switches) = points_of place switch ++ points_from (place + 1) switches
 
-abbrev pub points_of_all : List Switch → List Point
-points_of_all switches = points_from 0 switches
+-- the point of the input at a place, which has its name
+abbrev pub input_point : ℕ → List ℕ → Point
+input_point place name = record { name = str_to_ascii_uppercase name; kind = Truth; writable = false; origin = origins.Input place }
 
--- the place of the switch that a point belongs to
-abbrev pub place_in : Origin → ℕ
-place_in (origins.Switch place which) = place
+-- the points of inputs, of which the first stands at a place
+abbrev pub inputs_from : ℕ → List (List ℕ) → List Point
+inputs_from place [] = []
+inputs_from place (name ∷ names) = input_point place name ∷ inputs_from (place + 1) names
+
+-- a field of the meter at a place with this id: what follows the id in its name, and which field it is
+abbrev pub field_point : ℕ → List ℕ → List ℕ → MeterField → Point
+field_point place id ending field = record { name = str_to_ascii_uppercase id ++ ending; kind = Dint; writable = false; origin = origins.Meter place field }
+
+-- the points of the meter at a place
+abbrev pub meter_points : ℕ → List ℕ → List Point
+meter_points place id =
+    field_point place id (codes "_TOTW") TotW
+    ∷ field_point place id (codes "_TOTVAR") TotVAr
+    ∷ field_point place id (codes "_HZ") Hz
+    ∷ field_point place id (codes "_AA") PhaseA
+    ∷ field_point place id (codes "_AB") PhaseB
+    ∷ field_point place id (codes "_AC") PhaseC
+    ∷ []
+
+-- the points of meters, of which the first stands at a place
+abbrev pub meters_from : ℕ → List (List ℕ) → List Point
+meters_from place [] = []
+meters_from place (id ∷ ids) = meter_points place id ++ meters_from (place + 1) ids
+
+-- the points of a bay: of its switches, its inputs and its meters
+abbrev pub points_of_all : List Switch → List (List ℕ) → List (List ℕ) → List Point
+points_of_all switches inputs meters = points_from 0 switches ++ (inputs_from 0 inputs ++ meters_from 0 meters)
 
 -- some text stands twice in the list
 abbrev pub has_twin : List (List ℕ) → Bool
 has_twin [] = false
 has_twin (s ∷ rest) = is_among rest s || has_twin rest
-
-abbrev pub refused_if : Bool → BayFault → Option BayFault
-refused_if test fault = if test then Some fault else None
 
 -- two points of one name, then a point that is named as a reserved word
 abbrev pub names_refusal : List Point → Option BayFault

@@ -1,16 +1,16 @@
 -- The sections of a bay file: how often each stands, which keys its tables have, and its first refusal.
-use Rattle.std.specs.Prelude.{ℕ, nat_lt, Bool, true, ◌&&◌, List, [], ◌++◌, length, map, Option, None, Some, is_some, option_to_list, if◌then◌else◌}
-use Rattle.toml.specs.Data.{Data, Items, no_items, item, Members, get_member, as_table, as_array}
+use Rattle.std.specs.Prelude.{ℕ, ◌+◌, nat_lt, Bool, true, not, ◌&&◌, List, [], ◌∷◌, ◌++◌, map, Option, None, Some, is_some, option_to_list, option_and_then, unwrap_or}
+use Rattle.toml.specs.Data.{Data, Items, no_items, item, Members, no_members, get_member, as_table, as_array}
 use Rattle.bay_config.specs.declared.fault.BayFault.{BayFault}
 use Rattle.bay_config.specs.declared.fault.BayFault.TheVariants.{MissingKey, BadValue, TooMany}
-use Rattle.bay_config.specs.Key.{Key, first_of, entry_refusal}
+use Rattle.bay_config.specs.Key.{Key, first_of, refused_if, entry_refusal}
 
 -- how often a section stands in a file
 pub data Shape : Type 0 where
   -- as one table
   one : Shape
-  -- as a list of tables, at least one and at most so many
-  some : ℕ → Shape
+  -- as a list of tables, at least so many and at most so many; where it is missing there are none
+  many : ℕ → ℕ → Shape
 
 -- a section, with the keys of a table of it, which may depend on what the table holds
 pub record Section : Type 0 where
@@ -23,6 +23,11 @@ abbrev pub are_tables : Items → Bool
 are_tables no_items = true
 are_tables (item d ds) = is_some (as_table d) && are_tables ds
 
+-- how many items a list has
+abbrev pub count_of : Items → ℕ
+count_of no_items = 0
+count_of (item d ds) = count_of ds + 1
+
 -- the tables of a list
 abbrev pub tables_of : Items → List Members
 tables_of no_items = []
@@ -32,22 +37,36 @@ abbrev pub one_refusal : (Members → List Key) → Option Members → Option Ba
 one_refusal keys None = Some BadValue
 one_refusal keys (Some table) = entry_refusal (keys table) table
 
--- too many tables, then table by table
-abbrev pub tables_refusal : ℕ → (Members → List Key) → List Members → Option BayFault
-tables_refusal most keys tables =
-    if nat_lt most (length tables) then Some TooMany else first_of (map (λ table. entry_refusal (keys table) table) tables)
+-- what is judged of a list before its tables: too few items, one that is no table, too many
+abbrev pub list_checks : ℕ → ℕ → Items → List (Option BayFault)
+list_checks least most items =
+    refused_if (nat_lt (count_of items) least) MissingKey ∷ refused_if (not (are_tables items)) BadValue ∷ refused_if (nat_lt most (count_of items)) TooMany ∷ []
 
-abbrev pub list_refusal : ℕ → (Members → List Key) → Option Items → Option BayFault
-list_refusal most keys None = Some BadValue
-list_refusal most keys (Some no_items) = Some MissingKey
-list_refusal most keys (Some (item d ds)) =
-    if are_tables (item d ds) then tables_refusal most keys (tables_of (item d ds)) else Some BadValue
+-- the list as a whole, then table by table
+abbrev pub items_refusal : ℕ → ℕ → (Members → List Key) → Items → Option BayFault
+items_refusal least most keys items = first_of (list_checks least most items ++ map (λ table. entry_refusal (keys table) table) (tables_of items))
+
+abbrev pub list_refusal : ℕ → ℕ → (Members → List Key) → Option Items → Option BayFault
+list_refusal least most keys None = Some BadValue
+list_refusal least most keys (Some items) = items_refusal least most keys items
+
+-- the list at a section that is there, or an empty one; none where something else stands there
+abbrev pub items_at : Option Data → Option Items
+items_at None = Some no_items
+items_at (Some d) = as_array d
+
+abbrev pub table_refusal : (Members → List Key) → Option Data → Option BayFault
+table_refusal keys None = Some MissingKey
+table_refusal keys (Some d) = one_refusal keys (as_table d)
 
 abbrev pub shape_refusal : Shape → (Members → List Key) → Option Data → Option BayFault
-shape_refusal shape keys None = Some MissingKey
-shape_refusal one keys (Some d) = one_refusal keys (as_table d)
-shape_refusal (some most) keys (Some d) = list_refusal most keys (as_array d)
+shape_refusal one keys d = table_refusal keys d
+shape_refusal (many least most) keys d = list_refusal least most keys (items_at d)
 
 -- the first refusal of a section of a file
 abbrev pub section_refusal : Members → Section → Option BayFault
 section_refusal file section = shape_refusal section.shape section.keys (get_member section.name file)
+
+-- the tables of a section that is a list
+abbrev pub section_tables : Members → Section → List Members
+section_tables file section = tables_of (unwrap_or (items_at (get_member section.name file)) no_items)

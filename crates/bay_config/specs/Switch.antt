@@ -5,14 +5,14 @@ use Rattle.bay_config.specs.declared.bay.Switch.{Switch}
 use Rattle.bay_config.specs.declared.bay.SwitchKind.{SwitchKind}
 use Rattle.bay_config.specs.declared.bay.SwitchKind.TheVariants.{Breaker, Disconnector, Earthing}
 use Rattle.bay_config.specs.declared.bay.Control.{Control}
-use Rattle.bay_config.specs.declared.bay.Control.TheVariants.{Status, Direct, Sbo}
+use Rattle.bay_config.specs.declared.bay.Control.TheVariants.{Status, Direct, Sbo, SboEnhanced}
 use Rattle.bay_config.specs.Key.{Key, identifier, number, word, named, text_in, number_in}
 
 abbrev pub kinds : List (List ℕ × SwitchKind)
 kinds = (codes "breaker", Breaker) ∷ (codes "disconnector", Disconnector) ∷ (codes "earthing", Earthing) ∷ []
 
 abbrev pub controls : List (List ℕ × Control)
-controls = (codes "status", Status) ∷ (codes "direct", Direct) ∷ (codes "sbo", Sbo) ∷ []
+controls = (codes "status", Status) ∷ (codes "direct", Direct) ∷ (codes "sbo", Sbo) ∷ (codes "sbo-enhanced", SboEnhanced) ∷ []
 
 -- the kind and the control of a table, where they can be read
 abbrev pub kind_of : Members → Option SwitchKind
@@ -42,6 +42,7 @@ time_keys None = sbo_timeout_key ∷ travel_key ∷ []
 time_keys (Some Status) = []
 time_keys (Some Direct) = travel_key ∷ []
 time_keys (Some Sbo) = sbo_timeout_key ∷ travel_key ∷ []
+time_keys (Some SboEnhanced) = sbo_timeout_key ∷ travel_key ∷ []
 
 -- the keys of a switch, in their order
 abbrev pub switch_keys : Members → List Key

@@ -4,7 +4,7 @@ use bay_base::text::Text;
 use bay_base::types::ElementaryType;
 use bay_tree::row::Row;
 
-/// A bay: one logical device with its switches.
+/// A bay: one logical device with its switches, inputs and meters.
 #[derive(Debug, Drop)]
 pub struct Bay {
     /// The name of the logical device: a letter, then letters, digits and `_`, at most 32 characters.
@@ -19,10 +19,14 @@ pub struct Bay {
     pub scan_max_age_ms: u32,
     /// The rows of the tree in the order of its table, with the values of the start.
     pub rows: Listing<Row>,
-    /// The points of the program, switch by switch.
+    /// The points of the program: switch by switch, then the inputs, then meter by meter.
     pub points: Listing<Point>,
     /// The switches, 1 to 32, in the order of the file.
     pub switches: Listing<Switch>,
+    /// The names of the inputs, at most 64, in the order of the file.
+    pub inputs: Listing<Text>,
+    /// The ids of the meters, at most 8, in the order of the file.
+    pub meters: Listing<Text>,
 }
 
 /// A switching device (IEC 61850-7-4, XCBR and XSWI) and the way it is controlled.
@@ -58,6 +62,8 @@ pub enum Control {
     Direct,
     /// Select before operate with normal security.
     Sbo,
+    /// Select before operate with enhanced security: select with value, and a report of the end.
+    SboEnhanced,
 }
 
 /// A variable by which the program reads or writes the bay.
@@ -77,6 +83,10 @@ pub struct Point {
 pub enum Origin {
     /// A point of the switch at this place, counted from 0 in the order of the file.
     Switch { switch: usize, point: SwitchPoint },
+    /// The input at this place.
+    Input { input: usize },
+    /// A field of the meter at this place.
+    Meter { meter: usize, field: MeterField },
 }
 
 /// A point of a switch.
@@ -92,4 +102,21 @@ pub enum SwitchPoint {
     EnableOpen,
     /// Whether it may be closed, which the program writes.
     EnableClose,
+}
+
+/// A field of a meter (IEC 61850-7-4, MMXU), in whole units.
+#[derive(Clone, Copy, Debug, PartialEq, Eq)]
+pub enum MeterField {
+    /// The total active power, TotW.
+    TotW,
+    /// The total reactive power, TotVAr.
+    TotVAr,
+    /// The frequency, Hz.
+    Hz,
+    /// The current of phase A.
+    PhaseA,
+    /// The current of phase B.
+    PhaseB,
+    /// The current of phase C.
+    PhaseC,
 }

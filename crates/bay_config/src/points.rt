@@ -1,12 +1,12 @@
-// The points of the switches, and their names.
+// The points of switches, inputs and meters, and their names.
 ghost use Rattle.std.specs.Prelude.{◌≡◌, ◌∷◌, [], ◌++◌, map, is_some, IfOk};
 ghost use Rattle.std.specs.List.{list_any};
 ghost use Rattle.std.specs.Str.{bytes_eq, str_to_ascii_uppercase};
 ghost use Rattle.bay_base.specs.Exact.{judged};
-ghost use Rattle.bay_config.specs.Point.{position_points, enable_points, points_of, points_of_all, has_twin, names_refusal};
+ghost use Rattle.bay_config.specs.Point.{position_points, enable_points, points_of, points_from, inputs_from, field_point, meter_points, meters_from, points_of_all, has_twin, names_refusal};
 ghost use Rattle.bay_base.specs.Words.{reserved_of};
 
-use crate::bay::{Origin, Point, Switch, SwitchPoint};
+use crate::bay::{MeterField, Origin, Point, Switch, SwitchPoint};
 use crate::fault::BayFault;
 use bay_base::listing::Listing;
 use bay_base::text::Text;
@@ -14,7 +14,7 @@ use bay_base::types::ElementaryType;
 use bay_base::words::reserved_word;
 use std::alloc::{AllocError, Global};
 
-/// Adds a point of a switch: what follows the switch's id in its name, and what it is.
+/// Adds a point: the name that its own begins with, what follows, and what it is.
 fn push_point(
     alloc: Global,
     points: &mut Vec<Point>,
@@ -143,14 +143,102 @@ fn push_points(
     Ok(())
 }
 
-/// The points of the switches, in their order.
-pub fn points_of(alloc: Global, switches: &[Switch]) -> Result<Listing<Point>, AllocError>
-    ensures { IfOk result (λ points. points ≡ points_of_all switches.now) }
+/// Adds the points of the switches, in their order.
+fn push_switches(
+    alloc: Global,
+    points: &mut Vec<Point>,
+    switches: &[Switch],
+) -> Result<(), AllocError>
+    ensures { IfOk result (λ _. points.new.items ≡ points.old.items ++ points_from 0 switches.now) }
+{
+    for place in 0..switches.len() {
+        push_points(alloc, points, place, &switches[place])?;
+    }
+    Ok(())
+}
+
+/// Adds the points of the inputs, which the program reads.
+fn push_inputs(alloc: Global, points: &mut Vec<Point>, inputs: &[Text]) -> Result<(), AllocError>
+    ensures { IfOk result (λ _. points.new.items ≡ points.old.items ++ inputs_from 0 inputs.now) }
+{
+    for input in 0..inputs.len() {
+        push_point(
+            alloc,
+            points,
+            inputs[input].as_str(),
+            "",
+            ElementaryType::Bool,
+            false,
+            Origin::Input { input },
+        )?;
+    }
+    Ok(())
+}
+
+/// Adds the point of a field of a meter.
+fn push_field(
+    alloc: Global,
+    points: &mut Vec<Point>,
+    meter: usize,
+    id: &str,
+    ending: &str,
+    field: MeterField,
+) -> Result<(), AllocError>
+    ensures { IfOk result (λ _. points.new.items ≡ points.old.items ++ field_point meter id.now ending.now field ∷ []) }
+{
+    let origin = Origin::Meter { meter, field };
+    push_point(
+        alloc,
+        points,
+        id,
+        ending,
+        ElementaryType::Dint,
+        false,
+        origin,
+    )
+}
+
+/// Adds the points of the meter at a place, which the program reads.
+fn push_meter(
+    alloc: Global,
+    points: &mut Vec<Point>,
+    meter: usize,
+    id: &str,
+) -> Result<(), AllocError>
+    ensures { IfOk result (λ _. points.new.items ≡ points.old.items ++ meter_points meter id.now) }
+{
+    push_field(alloc, points, meter, id, "_TOTW", MeterField::TotW)?;
+    push_field(alloc, points, meter, id, "_TOTVAR", MeterField::TotVAr)?;
+    push_field(alloc, points, meter, id, "_HZ", MeterField::Hz)?;
+    push_field(alloc, points, meter, id, "_AA", MeterField::PhaseA)?;
+    push_field(alloc, points, meter, id, "_AB", MeterField::PhaseB)?;
+    push_field(alloc, points, meter, id, "_AC", MeterField::PhaseC)?;
+    Ok(())
+}
+
+/// Adds the points of the meters, in their order.
+fn push_meters(alloc: Global, points: &mut Vec<Point>, meters: &[Text]) -> Result<(), AllocError>
+    ensures { IfOk result (λ _. points.new.items ≡ points.old.items ++ meters_from 0 meters.now) }
+{
+    for meter in 0..meters.len() {
+        push_meter(alloc, points, meter, meters[meter].as_str())?;
+    }
+    Ok(())
+}
+
+/// The points of the switches, the inputs and the meters, in their order.
+pub fn points_of(
+    alloc: Global,
+    switches: &[Switch],
+    inputs: &[Text],
+    meters: &[Text],
+) -> Result<Listing<Point>, AllocError>
+    ensures { IfOk result (λ points. points ≡ points_of_all switches.now inputs.now meters.now) }
 {
     let mut points = Vec::new(alloc);
-    for place in 0..switches.len() {
-        push_points(alloc, &mut points, place, &switches[place])?;
-    }
+    push_switches(alloc, &mut points, switches)?;
+    push_inputs(alloc, &mut points, inputs)?;
+    push_meters(alloc, &mut points, meters)?;
     Ok(Listing::new(points))
 }
 

@@ -9,9 +9,11 @@ ghost use Rattle.bay_config.specs.Laws.{IsBay};
 use crate::bay::Bay;
 use crate::fault::BayFault;
 use crate::keys::check_keys;
-use crate::nodes::rows_of;
+use crate::nameplate::nameplate_at;
+use crate::names::{NameSection, names_at};
 use crate::points::{check_names, points_of};
-use crate::section::{nameplate_at, switches_at};
+use crate::rows::rows_of;
+use crate::switches::switches_at;
 use std::alloc::Global;
 use toml::Table;
 
@@ -20,12 +22,19 @@ fn bay_from(alloc: Global, file: &Table) -> Result<Bay, BayFault>
     ensures read { Gives OutOfMemory (λ x. x) result (bay_of_table (table_view file.now)) }
     ensures sound { IfOk result IsBay }
 {
-    check_keys(file, &["bay", "switch"])?;
+    check_keys(file, &["bay", "switch", "input", "meter"])?;
     let nameplate = nameplate_at(alloc, file)?;
     let switches = switches_at(alloc, file)?;
-    let points = points_of(alloc, switches.as_slice())?;
+    let inputs = names_at(alloc, file, NameSection::Input)?;
+    let meters = names_at(alloc, file, NameSection::Meter)?;
+    let points = points_of(
+        alloc,
+        switches.as_slice(),
+        inputs.as_slice(),
+        meters.as_slice(),
+    )?;
     check_names(points.as_slice())?;
-    let rows = rows_of(alloc, switches.as_slice())?;
+    let rows = rows_of(alloc, &nameplate, switches.as_slice(), meters.as_slice())?;
     Ok(Bay {
         domain: nameplate.domain,
         vendor: nameplate.vendor,
@@ -35,6 +44,8 @@ fn bay_from(alloc: Global, file: &Table) -> Result<Bay, BayFault>
         rows,
         points,
         switches,
+        inputs,
+        meters,
     })
 }
 

@@ -1,5 +1,5 @@
 -- What load makes of a bay and a checked program.
-use Rattle.std.proofs.Common.{◌≡◌, ℕ, zero, suc, ◌+◌, ◌<◌, Bool, List, [], ◌∷◌, ◌++◌, length, map, get_or, slice_get, Option, Some, refl, ap, sym, ◌∙◌, arith}
+use Rattle.std.proofs.Common.{◌≡◌, ℕ, zero, suc, ◌+◌, ◌<◌, Bool, false, List, [], ◌∷◌, ◌++◌, length, map, get_or, slice_get, Option, Some, refl, ap, sym, ◌∙◌, arith}
 use Rattle.std.proofs.lemmas.Option.{slice_get_within}
 use Rattle.bay_tree.specs.declared.row.Row.{Row}
 use Rattle.bay_config.specs.declared.bay.Bay.{Bay}
@@ -12,7 +12,7 @@ use Rattle.bay_device.specs.Device.{State}
 use Rattle.bay_device.specs.Bound.{IsProgram, bound_from}
 use Rattle.bay_device.specs.Load.{initial_device}
 use Rattle.bay_device.specs.Layout.{Layout, switches_of, AreBound}
-use Rattle.bay_device.specs.Names.{switch_names, names_by_nodes, node_of}
+use Rattle.bay_device.specs.Names.{switch_names, names_by_nodes, node_of, control_of}
 use Rattle.bay_device.specs.Nodes.{AreAllNodes, AreAllRows}
 use Rattle.bay_device.specs.Slots.{outputs_at, origins_of, variables_of, declared_of}
 use Rattle.bay_device.specs.declared.nodes.Nodes.{Nodes}
@@ -82,27 +82,33 @@ are-bound bay nodes layout slots rows named placed same long k b h =
     let r = placed k n.0 b.rows n.1 w.rows_are in
     record {
       named =
-          r.named ∙ ap (λ m. names_by_nodes m n.0.interlocking) node ∙ ap (names_by_nodes (node_of bay.switches k b.switch)) own.interlocking_named.named
+          r.named ∙ ap (λ m. names_by_nodes m n.0.control n.0.interlocking) node ∙ ap (λ m. names_by_nodes (node_of bay.switches k b.switch) m n.0.interlocking) own.control_named.named
+          ∙ ap (names_by_nodes (node_of bay.switches k b.switch) (control_of k)) own.interlocking_named.named
           ∙ ap (λ ss. switch_names ss k b.switch) (sym all);
       kinded = r.kinded;
       outputs = w.outputs_are ∙ ap (outputs_at slots) none;
     }
 
 -- a device before its first event
-pub loaded-view : (bay : Bay) (straight : StraightProgram) (program : BoundProgram) (values : List Bool) (rows : List Row) (switches : List Switch) → IsProgram straight program values → rows ≡ bay.rows → switches ≡ bay.switches
+pub loaded-view : (bay : Bay) (straight : StraightProgram) (program : BoundProgram) (values : List Bool) (rows : List Row) (switches : List Switch) (input_values : List Bool) (meters : List (List ℕ)) → IsProgram straight program values → rows ≡ bay.rows → switches ≡ bay.switches
+    → input_values ≡ map (λ _. false) bay.inputs → meters ≡ bay.meters
     → record (initial_device bay straight) {
       switches = switches;
+      input_values = input_values;
+      meters = meters;
       declared = declared_of (names_of program.variables) (origins_of program.variables);
       items = items_named (names_of program.variables) program.instructions;
       rows = rows;
       variables = variables_of (names_of program.variables) values;
     } ≡ initial_device bay straight
-loaded-view bay straight program values rows switches b r w =
+loaded-view bay straight program values rows switches input_values meters b r w i m =
     let s = initial_device bay straight in
-    let state : List typed.Variable → List StraightInstruction → List Row → List Bool → List Switch → State = λ vs is rs xs ss.
-    record s { switches = ss; declared = declared_of (names_of vs) (origins_of vs); items = items_named (names_of vs) is; rows = rs; variables = variables_of (names_of vs) xs } in
-    ap (λ is. state program.variables is rows values switches) b.instructions
-    ∙ ap (λ vs. state vs straight.instructions rows values switches) b.variables
-    ∙ ap (λ rs. state straight.variables straight.instructions rs values switches) r
-    ∙ ap (λ xs. state straight.variables straight.instructions bay.rows xs switches) b.initial
-    ∙ ap (state straight.variables straight.instructions bay.rows (map (λ (v : typed.Variable). v.initial) straight.variables)) w
+    let state : List typed.Variable → List StraightInstruction → List Row → List Bool → List Switch → List Bool → List (List ℕ) → State = λ vs is rs xs ss bs ms.
+    record s { switches = ss; input_values = bs; meters = ms; declared = declared_of (names_of vs) (origins_of vs); items = items_named (names_of vs) is; rows = rs; variables = variables_of (names_of vs) xs } in
+    ap (λ is. state program.variables is rows values switches input_values meters) b.instructions
+    ∙ ap (λ vs. state vs straight.instructions rows values switches input_values meters) b.variables
+    ∙ ap (λ rs. state straight.variables straight.instructions rs values switches input_values meters) r
+    ∙ ap (λ xs. state straight.variables straight.instructions bay.rows xs switches input_values meters) b.initial
+    ∙ ap (λ ss. state straight.variables straight.instructions bay.rows (map (λ (v : typed.Variable). v.initial) straight.variables) ss input_values meters) w
+    ∙ ap (λ bs. state straight.variables straight.instructions bay.rows (map (λ (v : typed.Variable). v.initial) straight.variables) bay.switches bs meters) i
+    ∙ ap (state straight.variables straight.instructions bay.rows (map (λ (v : typed.Variable). v.initial) straight.variables) bay.switches (map (λ _. false) bay.inputs)) m

@@ -1,4 +1,4 @@
--- The rows that a bay has for its switches, and the handles of their names.
+-- The rows that a bay has for its switches and meters, and the handles of their names.
 use Rattle.std.proofs.Common.{◌≡◌, ◌≢◌, ℕ, Bool, true, false, cond, zero, suc, List, [], ◌∷◌, ◌++◌, length, find, slice_get, slice_index_or, Option, Some, None, option_map, option_and_then, codes, Contains, refl, ap, sym, ◌∙◌, subst, arith, ⊎_elim, All, Err}
 use Rattle.std.specs.Option.{ok_or}
 use Rattle.std.specs.Str.{bytes_eq}
@@ -7,6 +7,7 @@ use Rattle.std.proofs.lemmas.Slice.Eq.{bytes_eq-Decides}
 use Rattle.bay_tree.specs.declared.row.Row.{Row}
 use Rattle.bay_tree.specs.declared.leaf.Leaf.{Leaf}
 use Rattle.bay_tree.specs.declared.leaf.Kind.{Kind}
+use Rattle.bay_tree.specs.declared.leaf.Kind.TheVariants as kinds
 use Rattle.bay_tree.specs.Kinds.{kind_of}
 use Rattle.bay_tree.specs.Rows.{IsTree, row_at, name_at, leaf_of, kind_at, kinds_of}
 use Rattle.bay_tree.specs.declared.leaf.Leaf.TheVariants as leaf
@@ -15,11 +16,13 @@ use Rattle.bay_tree.proofs.NamedLemmas.{leaf-named}
 use Rattle.bay_config.specs.Node.{row, position_parts}
 use Rattle.bay_config.specs.declared.bay.SwitchKind.{SwitchKind}
 use Rattle.bay_config.specs.declared.bay.SwitchKind.TheVariants.{Breaker, Disconnector, Earthing}
-use Rattle.bay_config.specs.Laws.{IsBay, HasNode, HasPosition, HasEnable}
+use Rattle.bay_config.specs.Laws.{IsBay, HasNode, HasPosition, HasControl, HasEnable, HasMeasured, HasMeter, NamesMeter}
 use Rattle.bay_config.specs.declared.bay.Bay.{Bay}
-use Rattle.bay_device.specs.Layout.{Layout, layout_of, name_in, status_in, HasKind, AreStatusRows}
-use Rattle.bay_device.specs.Names.{StatusNames, SwitchNames, names_by_nodes}
-use Rattle.bay_device.specs.Nodes.{AreNodesOf, AreAllNodes, nodes_names, HasLeaf, HasStatus, HasSwitch, HasSwitches, AreThere, IsFound, AreFound, AreRowsOf, AreAllRows}
+use Rattle.bay_device.specs.Layout.{Layout, layout_of, name_in, status_in, HasKind, AreStatusRows, AreMetersBound, IsMeterBound}
+use Rattle.bay_device.specs.Names.{StatusNames, SwitchNames, names_by_nodes, measured_names, MeterNames, meter_names, meter_names_of}
+use Rattle.bay_device.specs.Nodes.{AreNodesOf, AreAllNodes, nodes_names, HasLeaf, HasStatus, HasSwitch, HasSwitches, AreThere, IsFound, AreFound, AreRowsOf, AreAllRows, AreAllMeters, HasMeterLeaves, IsMeterThere, HaveMeters, AreMeterRowsOf}
+use Rattle.bay_device.specs.declared.meter.BoundMeter.{BoundMeter}
+use Rattle.bay_device.specs.declared.meter.MeterRows.{MeterRows}
 use Rattle.bay_device.specs.declared.nodes.Nodes.{Nodes}
 use Rattle.bay_device.specs.declared.rows.StatusRows.{StatusRows}
 use Rattle.bay_device.specs.declared.rows.SwitchRows.{SwitchRows}
@@ -39,10 +42,11 @@ count-quality bay name Breaker h = h 16 (row name None) (omega arith)
 count-quality bay name Disconnector h = h 16 (row name None) (omega arith)
 count-quality bay name Earthing h = h 16 (row name None) (omega arith)
 
-has-switch : (rows : List Row) (node interlocking : List ℕ) → IsTree rows → HasPosition rows node → Contains rows (row (node ++ codes "$ST$OpCnt$q") (Some (leaf.Quality Good)))
-    → HasEnable rows interlocking (codes "$ST$EnaOpn") → HasEnable rows interlocking (codes "$ST$EnaCls") → HasSwitch rows (names_by_nodes node interlocking)
-has-switch rows node interlocking tree p q o c = record {
+has-switch : (rows : List Row) (node control interlocking : List ℕ) → IsTree rows → HasPosition rows node → Contains rows (row (node ++ codes "$ST$OpCnt$q") (Some (leaf.Quality Good))) → HasControl rows control
+    → HasEnable rows interlocking (codes "$ST$EnaOpn") → HasEnable rows interlocking (codes "$ST$EnaCls") → HasSwitch rows (names_by_nodes node control interlocking)
+has-switch rows node control interlocking tree p q d o c = record {
   position = record { value_leaf = has-leaf rows _ _ tree p.position; quality_leaf = has-leaf rows _ _ tree p.quality; time_leaf = has-leaf rows _ _ tree p.moment };
+  control = record { value_leaf = has-leaf rows _ _ tree d.position; quality_leaf = has-leaf rows _ _ tree d.quality; time_leaf = has-leaf rows _ _ tree d.moment };
   operations = record { value_leaf = has-leaf rows _ _ tree p.count; quality_leaf = has-leaf rows _ _ tree q; time_leaf = has-leaf rows _ _ tree p.count_moment };
   ena_opn = record { value_leaf = has-leaf rows _ _ tree o.value; quality_leaf = has-leaf rows _ _ tree o.quality; time_leaf = has-leaf rows _ _ tree o.moment };
   ena_cls = record { value_leaf = has-leaf rows _ _ tree c.value; quality_leaf = has-leaf rows _ _ tree c.quality; time_leaf = has-leaf rows _ _ tree c.moment };
@@ -52,8 +56,27 @@ pub has-switches : (bay : Bay) (nodes : List Nodes) → IsBay bay → AreAllNode
 has-switches bay nodes is_bay all k n hn =
     let own = all k n hn in
     let p = own.position_named in
+    let d = own.control_named in
     let i = own.interlocking_named in
-    has-switch bay.rows n.position n.interlocking is_bay.tree (p.rows is_bay) (count-quality bay n.position p.switch.kind (p.node is_bay)) (i.open_rows is_bay) (i.close_rows is_bay)
+    has-switch bay.rows n.position n.control n.interlocking is_bay.tree (p.rows is_bay) (count-quality bay n.position p.switch.kind (p.node is_bay)) (d.rows is_bay) (i.open_rows is_bay) (i.close_rows is_bay)
+
+has-measured : (rows : List Row) (node object number : List ℕ) → IsTree rows → HasMeasured rows node object number → HasStatus rows (measured_names node object number) kinds.Int32
+has-measured rows node object number tree m = record { value_leaf = has-leaf rows _ _ tree m.value; quality_leaf = has-leaf rows _ _ tree m.quality; time_leaf = has-leaf rows _ _ tree m.moment }
+
+has-meter : (rows : List Row) (node : List ℕ) → IsTree rows → HasMeter rows node → HasMeterLeaves rows (meter_names_of node)
+has-meter rows node tree m = record {
+  tot_w = has-measured rows node _ _ tree m.tot_w;
+  tot_var = has-measured rows node _ _ tree m.tot_var;
+  hz = has-measured rows node _ _ tree m.hz;
+  phase_a = has-measured rows node _ _ tree m.phase_a;
+  phase_b = has-measured rows node _ _ tree m.phase_b;
+  phase_c = has-measured rows node _ _ tree m.phase_c;
+}
+
+pub have-meters : (bay : Bay) (nodes : List (List ℕ)) → IsBay bay → AreAllMeters bay nodes → HaveMeters bay.rows nodes
+have-meters bay nodes is_bay all k n hn =
+    let own = all k n hn in
+    record { named = own.named; leaves = has-meter bay.rows n is_bay.tree (own.rows is_bay) }
 
 -- a name that has a value is found
 there : (rows : List Row) (name : List ℕ) (kind : Kind) → HasLeaf rows name kind → leaf_of name rows ≢ None
@@ -110,22 +133,61 @@ found-names rows names handles f =
     rw (value, quality, time) refl
 
 pub found-switch : (rows : List Row) (names : SwitchNames) (handles : SwitchRows) → HasSwitch rows names
-    → AreFound rows names.position handles.position → AreFound rows names.operations handles.operations → AreFound rows names.ena_opn handles.ena_opn → AreFound rows names.ena_cls handles.ena_cls
+    → AreFound rows names.position handles.position → AreFound rows names.control handles.control → AreFound rows names.operations handles.operations → AreFound rows names.ena_opn handles.ena_opn → AreFound rows names.ena_cls handles.ena_cls
     → AreRowsOf (layout_of rows) names handles
-found-switch rows names handles h p n o c =
+found-switch rows names handles h p d n o c =
     let position : status_in (layout_of rows) handles.position ≡ names.position = found-names rows names.position handles.position p in
+    let control : status_in (layout_of rows) handles.control ≡ names.control = found-names rows names.control handles.control d in
     let operations : status_in (layout_of rows) handles.operations ≡ names.operations = found-names rows names.operations handles.operations n in
     let ena_opn : status_in (layout_of rows) handles.ena_opn ≡ names.ena_opn = found-names rows names.ena_opn handles.ena_opn o in
     let ena_cls : status_in (layout_of rows) handles.ena_cls ≡ names.ena_cls = found-names rows names.ena_cls handles.ena_cls c in
     record {
-      named = rw (position, operations, ena_opn, ena_cls) refl;
+      named = rw (position, control, operations, ena_opn, ena_cls) refl;
       kinded = record {
         position = found-kinds rows names.position _ handles.position h.position p;
+        control = found-kinds rows names.control _ handles.control h.control d;
         operations = found-kinds rows names.operations _ handles.operations h.operations n;
         ena_opn = found-kinds rows names.ena_opn _ handles.ena_opn h.ena_opn o;
         ena_cls = found-kinds rows names.ena_cls _ handles.ena_cls h.ena_cls c;
       };
     }
+
+pub found-meter : (rows : List Row) (names : MeterNames) (handles : MeterRows) → HasMeterLeaves rows names
+    → AreFound rows names.tot_w handles.tot_w → AreFound rows names.tot_var handles.tot_var → AreFound rows names.hz handles.hz
+    → AreFound rows names.phase_a handles.phase_a → AreFound rows names.phase_b handles.phase_b → AreFound rows names.phase_c handles.phase_c
+    → AreMeterRowsOf (layout_of rows) names handles
+found-meter rows names handles h w v z a b c =
+    let tot_w : status_in (layout_of rows) handles.tot_w ≡ names.tot_w = found-names rows names.tot_w handles.tot_w w in
+    let tot_var : status_in (layout_of rows) handles.tot_var ≡ names.tot_var = found-names rows names.tot_var handles.tot_var v in
+    let hz : status_in (layout_of rows) handles.hz ≡ names.hz = found-names rows names.hz handles.hz z in
+    let phase_a : status_in (layout_of rows) handles.phase_a ≡ names.phase_a = found-names rows names.phase_a handles.phase_a a in
+    let phase_b : status_in (layout_of rows) handles.phase_b ≡ names.phase_b = found-names rows names.phase_b handles.phase_b b in
+    let phase_c : status_in (layout_of rows) handles.phase_c ≡ names.phase_c = found-names rows names.phase_c handles.phase_c c in
+    record {
+      named = rw (tot_w, tot_var, hz, phase_a, phase_b, phase_c) refl;
+      kinded = record {
+        tot_w = found-kinds rows names.tot_w _ handles.tot_w h.tot_w w;
+        tot_var = found-kinds rows names.tot_var _ handles.tot_var h.tot_var v;
+        hz = found-kinds rows names.hz _ handles.hz h.hz z;
+        phase_a = found-kinds rows names.phase_a _ handles.phase_a h.phase_a a;
+        phase_b = found-kinds rows names.phase_b _ handles.phase_b h.phase_b b;
+        phase_c = found-kinds rows names.phase_c _ handles.phase_c h.phase_c c;
+      };
+    }
+
+-- one meter more
+pub meters-snoc : (bay : Bay) (nodes : List (List ℕ)) (n : List ℕ) → AreAllMeters bay nodes → NamesMeter bay (length nodes) n → AreAllMeters bay (nodes ++ n ∷ [])
+meters-snoc bay nodes n all own k m h =
+    ⊎_elim (λ (l : slice_get nodes k ≡ Some m). all k m l)
+    (λ (r : (k ≡ length nodes) × (n ≡ m)). subst (λ j. NamesMeter bay j m) (sym r.0) (subst (NamesMeter bay (length nodes)) r.1 own)) (get-snoc nodes n k m h)
+
+pub bound-meter : (rows : List Row) (k : ℕ) (node : List ℕ) (handles : MeterRows) → IsMeterThere rows k node → AreMeterRowsOf (layout_of rows) (meter_names_of node) handles → IsMeterBound (layout_of rows) k handles
+bound-meter rows k node handles there own = record { named = own.named ∙ ap meter_names_of there.named; kinded = own.kinded }
+
+pub bound-meters-snoc : (layout : Layout) (bound : List BoundMeter) (m : BoundMeter) → AreMetersBound layout bound → IsMeterBound layout (length bound) m.rows → AreMetersBound layout (bound ++ m ∷ [])
+bound-meters-snoc layout bound m all own k q h =
+    ⊎_elim (λ (l : slice_get bound k ≡ Some q). all k q l)
+    (λ (r : (k ≡ length bound) × (m ≡ q)). subst (λ j. IsMeterBound layout j q.rows) (sym r.0) (subst (λ (x : BoundMeter). IsMeterBound layout (length bound) x.rows) r.1 own)) (get-snoc bound m k q h)
 
 -- one switch more
 pub nodes-snoc : (bay : Bay) (nodes : List Nodes) (n : Nodes) → AreAllNodes bay nodes → AreNodesOf bay (length nodes) n → AreAllNodes bay (nodes ++ n ∷ [])

@@ -28,54 +28,56 @@ pub kinded : (layout : Layout) (slots : List (Option Origin)) (bound : List Boun
 kinded layout slots bound all k d lt = (all k (get_or bound k d) (slice_get-get_or bound k d lt)).kinded
 
 -- one slot more is read
-pub inputs-turn : (rows : List Row) (bound : List BoundSwitch) (slots : List (Option Origin)) (vs : List Bool) (i : ℕ) (d : Option Origin) (input : Option Bool) → i < length slots → length slots ≡ length vs → input ≡ slot_input rows bound (get_or slots i d)
-    → (v : Bool) → input ≡ Some v → slice_set (inputs_put rows bound (take i slots) vs) i v ≡ inputs_put rows bound (take (i + 1) slots) vs
-inputs-turn rows bound [] vs i d input lt same is v e = absurd (omega arith)
-inputs-turn rows bound (s ∷ slots) [] i d input lt same is v e = absurd (omega arith)
-inputs-turn rows bound (s ∷ slots) (w ∷ vs) zero d input lt same is v e =
+pub inputs-turn : (rows : List Row) (bound : List BoundSwitch) (inputs : List Bool) (slots : List (Option Origin)) (vs : List Bool) (i : ℕ) (d : Option Origin) (input : Option Bool) → i < length slots → length slots ≡ length vs → input ≡ slot_input rows bound inputs (get_or slots i d)
+    → (v : Bool) → input ≡ Some v → slice_set (inputs_put rows bound inputs (take i slots) vs) i v ≡ inputs_put rows bound inputs (take (i + 1) slots) vs
+inputs-turn rows bound inputs [] vs i d input lt same is v e = absurd (omega arith)
+inputs-turn rows bound inputs (s ∷ slots) [] i d input lt same is v e = absurd (omega arith)
+inputs-turn rows bound inputs (s ∷ slots) (w ∷ vs) zero d input lt same is v e =
     ap (λ o. unwrap_or o w ∷ vs) (sym e ∙ is)
-inputs-turn rows bound (s ∷ slots) (w ∷ vs) (suc i) d input lt same is v e =
+inputs-turn rows bound inputs (s ∷ slots) (w ∷ vs) (suc i) d input lt same is v e =
     let more : take (suc i + 1) (s ∷ slots) ≡ s ∷ take (i + 1) slots = rw (add-one, add-one) refl in
-    ap (λ ws. unwrap_or (slot_input rows bound s) w ∷ ws) (inputs-turn rows bound slots vs i d input (omega arith) (omega arith) is v e)
-    ∙ sym (ap (λ ss. inputs_put rows bound ss (w ∷ vs)) more)
+    ap (λ ws. unwrap_or (slot_input rows bound inputs s) w ∷ ws) (inputs-turn rows bound inputs slots vs i d input (omega arith) (omega arith) is v e)
+    ∙ sym (ap (λ ss. inputs_put rows bound inputs ss (w ∷ vs)) more)
 
 -- a slot that no contact gives a value keeps its own
-pub inputs-kept : (rows : List Row) (bound : List BoundSwitch) (slots : List (Option Origin)) (vs : List Bool) (i : ℕ) (d : Option Origin) (input : Option Bool) → i < length slots → length slots ≡ length vs → input ≡ slot_input rows bound (get_or slots i d)
-    → input ≡ None → inputs_put rows bound (take i slots) vs ≡ inputs_put rows bound (take (i + 1) slots) vs
-inputs-kept rows bound [] vs i d input lt same is e = absurd (omega arith)
-inputs-kept rows bound (s ∷ slots) [] i d input lt same is e = absurd (omega arith)
-inputs-kept rows bound (s ∷ slots) (w ∷ vs) zero d input lt same is e =
+pub inputs-kept : (rows : List Row) (bound : List BoundSwitch) (inputs : List Bool) (slots : List (Option Origin)) (vs : List Bool) (i : ℕ) (d : Option Origin) (input : Option Bool) → i < length slots → length slots ≡ length vs → input ≡ slot_input rows bound inputs (get_or slots i d)
+    → input ≡ None → inputs_put rows bound inputs (take i slots) vs ≡ inputs_put rows bound inputs (take (i + 1) slots) vs
+inputs-kept rows bound inputs [] vs i d input lt same is e = absurd (omega arith)
+inputs-kept rows bound inputs (s ∷ slots) [] i d input lt same is e = absurd (omega arith)
+inputs-kept rows bound inputs (s ∷ slots) (w ∷ vs) zero d input lt same is e =
     ap (λ o. unwrap_or o w ∷ vs) (sym e ∙ is)
-inputs-kept rows bound (s ∷ slots) (w ∷ vs) (suc i) d input lt same is e =
+inputs-kept rows bound inputs (s ∷ slots) (w ∷ vs) (suc i) d input lt same is e =
     let more : take (suc i + 1) (s ∷ slots) ≡ s ∷ take (i + 1) slots = rw (add-one, add-one) refl in
-    ap (λ ws. unwrap_or (slot_input rows bound s) w ∷ ws) (inputs-kept rows bound slots vs i d input (omega arith) (omega arith) is e)
-    ∙ sym (ap (λ ss. inputs_put rows bound ss (w ∷ vs)) more)
+    ap (λ ws. unwrap_or (slot_input rows bound inputs s) w ∷ ws) (inputs-kept rows bound inputs slots vs i d input (omega arith) (omega arith) is e)
+    ∙ sym (ap (λ ss. inputs_put rows bound inputs ss (w ∷ vs)) more)
 
 -- what the contacts give a point
 read-or : (input : Option Bool) (v : Bool) → truth (unwrap_or input v) ≡ or_else input (truth v)
 read-or None v = refl
 read-or (Some b) v = refl
 
-module _ (rows : List Row) (slots : List (Option Origin)) (bound : List BoundSwitch) (all : AreBound (layout_of rows) slots bound) where
+module _ (rows : List Row) (inputs : List Bool) (slots : List (Option Origin)) (bound : List BoundSwitch) (all : AreBound (layout_of rows) slots bound) where
   bound-input : (k : ℕ) (point : SwitchPoint) (b : Option BoundSwitch) → slice_get bound k ≡ b → switch_input rows point b ≡ input_of_switch (switches_of bound) rows k point (option_map (λ (b : BoundSwitch). b.switch) b)
   bound-input k point None here = refl
   bound-input k point (Some b) here = ap (λ (n : SwitchNames). input_of point (leaf_of n.position.value rows)) (all k b here).named
 
-  slot-named : (slot : Option Origin) → slot_input rows bound slot ≡ input_value (switches_of bound) rows slot
+  slot-named : (slot : Option Origin) → slot_input rows bound inputs slot ≡ input_value (switches_of bound) rows inputs slot
   slot-named None = refl
   slot-named (Some (origin.Switch k point)) =
       bound-input k point (slice_get bound k) refl
       ∙ ap (input_of_switch (switches_of bound) rows k point) (sym (slice_get-map (λ (b : BoundSwitch). b.switch) bound k))
+  slot-named (Some (origin.Input k)) = refl
+  slot-named (Some (origin.Meter k field)) = refl
 
   inputs-from : (names : List (List ℕ)) (ss : List (Option Origin)) (vs : List Bool) → length names ≡ length ss → length ss ≡ length vs
-      → variables_of names (inputs_put rows bound ss vs) ≡ with_inputs (switches_of bound) rows (declared_of names ss) (variables_of names vs)
+      → variables_of names (inputs_put rows bound inputs ss vs) ≡ with_inputs (switches_of bound) rows inputs (declared_of names ss) (variables_of names vs)
   inputs-from [] ss vs same same' = refl
   inputs-from (n ∷ names) [] vs same same' = absurd (omega arith)
   inputs-from (n ∷ names) (slot ∷ ss) [] same same' = absurd (omega arith)
   inputs-from (n ∷ names) (slot ∷ ss) (v ∷ vs) same same' =
-      ap (λ o. (n, truth (unwrap_or o v)) ∷ variables_of names (inputs_put rows bound ss vs)) (slot-named slot)
-      ∙ ap (λ (x : Value). (n, x) ∷ variables_of names (inputs_put rows bound ss vs)) (read-or (input_value (switches_of bound) rows slot) v)
-      ∙ ap (λ (xs : Variables). (n, or_else (input_value (switches_of bound) rows slot) (truth v)) ∷ xs) (inputs-from names ss vs (omega arith) (omega arith))
+      ap (λ o. (n, truth (unwrap_or o v)) ∷ variables_of names (inputs_put rows bound inputs ss vs)) (slot-named slot)
+      ∙ ap (λ (x : Value). (n, x) ∷ variables_of names (inputs_put rows bound inputs ss vs)) (read-or (input_value (switches_of bound) rows inputs slot) v)
+      ∙ ap (λ (xs : Variables). (n, or_else (input_value (switches_of bound) rows inputs slot) (truth v)) ∷ xs) (inputs-from names ss vs (omega arith) (omega arith))
 
 -- the value of an output
 module _ (k : ℕ) (point : SwitchPoint) where
@@ -133,7 +135,7 @@ module _ (layout : Layout) (switches : List Switch) (names : List (List ℕ)) (s
 
 -- a scan, on slots and by names
 pub scan-done : (d : DeviceState) (now : ℕ) (ran : List Bool) (rows : List Row)
-    → ((names : List (List ℕ)) → AreApart names → length names ≡ length d.values → variables_of names ran ≡ (mean (items_named names d.program.instructions) None (variables_of names (inputs_put d.tree d.switches (origins_of d.program.variables) d.values))).variables)
+    → ((names : List (List ℕ)) → AreApart names → length names ≡ length d.values → variables_of names ran ≡ (mean (items_named names d.program.instructions) None (variables_of names (inputs_put d.tree d.switches d.input_values (origins_of d.program.variables) d.values))).variables)
     → length ran ≡ length d.values
     → rows ≡ outputs_put (layout_of d.tree) d.switches ran now d.tree
     → record (state_view d) { rows = rows; variables = variables_of (names_of d.program.variables) ran; moment = now; last_scan = Some now; is_stale = false } ≡ scanned now (state_view d)
@@ -144,8 +146,8 @@ scan-done d now ran rows runs keeps writes =
     let named : length names ≡ length d.program.variables = length-map d.program.variables (λ (v : typed.Variable). v.name) in
     let sized : length names ≡ length slots = named ∙ sym (length-map d.program.variables (λ (v : typed.Variable). v.origin)) in
     let long : length slots ≡ length d.values = sym sized ∙ named ∙ sym d.sized in
-    let meant : variables_of names ran ≡ (mean s.items None (with_inputs s.switches s.rows s.declared s.variables)).variables =
-    runs names d.program.apart (sized ∙ long) ∙ ap (λ vs. (mean s.items None vs).variables) (inputs-from d.tree slots d.switches d.bound names slots d.values sized long) in
+    let meant : variables_of names ran ≡ (mean s.items None (with_inputs s.switches s.rows s.input_values s.declared s.variables)).variables =
+    runs names d.program.apart (sized ∙ long) ∙ ap (λ vs. (mean s.items None vs).variables) (inputs-from d.tree d.input_values slots d.switches d.bound names slots d.values sized long) in
     let written : rows ≡ with_outputs s.switches s.declared (variables_of names ran) now 0 s.switches s.rows =
     writes ∙ outputs-named (layout_of d.tree) s.switches names slots ran sized (long ∙ sym keeps) now 0 d.switches d.tree
     (λ j b h. let none : j ≡ 0 + j = omega arith in subst (λ m. IsBound (layout_of d.tree) slots s.switches m b) none (d.bound j b h)) in

@@ -1,5 +1,7 @@
--- What a device is, and what one event makes of it (IEC 61850-7-4: XCBR, XSWI and CILO; IEC 61850-7-3: status values).
-use Rattle.std.specs.Prelude.{ℕ, ◌+◌, Bool, true, false, not, ◌&&◌, ◌||◌, nat_lt, ◌==◌, pos, ◌+ℤ◌, int_lt, List, [], ◌∷◌, slice_get, Option, None, Some, Result, Ok, Err, if◌then◌else◌}
+-- What a device is, and what one event makes of it (IEC 61850-7-4: XCBR, XSWI, CSWI, CILO and MMXU; IEC 61850-7-3:
+-- status values and measured values).
+use Rattle.std.specs.Prelude.{ℕ, ℤ, ◌+◌, Bool, true, false, not, ◌&&◌, ◌||◌, nat_lt, ◌==◌, pos, ◌+ℤ◌, int_lt, List, [], ◌∷◌, slice_get, slice_set, Option, None, Some, Result, Ok, Err, if◌then◌else◌}
+use Rattle.std.specs.Ordering.{int_eq}
 use Rattle.bay_tree.specs.Rows.{leaf_of, with_leaf_of}
 use Rattle.bay_tree.specs.declared.row.Row.{Row}
 use Rattle.bay_tree.specs.declared.leaf.Leaf.{Leaf}
@@ -9,15 +11,16 @@ use Rattle.bay_tree.specs.declared.leaf.Dbpos.TheVariants.{Intermediate, Off, On
 use Rattle.bay_tree.specs.declared.leaf.Quality.{Quality}
 use Rattle.bay_tree.specs.declared.leaf.Quality.TheVariants.{Good, Invalid}
 use Rattle.bay_config.specs.declared.bay.Switch.{Switch}
+use Rattle.bay_config.specs.declared.bay.MeterField.{MeterField}
 use Rattle.bay_config.specs.declared.bay.Origin.{Origin}
 use Rattle.bay_config.specs.declared.bay.Origin.TheVariants as origin
 use Rattle.bay_config.specs.declared.bay.SwitchPoint.{SwitchPoint}
 use Rattle.bay_config.specs.declared.bay.SwitchPoint.TheVariants.{Position, Open, Closed, EnableOpen, EnableClose}
-use Rattle.bay_device.specs.Names.{StatusNames, SwitchNames, switch_names}
+use Rattle.bay_device.specs.Names.{StatusNames, SwitchNames, switch_names, meter_names, field_names}
 use Rattle.bay_device.specs.Straight.{Action}
 use Rattle.bay_device.specs.Meaning.{Value, truth, Variables, mean}
 use Rattle.bay_device.specs.declared.event.Event.{Event}
-use Rattle.bay_device.specs.declared.event.Event.TheVariants.{Contact, Scan}
+use Rattle.bay_device.specs.declared.event.Event.TheVariants.{Contact, Input, Measure, Scan}
 use Rattle.bay_device.specs.declared.event.Step.{Step}
 use Rattle.bay_device.specs.declared.fault.StepFault.{StepFault}
 use Rattle.bay_device.specs.declared.fault.StepFault.TheVariants.{MomentTooLarge, TimeWentBack, NoSuchPoint}
@@ -27,8 +30,9 @@ pub record Variable : Type 0 where
   pub name : List ℕ
   pub origin : Option Origin
 
--- a device: what its bay file says of the bay, its switches, its program, the rows of its tree, the values
--- of its variables in the order of their declarations, the moment of the last accepted event, and the last scan
+-- a device: what its bay file says of the bay, its switches, the names and the values of its inputs, the ids of its
+-- meters, its program, the rows of its tree, the values of its variables in the order of their declarations, the moment
+-- of the last accepted event, and the last scan: its moment, and whether what it read has changed since
 pub record State : Type 0 where
   pub domain : List ℕ
   pub vendor : List ℕ
@@ -36,6 +40,9 @@ pub record State : Type 0 where
   pub revision : List ℕ
   pub scan_max_age_ms : ℕ
   pub switches : List Switch
+  pub inputs : List (List ℕ)
+  pub input_values : List Bool
+  pub meters : List (List ℕ)
   pub declared : List Variable
   pub items : List Action
   pub rows : List Row
@@ -105,10 +112,11 @@ abbrev pub tells : StatusNames → Dbpos → List Row → Bool
 tells names position rows =
     is_position position (leaf_of names.value rows) && is_quality (position_quality position) (leaf_of names.quality rows)
 
--- the rows after a contact that changes the value or the quality of a position
+-- the rows after a contact that changes the value or the quality of a position, which the control repeats
 abbrev pub rows_after_change : SwitchNames → Dbpos → ℕ → List Row → List Row
 rows_after_change names position now rows =
-    let after = with_status names.position (leaf.Dbpos position) (position_quality position) now rows in
+    let told = with_status names.position (leaf.Dbpos position) (position_quality position) now rows in
+    let after = with_status names.control (leaf.Dbpos position) (position_quality position) now told in
     if is_operation position (leaf_of names.position.value rows) then operation_counted names.operations now after else after
 
 -- the rows after a contact: one that leaves value and quality as they are changes nothing
@@ -125,6 +133,40 @@ contact_taken now k switch position s =
       is_stale = s.is_stale || not (tells names.position position s.rows);
     }
 
+abbrev pub same_truth : Bool → Bool → Bool
+same_truth a b = if a then b else not b
+
+-- an input; one that changes makes the last scan stale
+abbrev pub input_taken : ℕ → ℕ → Bool → Bool → State → State
+input_taken now k value before s =
+    record s {
+      moment = now;
+      input_values = slice_set s.input_values k value;
+      is_stale = s.is_stale || not (same_truth value before);
+    }
+
+abbrev pub is_number : ℤ → Option Leaf → Bool
+is_number n (Some (leaf.Int32 m)) = int_eq n m
+is_number n other = false
+
+-- the rows tell this measured value already, with a good quality
+abbrev pub tells_measure : StatusNames → ℤ → List Row → Bool
+tells_measure names value rows = is_number value (leaf_of names.value rows) && is_quality Good (leaf_of names.quality rows)
+
+-- the rows after a measure: one that leaves value and quality as they are changes nothing
+abbrev pub rows_after_measure : StatusNames → ℤ → ℕ → List Row → List Row
+rows_after_measure names value now rows = if tells_measure names value rows then rows else with_status names (leaf.Int32 value) Good now rows
+
+-- a measured value of a meter; one that changes value or quality makes the last scan stale
+abbrev pub measure_taken : ℕ → ℕ → MeterField → ℤ → State → State
+measure_taken now k field value s =
+    let names = field_names field (meter_names k) in
+    record s {
+      moment = now;
+      rows = rows_after_measure names value now s.rows;
+      is_stale = s.is_stale || not (tells_measure names value s.rows);
+    }
+
 -- what the points that are read say of a position
 abbrev pub input_of : SwitchPoint → Option Leaf → Option Bool
 input_of Open position = Some (is_position Off position)
@@ -137,20 +179,22 @@ abbrev pub input_of_switch : List Switch → List Row → ℕ → SwitchPoint �
 input_of_switch switches rows k point None = None
 input_of_switch switches rows k point (Some switch) = input_of point (leaf_of (switch_names switches k switch).position.value rows)
 
--- the value that the contacts give a variable
-abbrev pub input_value : List Switch → List Row → Option Origin → Option Bool
-input_value switches rows None = None
-input_value switches rows (Some (origin.Switch k point)) = input_of_switch switches rows k point (slice_get switches k)
+-- the value that the contacts and the inputs give a variable; a measured value is no truth value
+abbrev pub input_value : List Switch → List Row → List Bool → Option Origin → Option Bool
+input_value switches rows inputs None = None
+input_value switches rows inputs (Some (origin.Switch k point)) = input_of_switch switches rows k point (slice_get switches k)
+input_value switches rows inputs (Some (origin.Input k)) = slice_get inputs k
+input_value switches rows inputs (Some (origin.Meter k field)) = None
 
 abbrev pub or_else : Option Bool → Value → Value
 or_else None v = v
 or_else (Some b) v = truth b
 
--- the points that are read take their values from the positions
-abbrev pub with_inputs : List Switch → List Row → List Variable → Variables → Variables
-with_inputs switches rows [] vs = vs
-with_inputs switches rows (d ∷ ds) [] = []
-with_inputs switches rows (d ∷ ds) (v ∷ vs) = (v.0, or_else (input_value switches rows d.origin) v.1) ∷ with_inputs switches rows ds vs
+-- the points that are read take their values from the positions and the inputs
+abbrev pub with_inputs : List Switch → List Row → List Bool → List Variable → Variables → Variables
+with_inputs switches rows inputs [] vs = vs
+with_inputs switches rows inputs (d ∷ ds) [] = []
+with_inputs switches rows inputs (d ∷ ds) (v ∷ vs) = (v.0, or_else (input_value switches rows inputs d.origin) v.1) ∷ with_inputs switches rows inputs ds vs
 
 abbrev pub same_point : SwitchPoint → SwitchPoint → Bool
 same_point Position Position = true
@@ -164,6 +208,8 @@ same_point p q = false
 abbrev pub is_point : ℕ → SwitchPoint → Option Origin → Bool
 is_point k point None = false
 is_point k point (Some (origin.Switch j which)) = j == k && same_point which point
+is_point k point (Some (origin.Input j)) = false
+is_point k point (Some (origin.Meter j field)) = false
 
 abbrev pub is_true : Value → Bool
 is_true (truth b) = b
@@ -194,7 +240,7 @@ with_outputs switches declared variables now k (s ∷ ss) rows =
 -- the points are read, the program runs once, and the interlocking values take their points' values
 abbrev pub scanned : ℕ → State → State
 scanned now s =
-    let variables = (mean s.items None (with_inputs s.switches s.rows s.declared s.variables)).variables in
+    let variables = (mean s.items None (with_inputs s.switches s.rows s.input_values s.declared s.variables)).variables in
     record s {
       rows = with_outputs s.switches s.declared variables now 0 s.switches s.rows;
       variables = variables;
@@ -220,9 +266,19 @@ abbrev pub contact_outcome : ℕ → ℕ → Dbpos → State → Option Switch �
 contact_outcome now k position s None = refused NoSuchPoint s
 contact_outcome now k position s (Some switch) = record { answer = Ok (record { scanned = false }); after = contact_taken now k switch position s }
 
+abbrev pub input_outcome : ℕ → ℕ → Bool → State → Option Bool → Outcome
+input_outcome now k value s None = refused NoSuchPoint s
+input_outcome now k value s (Some before) = record { answer = Ok (record { scanned = false }); after = input_taken now k value before s }
+
+abbrev pub measure_outcome : ℕ → ℕ → MeterField → ℤ → State → Option (List ℕ) → Outcome
+measure_outcome now k field value s None = refused NoSuchPoint s
+measure_outcome now k field value s (Some id) = record { answer = Ok (record { scanned = false }); after = measure_taken now k field value s }
+
 -- of an event that its moment does not refuse
 abbrev pub event_outcome : ℕ → Event → State → Outcome
 event_outcome now (Contact k position) s = contact_outcome now k position s (slice_get s.switches k)
+event_outcome now (Input k value) s = input_outcome now k value s (slice_get s.input_values k)
+event_outcome now (Measure k field value) s = measure_outcome now k field value s (slice_get s.meters k)
 event_outcome now Scan s = record { answer = Ok (record { scanned = true }); after = scanned now s }
 
 -- of an event at a moment, which is neither too large nor before the last event's

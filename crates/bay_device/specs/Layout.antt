@@ -1,13 +1,17 @@
--- Where the values of switches stand in a tree: the names and the kinds of the rows at their handles.
+-- Where the values of switches and meters stand in a tree: the names and the kinds of the rows at their handles.
 use Rattle.std.specs.Prelude.{◌≡◌, ℕ, List, [], map, Option, Some, None, All, slice_get, slice_index_or}
 use Rattle.bay_tree.specs.Rows.{names_of, kinds_of}
 use Rattle.bay_tree.specs.declared.row.Row.{Row}
 use Rattle.bay_tree.specs.declared.leaf.Kind.{Kind}
 use Rattle.bay_tree.specs.declared.leaf.Kind.TheVariants as kind
 use Rattle.bay_config.specs.declared.bay.Switch.{Switch}
-use Rattle.bay_device.specs.Names.{StatusNames, SwitchNames, switch_names}
+use Rattle.bay_device.specs.Names.{StatusNames, SwitchNames, switch_names, MeterNames, meter_names}
 use Rattle.bay_device.specs.Slots.{outputs_at}
 use Rattle.bay_config.specs.declared.bay.Origin.{Origin}
+use Rattle.bay_config.specs.declared.bay.MeterField.{MeterField}
+use Rattle.bay_config.specs.declared.bay.MeterField.TheVariants.{TotW, TotVAr, Hz, PhaseA, PhaseB, PhaseC}
+use Rattle.bay_device.specs.declared.meter.BoundMeter.{BoundMeter}
+use Rattle.bay_device.specs.declared.meter.MeterRows.{MeterRows}
 use Rattle.bay_device.specs.declared.rows.StatusRows.{StatusRows}
 use Rattle.bay_device.specs.declared.rows.SwitchRows.{SwitchRows}
 use Rattle.bay_device.specs.declared.switch.BoundSwitch.{BoundSwitch}
@@ -30,6 +34,7 @@ status_in layout rows = record { value = name_in layout rows.value; quality = na
 abbrev pub switch_in : Layout → SwitchRows → SwitchNames
 switch_in layout rows = record {
   position = status_in layout rows.position;
+  control = status_in layout rows.control;
   operations = status_in layout rows.operations;
   ena_opn = status_in layout rows.ena_opn;
   ena_cls = status_in layout rows.ena_cls;
@@ -45,9 +50,10 @@ pub record AreStatusRows (layout : Layout) (value : Kind) (rows : StatusRows) : 
   pub quality_kind : HasKind layout rows.quality kind.Quality
   pub time_kind : HasKind layout rows.time kind.Utc
 
--- a switch's position, how often it moved, and its two interlocking values
+-- a switch's position, twice, how often it moved, and its two interlocking values
 pub record AreSwitchRows (layout : Layout) (rows : SwitchRows) : Type 0 where
   pub position : AreStatusRows layout kind.Dbpos rows.position
+  pub control : AreStatusRows layout kind.Dbpos rows.control
   pub operations : AreStatusRows layout kind.Int32 rows.operations
   pub ena_opn : AreStatusRows layout kind.Truth rows.ena_opn
   pub ena_cls : AreStatusRows layout kind.Truth rows.ena_cls
@@ -68,3 +74,43 @@ pub record IsBound (layout : Layout) (slots : List (Option Origin)) (switches : 
 
 abbrev pub AreBound : Layout → List (Option Origin) → List BoundSwitch → Type 0
 AreBound layout slots bound = (k : ℕ) (b : BoundSwitch) → slice_get bound k ≡ Some b → IsBound layout slots (switches_of bound) k b
+
+abbrev pub meter_in : Layout → MeterRows → MeterNames
+meter_in layout rows = record {
+  tot_w = status_in layout rows.tot_w;
+  tot_var = status_in layout rows.tot_var;
+  hz = status_in layout rows.hz;
+  phase_a = status_in layout rows.phase_a;
+  phase_b = status_in layout rows.phase_b;
+  phase_c = status_in layout rows.phase_c;
+}
+
+-- where the value of a field stands
+abbrev pub field_rows : MeterRows → MeterField → StatusRows
+field_rows rows TotW = rows.tot_w
+field_rows rows TotVAr = rows.tot_var
+field_rows rows Hz = rows.hz
+field_rows rows PhaseA = rows.phase_a
+field_rows rows PhaseB = rows.phase_b
+field_rows rows PhaseC = rows.phase_c
+
+-- the measured values of a meter
+pub record AreMeterRows (layout : Layout) (rows : MeterRows) : Type 0 where
+  pub tot_w : AreStatusRows layout kind.Int32 rows.tot_w
+  pub tot_var : AreStatusRows layout kind.Int32 rows.tot_var
+  pub hz : AreStatusRows layout kind.Int32 rows.hz
+  pub phase_a : AreStatusRows layout kind.Int32 rows.phase_a
+  pub phase_b : AreStatusRows layout kind.Int32 rows.phase_b
+  pub phase_c : AreStatusRows layout kind.Int32 rows.phase_c
+
+-- the bay's meters, in their order
+abbrev pub meters_of : List BoundMeter → List (List ℕ)
+meters_of bound = map (λ m. m.id) bound
+
+-- the handles of the meter at a place have its names
+pub record IsMeterBound (layout : Layout) (k : ℕ) (rows : MeterRows) : Type 0 where
+  pub named : meter_in layout rows ≡ meter_names k
+  pub kinded : AreMeterRows layout rows
+
+abbrev pub AreMetersBound : Layout → List BoundMeter → Type 0
+AreMetersBound layout bound = (k : ℕ) (m : BoundMeter) → slice_get bound k ≡ Some m → IsMeterBound layout k m.rows

@@ -9,6 +9,13 @@ use Rattle.bay_device.specs.Names.{status_names, interlocking_of}
 abbrev pub switch_place : State → List ℕ → Option ℕ
 switch_place s id = position (λ switch. same_name switch.id id) s.switches
 
+-- the place of the input with a name, and of the meter with an id
+abbrev pub input_place : State → List ℕ → Option ℕ
+input_place s name = position (λ n. same_name n name) s.inputs
+
+abbrev pub meter_place : State → List ℕ → Option ℕ
+meter_place s id = position (λ m. same_name m id) s.meters
+
 -- an interlocking value of the switch at a place
 abbrev pub enabled : State → ℕ → List ℕ → Bool
 enabled s k object = is_truth true (leaf_of (status_names (interlocking_of k) object).value s.rows)

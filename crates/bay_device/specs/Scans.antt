@@ -14,16 +14,18 @@ abbrev pub switch_input : List Row → SwitchPoint → Option BoundSwitch → Op
 switch_input rows point None = None
 switch_input rows point (Some b) = input_of point (leaf_of (name_in (layout_of rows) b.rows.position.value) rows)
 
--- what the contacts give a slot
-abbrev pub slot_input : List Row → List BoundSwitch → Option Origin → Option Bool
-slot_input rows bound None = None
-slot_input rows bound (Some (origin.Switch k point)) = switch_input rows point (slice_get bound k)
+-- what the contacts and the inputs give a slot
+abbrev pub slot_input : List Row → List BoundSwitch → List Bool → Option Origin → Option Bool
+slot_input rows bound inputs None = None
+slot_input rows bound inputs (Some (origin.Switch k point)) = switch_input rows point (slice_get bound k)
+slot_input rows bound inputs (Some (origin.Input k)) = slice_get inputs k
+slot_input rows bound inputs (Some (origin.Meter k field)) = None
 
 -- the slots of points that are read take their values
-abbrev pub inputs_put : List Row → List BoundSwitch → List (Option Origin) → List Bool → List Bool
-inputs_put rows bound [] vs = vs
-inputs_put rows bound (slot ∷ slots) [] = []
-inputs_put rows bound (slot ∷ slots) (v ∷ vs) = unwrap_or (slot_input rows bound slot) v ∷ inputs_put rows bound slots vs
+abbrev pub inputs_put : List Row → List BoundSwitch → List Bool → List (Option Origin) → List Bool → List Bool
+inputs_put rows bound inputs [] vs = vs
+inputs_put rows bound inputs (slot ∷ slots) [] = []
+inputs_put rows bound inputs (slot ∷ slots) (v ∷ vs) = unwrap_or (slot_input rows bound inputs slot) v ∷ inputs_put rows bound inputs slots vs
 
 -- the interlocking values of the switches take their slots' values
 abbrev pub outputs_put : Layout → List BoundSwitch → List Bool → ℕ → List Row → List Row

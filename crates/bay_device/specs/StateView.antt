@@ -1,7 +1,7 @@
 -- The device that a state of the code stands for.
 use Rattle.bay_device.specs.Named.{items_named, names_of}
 use Rattle.bay_device.specs.Device.{State}
-use Rattle.bay_device.specs.Layout.{switches_of}
+use Rattle.bay_device.specs.Layout.{switches_of, meters_of}
 use Rattle.bay_device.specs.Slots.{declared_of, origins_of, variables_of}
 use Rattle.bay_device.specs.declared.state.DeviceState.{DeviceState}
 
@@ -13,6 +13,9 @@ state_view d = record {
   revision = d.revision;
   scan_max_age_ms = d.scan_max_age_ms;
   switches = switches_of d.switches;
+  inputs = d.inputs;
+  input_values = d.input_values;
+  meters = meters_of d.meters;
   declared = declared_of (names_of d.program.variables) (origins_of d.program.variables);
   items = items_named (names_of d.program.variables) d.program.instructions;
   rows = d.tree;

@@ -1,5 +1,5 @@
 // A checked program on the points of a bay's switches.
-ghost use Rattle.std.specs.Prelude.{◌≡◌, length, map, position, IfOk};
+ghost use Rattle.std.specs.Prelude.{◌≡◌, false, length, map, position, IfOk};
 ghost use Rattle.il_check.specs.ProgramViews.{checked_view};
 ghost use Rattle.bay_device.specs.Straight.{straight_of};
 ghost use Rattle.bay_device.specs.Bound.{IsProgram, bound_from};
@@ -13,6 +13,7 @@ use crate::straight::{Variable, all_variables};
 use crate::switch::BoundSwitch;
 use crate::values::Values;
 use bay_base::listing::Listing;
+use bay_base::text::Text;
 use bay_config::bay::{Origin, Switch, SwitchPoint};
 use il_check::program::{Parts, Typed};
 use std::alloc::{AllocError, Global};
@@ -34,7 +35,7 @@ fn is_point(slot: Option<Origin>, switch: usize, point: SwitchPoint) -> bool
                 point: which,
             },
         ) => at == switch && same_point(which, point),
-        None => false,
+        Some(Origin::Input { .. } | Origin::Meter { .. }) | None => false,
     }
 }
 
@@ -86,6 +87,17 @@ fn initial_values(alloc: Global, variables: &[Variable]) -> Result<Values, Alloc
     let mut values = Vec::new(alloc);
     for variable in variables {
         values.push(variable.initial)?;
+    }
+    Ok(Values::new(values))
+}
+
+/// The value FALSE for each input.
+pub fn falses(alloc: Global, inputs: &[Text]) -> Result<Values, AllocError>
+    ensures { IfOk result (λ values. values ≡ map (λ _. false) inputs.now) }
+{
+    let mut values = Vec::new(alloc);
+    for _input in inputs {
+        values.push(false)?;
     }
     Ok(Values::new(values))
 }

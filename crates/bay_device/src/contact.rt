@@ -51,7 +51,7 @@ fn tells(tree: &Tree, rows: StatusRows, position: Dbpos) -> bool
     is_same && has_same_quality
 }
 
-/// Writes a switch's new position, which is counted where it reaches an end.
+/// Writes a switch's new position, which its control repeats, and which is counted where it reaches an end.
 fn put_position(tree: &mut Tree, rows: SwitchRows, position: Dbpos, now: u64)
     requires { AreSwitchRows (layout_of tree.old) rows }
     ensures rows { tree.new ≡ rows_after_change (switch_in (layout_of tree.old) rows) position now tree.old }
@@ -59,6 +59,7 @@ fn put_position(tree: &mut Tree, rows: SwitchRows, position: Dbpos, now: u64)
 {
     let SwitchRows {
         position: status,
+        control,
         operations,
         ..
     } = rows;
@@ -66,6 +67,13 @@ fn put_position(tree: &mut Tree, rows: SwitchRows, position: Dbpos, now: u64)
     put_status(
         tree,
         status,
+        Leaf::Dbpos(position),
+        position_quality(position),
+        now,
+    );
+    put_status(
+        tree,
+        control,
         Leaf::Dbpos(position),
         position_quality(position),
         now,

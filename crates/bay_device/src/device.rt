@@ -1,7 +1,7 @@
 // The device that is handed out: one bay, stepped by events.
 ghost use Rattle.std.specs.Prelude.{◌≡◌, length, slice_get, option_map, IfOk, OnOk, OnErr};
 ghost use Rattle.bay_device.specs.Device.{outcome, outcomes};
-ghost use Rattle.bay_device.specs.LookUps.{switch_place, enabled_of};
+ghost use Rattle.bay_device.specs.LookUps.{switch_place, input_place, meter_place, enabled_of};
 ghost use Rattle.bay_device.specs.StateView.{state_view};
 
 use crate::event::{Event, Step};
@@ -11,7 +11,7 @@ use bay_tree::tree::Tree;
 use std::alloc::{AllocError, Global};
 use std::marker::Model;
 
-/// A device, which contracts see as its state: what the bay file says, the rows of its tree, its program with
+/// A device, which contracts see as its state: what the bay file says, the rows of its tree, the values of its inputs, its program with
 /// the values of the variables, and the moments of the last event and the last scan.
 #[derive(Drop)]
 pub struct Device {
@@ -77,6 +77,34 @@ impl Device {
         ensures { result ≡ switch_place self.now id.now }
     {
         self.state.switch(id)
+    }
+
+    /// How many inputs the bay has.
+    pub fn input_count(&self) -> usize
+        ensures { result ≡ length self.now.input_values }
+    {
+        self.state.input_values.count()
+    }
+
+    /// The place of the input with this name, whatever the case of its letters.
+    pub fn input(&self, name: &str) -> Option<usize>
+        ensures { result ≡ input_place self.now name.now }
+    {
+        self.state.input_place(name)
+    }
+
+    /// How many meters the bay has.
+    pub fn meter_count(&self) -> usize
+        ensures { result ≡ length self.now.meters }
+    {
+        self.state.meters.as_slice().len()
+    }
+
+    /// The place of the meter with this id, whatever the case of its letters.
+    pub fn meter(&self, id: &str) -> Option<usize>
+        ensures { result ≡ meter_place self.now id.now }
+    {
+        self.state.meter_place(id)
     }
 
     /// The id of the switch at a place, as the bay file spells it.

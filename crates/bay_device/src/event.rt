@@ -1,4 +1,5 @@
 // What happens to a device, and what is answered.
+use bay_config::bay::MeterField;
 use bay_tree::leaf::Dbpos;
 
 /// The last moment that an event may have, in milliseconds since 1970: the end of the last second that
@@ -9,7 +10,21 @@ pub const LAST_MOMENT: u64 = 4_294_967_295_999;
 #[derive(Clone, Copy, Debug, PartialEq, Eq)]
 pub enum Event {
     /// The contacts of the switch at this place, counted from 0, report a position.
-    Contact { switch: usize, position: Dbpos },
+    Contact {
+        switch: usize,
+        position: Dbpos,
+    },
+    /// The input at this place, counted from 0, has a value.
+    Input {
+        input: usize,
+        value: bool,
+    },
+    /// A field of the meter at this place, counted from 0, has a value, in whole units.
+    Measure {
+        meter: usize,
+        field: MeterField,
+        value: i32,
+    },
     /// The program runs once.
     Scan,
 }

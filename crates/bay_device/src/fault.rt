@@ -85,8 +85,8 @@ pub enum StepFault {
     /// The moment is before the last event's.
     #[error("the moment is before the last event's")]
     TimeWentBack,
-    /// There is no such switch.
-    #[error("there is no such switch")]
+    /// There is no such switch, input or meter.
+    #[error("there is no such switch, input or meter")]
     NoSuchPoint,
 }
 

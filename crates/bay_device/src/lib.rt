@@ -6,8 +6,9 @@
 //
 // Within: `straight` is the part of the language that runs as yet (its slots are numbered by `counts`), and `outside`
 // finds what is not of it. `bind` puts a checked program on its slots (`program`, with their `values`) and gives each
-// `switch` of the bay its `rows`, which `nodes` finds by their names. `state` is all that a step works on, and can
-// take no memory: `step` does an event, by `contact` or by `scan`, and `look_ups` answers what is asked.
+// `switch` and `meter` of the bay its `rows`, which `nodes` and `meters` find by their names. `state` is all that a step
+// works on, and can take no memory: `step` does an event, by `contact`, `meter` or `scan`, and `look_ups` answers what
+// is asked.
 #![tactic(auto)]
 
 mod bind;
@@ -18,6 +19,8 @@ pub mod event;
 pub mod fault;
 pub mod load;
 mod look_ups;
+mod meter;
+mod meters;
 mod nodes;
 mod outside;
 mod program;

@@ -12,9 +12,10 @@ ghost use Rattle.il_text.specs.declared.fault.TextFault.TheVariants as text_faul
 ghost use Rattle.bay_device.specs.StateView.{state_view};
 ghost use Rattle.bay_device.specs.Load.{initial_device, of_checked, of_program, of_bay};
 
-use crate::bind::{bind_program, bind_switches};
+use crate::bind::{bind_program, bind_switches, falses};
 use crate::device::Device;
 use crate::fault::LoadFault;
+use crate::meters::{all_meter_nodes, bind_meters};
 use crate::nodes::{all_nodes, all_switch_rows};
 use crate::outside::first_outside;
 use crate::state::DeviceState;
@@ -35,6 +36,7 @@ fn state_of(alloc: Global, bay: Bay, typed: Typed) -> Result<DeviceState, AllocE
     ensures { IfOk result (λ state. state_view state ≡ initial_device bay (straight_of (checked_view typed))) }
 {
     let nodes = all_nodes(alloc, &bay)?;
+    let meter_nodes = all_meter_nodes(alloc, &bay)?;
     let (program, values) = bind_program(alloc, typed)?;
     let Bay {
         domain,
@@ -44,6 +46,8 @@ fn state_of(alloc: Global, bay: Bay, typed: Typed) -> Result<DeviceState, AllocE
         scan_max_age_ms,
         rows,
         switches,
+        inputs,
+        meters,
         ..
     } = bay;
     let tree = Tree::build(alloc, rows.into_vec())?;
@@ -54,6 +58,8 @@ fn state_of(alloc: Global, bay: Bay, typed: Typed) -> Result<DeviceState, AllocE
         rows.as_slice(),
         program.variables.as_slice(),
     )?;
+    let meters = bind_meters(alloc, &tree, meters.as_slice(), meter_nodes.as_slice())?;
+    let input_values = falses(alloc, inputs.as_slice())?;
     Ok(DeviceState {
         domain,
         vendor,
@@ -62,6 +68,9 @@ fn state_of(alloc: Global, bay: Bay, typed: Typed) -> Result<DeviceState, AllocE
         scan_max_age_ms,
         tree,
         switches: Listing::new(switches),
+        inputs,
+        input_values,
+        meters: Listing::new(meters),
         program,
         values,
         moment: 0,

@@ -8,7 +8,7 @@ ghost use Rattle.bay_device.specs.Nodes.{AreNodesOf, AreAllNodes, nodes_names, H
 use crate::rows::{StatusRows, SwitchRows};
 use bay_base::text::Text;
 use bay_config::bay::Bay;
-use bay_config::nodes::{interlocking_name, node_name};
+use bay_config::nodes::{control_name, interlocking_name, node_name};
 use bay_tree::tree::{Handle, Tree};
 use std::alloc::{AllocError, Global};
 
@@ -17,6 +17,8 @@ use std::alloc::{AllocError, Global};
 pub struct Nodes {
     /// XCBR or XSWI.
     pub position: Text,
+    /// CSWI.
+    pub control: Text,
     /// CILO.
     pub interlocking: Text,
 }
@@ -27,9 +29,11 @@ fn nodes_at(alloc: Global, bay: &Bay, place: usize) -> Result<Nodes, AllocError>
     ensures { IfOk result (AreNodesOf bay.now place) }
 {
     let position = node_name(alloc, bay, place)?;
+    let control = control_name(alloc, bay, place)?;
     let interlocking = interlocking_name(alloc, bay, place)?;
     Ok(Nodes {
         position,
+        control,
         interlocking,
     })
 }
@@ -48,7 +52,7 @@ pub fn all_nodes(alloc: Global, bay: &Bay) -> Result<Vec<Nodes>, AllocError>
 }
 
 /// The handle of the row with this name, which has a value.
-fn handle_of(tree: &Tree, name: &str) -> Handle
+pub fn handle_of(tree: &Tree, name: &str) -> Handle
     requires { leaf_of name.now tree.now ≢ None }
     ensures { IsFound tree.now name.now result }
 {
@@ -81,19 +85,22 @@ fn status_rows(
     })
 }
 
-/// The rows of a switch: those of its node and of its interlocking.
+/// The rows of a switch: those of its node, of its control and of its interlocking.
 fn switch_rows(alloc: Global, tree: &Tree, nodes: &Nodes) -> Result<SwitchRows, AllocError>
     requires { HasSwitch tree.now (nodes_names nodes.now) }
     ensures { IfOk result (AreRowsOf (layout_of tree.now) (nodes_names nodes.now)) }
 {
     let node = nodes.position.as_str();
+    let control = nodes.control.as_str();
     let interlocking = nodes.interlocking.as_str();
     let position = status_rows(alloc, tree, node, "$ST$Pos")?;
+    let repeated = status_rows(alloc, tree, control, "$ST$Pos")?;
     let operations = status_rows(alloc, tree, node, "$ST$OpCnt")?;
     let ena_opn = status_rows(alloc, tree, interlocking, "$ST$EnaOpn")?;
     let ena_cls = status_rows(alloc, tree, interlocking, "$ST$EnaCls")?;
     Ok(SwitchRows {
         position,
+        control: repeated,
         operations,
         ena_opn,
         ena_cls,

@@ -23,6 +23,8 @@ pub struct StatusRows {
 pub struct SwitchRows {
     /// Its position: `Pos` of its XCBR or XSWI.
     pub position: StatusRows,
+    /// Its position as its control repeats it: `Pos` of its CSWI.
+    pub control: StatusRows,
     /// How often it reached an end position: `OpCnt`.
     pub operations: StatusRows,
     /// Whether it may be opened: `EnaOpn` of its CILO.
@@ -96,7 +98,7 @@ fn truth_at(tree: &Tree, handle: Handle) -> bool
     }
 }
 
-/// The count that stands there.
+/// The number that stands there.
 pub fn count_at(tree: &Tree, handle: Handle) -> i32
     requires { HasKind (layout_of tree.now) handle kind.Int32 }
     ensures { leaf_of (name_in (layout_of tree.now) handle) tree.now ≡ Some (leaves.Int32 result) }

@@ -44,29 +44,41 @@ fn point_input(tree: &Tree, rows: StatusRows, point: SwitchPoint) -> Option<bool
     }
 }
 
-/// The value of a slot that the contacts of a switch give.
-fn slot_input(tree: &Tree, switches: &[BoundSwitch], slot: Option<Origin>) -> Option<bool>
+/// The value of a slot that the contacts of a switch or an input give.
+fn slot_input(
+    tree: &Tree,
+    switches: &[BoundSwitch],
+    inputs: &Values,
+    slot: Option<Origin>,
+) -> Option<bool>
     requires { AreKinded (layout_of tree.now) switches.now }
-    ensures { result ≡ slot_input tree.now switches.now slot }
+    ensures { result ≡ slot_input tree.now switches.now inputs.now slot }
 {
     match slot {
         Some(Origin::Switch { switch, point }) => match switches.get(switch) {
             Some(bound) => point_input(tree, bound.rows.position, point),
             None => None,
         },
-        None => None,
+        Some(Origin::Input { input }) => inputs.get(input),
+        Some(Origin::Meter { .. }) | None => None,
     }
 }
 
-/// Gives the slots of read-only points the values of the contacts.
-fn read_inputs(tree: &Tree, switches: &[BoundSwitch], variables: &[Variable], values: &mut Values)
+/// Gives the slots of read-only points the values of the contacts and the inputs.
+fn read_inputs(
+    tree: &Tree,
+    switches: &[BoundSwitch],
+    inputs: &Values,
+    variables: &[Variable],
+    values: &mut Values,
+)
     requires kinds { AreKinded (layout_of tree.now) switches.now }
     requires sized { length variables.now ≡ length values.old }
     ensures sized { length values.new ≡ length values.old }
-    ensures read { values.new ≡ inputs_put tree.now switches.now (origins_of variables.now) values.old }
+    ensures read { values.new ≡ inputs_put tree.now switches.now inputs.now (origins_of variables.now) values.old }
 {
     for i in 0..variables.len() {
-        match slot_input(tree, switches, variables[i].origin) {
+        match slot_input(tree, switches, inputs, variables[i].origin) {
             Some(value) => values.set(i, value),
             None => {}
         }
@@ -77,6 +89,7 @@ fn read_inputs(tree: &Tree, switches: &[BoundSwitch], variables: &[Variable], va
 pub fn run_on_inputs(
     tree: &Tree,
     switches: &[BoundSwitch],
+    inputs: &Values,
     program: &BoundProgram,
     values: &mut Values,
 )
@@ -87,9 +100,10 @@ pub fn run_on_inputs(
     ensures meant { (names : List (List ℕ)) → AreApart names → length names ≡ length values.old →
         variables_of names values.new
         ≡ (mean (items_named names program.now.instructions) None
-        (variables_of names (inputs_put tree.now switches.now (origins_of program.now.variables) values.old))).variables }
+        (variables_of names (inputs_put tree.now switches.now inputs.now (origins_of program.now.variables) values.old))).variables }
 {
-    read_inputs(tree, switches, program.variables.as_slice(), values);
+    let variables = program.variables.as_slice();
+    read_inputs(tree, switches, inputs, variables, values);
     run_instructions(program.instructions.as_slice(), values);
 }
 

@@ -1,14 +1,17 @@
 // What an event does to a device's state.
 ghost use Rattle.std.specs.Prelude.{◌≡◌};
 ghost use Rattle.bay_device.specs.Device.{event_outcome, scanned, outcome};
-ghost use Rattle.bay_device.specs.declared.event.Event.TheVariants.{Contact};
+ghost use Rattle.bay_device.specs.declared.event.Event.TheVariants.{Contact, Input, Measure};
 ghost use Rattle.bay_device.specs.StateView.{state_view};
 
 use crate::contact::take_position;
 use crate::event::{Event, LAST_MOMENT, Step};
 use crate::fault::StepFault;
+use crate::meter::take_measure;
 use crate::scan::{run_on_inputs, write_outputs};
 use crate::state::DeviceState;
+use crate::values::same_truth;
+use bay_config::bay::MeterField;
 use bay_tree::leaf::Dbpos;
 
 impl DeviceState {
@@ -27,13 +30,51 @@ impl DeviceState {
         Ok(Step { scanned: false })
     }
 
-    /// Runs the program once on the positions as they stand.
+    /// Takes the value of the input at a place.
+    fn input(&mut self, now: u64, input: usize, value: bool) -> Result<Step, StepFault>
+        ensures answer { result ≡ (event_outcome now (Input input value) (state_view self.old)).answer }
+        ensures after { state_view self.new ≡ (event_outcome now (Input input value) (state_view self.old)).after }
+    {
+        let before = match self.input_values.get(input) {
+            Some(before) => before,
+            None => return Err(StepFault::NoSuchPoint),
+        };
+        let changed = !same_truth(value, before);
+        self.input_values.set(input, value);
+        self.is_stale |= changed;
+        self.moment = now;
+        Ok(Step { scanned: false })
+    }
+
+    /// Takes a measured value of the meter at a place.
+    fn measure(
+        &mut self,
+        now: u64,
+        meter: usize,
+        field: MeterField,
+        value: i32,
+    ) -> Result<Step, StepFault>
+        ensures answer { result ≡ (event_outcome now (Measure meter field value) (state_view self.old)).answer }
+        ensures after { state_view self.new ≡ (event_outcome now (Measure meter field value) (state_view self.old)).after }
+    {
+        let rows = match self.meters.as_slice().get(meter) {
+            Some(bound) => bound.rows.field(field),
+            None => return Err(StepFault::NoSuchPoint),
+        };
+        let changed = take_measure(&mut self.tree, rows, value, now);
+        self.is_stale |= changed;
+        self.moment = now;
+        Ok(Step { scanned: false })
+    }
+
+    /// Runs the program once on the positions and the inputs as they stand.
     fn scan(&mut self, now: u64)
         ensures { state_view self.new ≡ scanned now (state_view self.old) }
     {
         run_on_inputs(
             &self.tree,
             self.switches.as_slice(),
+            &self.input_values,
             &self.program,
             &mut self.values,
         );
@@ -56,6 +97,12 @@ impl DeviceState {
         }
         match event {
             Event::Contact { switch, position } => self.contact(now, switch, position),
+            Event::Input { input, value } => self.input(now, input, value),
+            Event::Measure {
+                meter,
+                field,
+                value,
+            } => self.measure(now, meter, field, value),
             Event::Scan => {
                 self.scan(now);
                 Ok(Step { scanned: true })

@@ -1,5 +1,6 @@
-// The values of a program's slots.
+// The values of a program's slots, and of inputs.
 ghost use Rattle.std.specs.Prelude.{◌≡◌, ◌<◌, length, slice_get, slice_set, Some};
+ghost use Rattle.bay_device.specs.Device.{same_truth};
 
 use std::marker::Model;
 
@@ -25,6 +26,13 @@ impl Values {
         Values { values }
     }
 
+    /// How many there are.
+    pub fn count(&self) -> usize
+        ensures { result ≡ length self.now }
+    {
+        self.values.len()
+    }
+
     /// The value of a slot, if there is one.
     pub fn get(&self, slot: usize) -> Option<bool>
         ensures { result ≡ slice_get self.now slot }
@@ -47,4 +55,11 @@ impl Values {
     {
         self.values[slot] = value;
     }
+}
+
+/// Whether two truth values are one.
+pub fn same_truth(first: bool, second: bool) -> bool
+    ensures { result ≡ same_truth first second }
+{
+    first == second
 }

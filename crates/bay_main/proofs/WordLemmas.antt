@@ -10,7 +10,7 @@ use Rattle.std.specs.Str.Parse.{digits_value}
 use Rattle.std.specs.Str.{bytes_eq, is_utf8, IsUtf8}
 use Rattle.std.proofs.lemmas.Str.{IsUtf8-from_is_utf8, is_utf8-from_IsUtf8}
 use Rattle.std.proofs.Common.{codes}
-use Rattle.bay_main.specs.Trace.{is_space, read_number, contact_of, event_of, words_line, trace_line_of}
+use Rattle.bay_main.specs.Trace.{is_space, read_number, contact_of, input_of, told_of, event_of, words_line, trace_line_of}
 
 not_space : (b : ℕ) → b ≢ 32 → is_space b ≡ false
 not_space b h = grind (arith, nat_tests)
@@ -55,11 +55,18 @@ some_word (b ∷ bs) = some_first b (slice_split is_space bs) (is_space b)
 pub contact_of-more : (id position bs : List ℕ) (m : ℕ) → contact_of (id ∷ position ∷ slice_split is_space bs) m ≡ None
 contact_of-more id position bs m = let h = some_word bs in ap (λ ws. contact_of (id ∷ position ∷ ws) m) h.2
 
-pub event_of-more : (word bs : List ℕ) (m : ℕ)
-    → event_of word (slice_split is_space bs) m ≡ cond (bytes_eq word (codes "contact")) (contact_of (slice_split is_space bs) m) None
+pub event_of-more : (word bs : List ℕ) (m : ℕ) → event_of word (slice_split is_space bs) m ≡ told_of word (slice_split is_space bs) m
 event_of-more word bs m =
     let h = some_word bs in
-    ap (λ ws. event_of word ws m) h.2 ∙ ap (λ ws. cond (bytes_eq word (codes "contact")) (contact_of ws m) None) (sym h.2)
+    ap (λ ws. event_of word ws m) h.2 ∙ ap (λ ws. told_of word ws m) (sym h.2)
+
+-- more words than a name and a value
+input_of-more : (name value bs : List ℕ) (m : ℕ) → input_of (name ∷ value ∷ slice_split is_space bs) m ≡ None
+input_of-more name value bs m = let h = some_word bs in ap (λ ws. input_of (name ∷ value ∷ ws) m) h.2
+
+pub input_of-extra : (text name next digit more : List ℕ) (m : ℕ) → slice_split is_space text ≡ name ∷ slice_split is_space next → slice_split is_space next ≡ digit ∷ slice_split is_space more
+    → input_of (slice_split is_space text) m ≡ None
+input_of-extra text name next digit more m e f = ap (λ ws. input_of ws m) (e ∙ ap (λ ws. name ∷ ws) f) ∙ input_of-more name digit more m
 
 pub is_utf8_false : (bs : List ℕ) → ¬ (IsUtf8 bs) → is_utf8 bs ≡ false
 is_utf8_false bs bad = by_test (is_utf8 bs) refl

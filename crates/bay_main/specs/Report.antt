@@ -5,15 +5,15 @@ use Rattle.std.specs.Io.KnownBytes.{Appends}
 use Rattle.bay_config.specs.declared.bay.Switch.{Switch}
 use Rattle.bay_device.specs.Code.{step_code_of}
 use Rattle.bay_device.specs.Device.{State, outcome}
-use Rattle.bay_device.specs.LookUps.{switch_place, may_open, may_close}
+use Rattle.bay_device.specs.LookUps.{switch_place, input_place, may_open, may_close}
 use Rattle.bay_main.specs.Load.{load_of}
 use Rattle.bay_main.specs.Scenario.{ScenarioParts, scenario_of, lines_of}
 use Rattle.bay_io.specs.Sent.{SendsPart}
 use Rattle.bay_io.specs.Watched.{Writing}
 use Rattle.bay_io.specs.declared.outbox.WriteFault.{WriteFault}
-use Rattle.bay_main.specs.Trace.{LineData, blank, contact, scan, trace_line_of}
+use Rattle.bay_main.specs.Trace.{LineData, blank, contact, input_told, scan, trace_line_of}
 use Rattle.bay_device.specs.declared.event.Event.{Event}
-use Rattle.bay_device.specs.declared.event.Event.TheVariants.{Contact, Scan}
+use Rattle.bay_device.specs.declared.event.Event.TheVariants.{Contact, Input, Scan}
 use Rattle.bay_device.specs.declared.event.Step.{Step}
 use Rattle.bay_device.specs.declared.fault.LoadFault.{LoadFault}
 use Rattle.bay_device.specs.declared.fault.LoadFault.TheVariants.{Refused, OutOfMemory}
@@ -77,6 +77,10 @@ event_answer now event s =
 abbrev pub event_place : State → List ℕ → ℕ
 event_place s id = unwrap_or (switch_place s id) (length s.switches)
 
+-- the place of the input with a name, or a place at which there is none
+abbrev pub event_input : State → List ℕ → ℕ
+event_input s name = unwrap_or (input_place s name) (length s.input_values)
+
 abbrev pub unreadable_text : ℕ → List ℕ
 unreadable_text k = codes "fault 120 line " ++ (decimal k ++ codes "\n")
 
@@ -85,6 +89,7 @@ abbrev pub line_answer : ℕ → Option LineData → State → LineAnswer
 line_answer k None s = record { text = unreadable_text k; is_last = true; after = s }
 line_answer k (Some blank) s = record { text = []; is_last = false; after = s }
 line_answer k (Some (contact moment id position)) s = event_answer moment (Contact (event_place s id) position) s
+line_answer k (Some (input_told moment name value)) s = event_answer moment (Input (event_input s name) value) s
 line_answer k (Some (scan moment)) s = event_answer moment Scan s
 
 abbrev pub ran_out : List ℕ → ℕ → Type 0

@@ -2,9 +2,9 @@
 ghost use Rattle.std.specs.Prelude.{◌≡◌, ◌<◌, ◌++◌, ◌∷◌, codes, length, position, unwrap_or, slice_get, IfOk, OnOk, string_bytes, option_map, true, false};
 ghost use Rattle.std.specs.Fmt.{decimal};
 ghost use Rattle.bay_device.specs.Device.{outcome};
-ghost use Rattle.bay_main.specs.Report.{numbered_refusal, refusal_of, digit_of, switch_text, switch_part, switches_text, scan_text, refused_text, step_text, event_place, unreadable_text, line_answer};
+ghost use Rattle.bay_main.specs.Report.{numbered_refusal, refusal_of, digit_of, switch_text, switch_part, switches_text, scan_text, refused_text, step_text, event_place, event_input, unreadable_text, line_answer};
 ghost use Rattle.bay_main.specs.Trace.{trace_line_of};
-ghost use Rattle.bay_device.specs.declared.event.Event.TheVariants.{Contact};
+ghost use Rattle.bay_device.specs.declared.event.Event.TheVariants.{Contact, Input};
 ghost use Rattle.bay_main.specs.TraceView.{line_view};
 
 use crate::trace::{TraceLine, read_trace_line};
@@ -158,6 +158,14 @@ fn contact_event(device: &Device, id: &str, position: Dbpos) -> Event
     Event::Contact { switch, position }
 }
 
+/// The event of an input's line; an input that isn't there is told apart by its place.
+fn input_event(device: &Device, name: &str, value: bool) -> Event
+    ensures { result ≡ Input (event_input device.now name.now) value }
+{
+    let input = device.input(name).unwrap_or(device.input_count());
+    Event::Input { input, value }
+}
+
 /// The answer to an event's line, which is never the last.
 fn event_answer(
     alloc: Global,
@@ -213,6 +221,16 @@ fn answer_to(
             },
         ) => {
             let event = contact_event(device, id, position);
+            event_answer(alloc, device, moment, event)
+        }
+        Some(
+            TraceLine::Input {
+                moment,
+                name,
+                value,
+            },
+        ) => {
+            let event = input_event(device, name, value);
             event_answer(alloc, device, moment, event)
         }
         Some(TraceLine::Scan { moment }) => event_answer(alloc, device, moment, Event::Scan),

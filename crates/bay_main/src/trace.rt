@@ -2,7 +2,7 @@
 ghost use Rattle.std.specs.Prelude.{◌≡◌, ◌∷◌, ℕ, option_map};
 ghost use Rattle.std.specs.List.{slice_split};
 ghost use Rattle.std.specs.Str.{all_ascii_digits};
-ghost use Rattle.bay_main.specs.Trace.{is_space, rest_words, read_number, position_of, contact_at, contact_of, event_of, words_line, trace_line_of};
+ghost use Rattle.bay_main.specs.Trace.{is_space, rest_words, read_number, position_of, contact_at, contact_of, truth_of, input_at, input_of, told_of, event_of, words_line, trace_line_of};
 ghost use Rattle.bay_main.specs.TraceView.{line_view};
 
 use bay_tree::leaf::Dbpos;
@@ -17,6 +17,12 @@ pub enum TraceLine<'a> {
         moment: u64,
         id: &'a str,
         position: Dbpos,
+    },
+    /// At this moment the input with this name has this value.
+    Input {
+        moment: u64,
+        name: &'a str,
+        value: bool,
     },
     /// At this moment the program runs once.
     Scan {
@@ -93,6 +99,57 @@ fn contact_line(moment: u64, rest: &str) -> Option<TraceLine<'_>>
     }
 }
 
+/// The truth value that a digit stands for.
+fn truth(word: &str) -> Option<bool>
+    ensures { result ≡ truth_of word.now }
+{
+    match word.as_bytes() {
+        [b'0'] => Some(false),
+        [b'1'] => Some(true),
+        _ => None,
+    }
+}
+
+/// An input's name, which is not empty, and the digit of its value.
+fn input<'a>(moment: u64, name: &'a str, digit: &str) -> Option<TraceLine<'a>>
+    ensures { option_map line_view result ≡ input_at name.entry.now digit.now moment }
+{
+    if name.is_empty() {
+        return None;
+    }
+    let value = truth(digit)?;
+    Some(TraceLine::Input {
+        moment,
+        name,
+        value,
+    })
+}
+
+/// An input's name and its value.
+fn input_line(moment: u64, rest: &str) -> Option<TraceLine<'_>>
+    ensures { option_map line_view result ≡ input_of (slice_split is_space rest.now) moment }
+{
+    let (name, rest) = cut_word(rest);
+    let (digit, more) = cut_word(rest?);
+    match more {
+        None => input(moment, name, digit),
+        Some(_) => None,
+    }
+}
+
+/// What happens at the moment, by a word that has others behind it.
+fn told_line<'a>(moment: u64, word: &str, rest: &'a str) -> Option<TraceLine<'a>>
+    ensures { option_map line_view result ≡ told_of word.now (slice_split is_space rest.entry.now) moment }
+{
+    if word == "contact" {
+        return contact_line(moment, rest);
+    }
+    if word == "input" {
+        return input_line(moment, rest);
+    }
+    None
+}
+
 /// What happens at the moment: a word, and what follows it.
 fn event_line<'a>(moment: u64, word: &str, rest: Option<&'a str>) -> Option<TraceLine<'a>>
     ensures { option_map line_view result ≡ event_of word.now (rest_words (option_map (λ r. r.now) rest.entry)) moment }
@@ -105,13 +162,7 @@ fn event_line<'a>(moment: u64, word: &str, rest: Option<&'a str>) -> Option<Trac
                 None
             }
         }
-        Some(rest) => {
-            if word == "contact" {
-                contact_line(moment, rest)
-            } else {
-                None
-            }
-        }
+        Some(rest) => told_line(moment, word, rest),
     }
 }
 

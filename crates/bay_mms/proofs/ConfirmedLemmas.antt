@@ -10,13 +10,13 @@ use Rattle.bay_ber.proofs.ListingLemmas.{values_again}
 use Rattle.bay_ber.proofs.ReadLemmas.{tlv_again}
 use Rattle.bay_mms.specs.Tags.{constructed, int_tag}
 use Rattle.bay_mms.specs.Grammar.{id_as, with_id, service_as, message_as, id_in, answer_to}
-use Rattle.bay_mms.specs.Laws.{IsConfirmed}
+use Rattle.bay_mms.specs.Asks.{IsConfirmed}
 
-id_read : (number : List ℕ) (id : ℕ) → IsInteger number (pos id) → id < 2 ^ 32 → id_as (record { tag = int_tag; content = number }) ≡ Some id
+pub id_read : (number : List ℕ) (id : ℕ) → IsInteger number (pos id) → id < 2 ^ 32 → id_as (record { tag = int_tag; content = number }) ≡ Some id
 unfolding id_as
 id_read number id is below = rw (integer_again number (pos id) is, lt-ltb id 4294967296 (omega arith)) refl
 
-known : (octets content number rest behind : List ℕ) (id : ℕ) → tlv_at octets ≡ Ok (record { tag = constructed 0; content = content; rest = rest }) → tlv_at content ≡ Ok (record { tag = int_tag; content = number; rest = behind }) → id_as (record { tag = int_tag; content = number }) ≡ Some id → id_in octets ≡ Some id
+pub known : (octets content number rest behind : List ℕ) (id : ℕ) → tlv_at octets ≡ Ok (record { tag = constructed 0; content = content; rest = rest }) → tlv_at content ≡ Ok (record { tag = int_tag; content = number; rest = behind }) → id_as (record { tag = int_tag; content = number }) ≡ Some id → id_in octets ≡ Some id
 unfolding id_in
 known octets content number rest behind id first second n = rw (first, second) n
 

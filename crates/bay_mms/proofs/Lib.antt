@@ -1,8 +1,13 @@
+pub mod AccessLemmas
 pub mod AgreedLemmas
+pub mod AskLemmas
 pub mod ConfirmedLemmas
 pub mod DataLemmas
+pub mod InitiateLemmas
 pub mod LawLemmas
 pub mod NodeLemmas
 pub mod PutLemmas
+pub mod ReceivedLemmas
 pub mod RequestLemmas
 pub mod ResponseLemmas
+pub mod ServiceLemmas

@@ -72,14 +72,14 @@ gives_stop e one all (inr is) stop = let p = spelled_err one e is in inr (rw (st
 
 -- ---- data
 
-datum_is : (depth : ℕ) (part : Part) → datum_as (suc depth) part ≡ cond (same_tag part.tag (constructed 2)) (each_in (datum_as depth) part.content >>= (λ ds. Some (mms.structure (data_before ds mms.no_data)))) (simple_as part)
+pub datum_is : (depth : ℕ) (part : Part) → datum_as (suc depth) part ≡ cond (same_tag part.tag (constructed 2)) (each_in (datum_as depth) part.content >>= (λ ds. Some (mms.structure (data_before ds mms.no_data)))) (simple_as part)
 unfolding datum_as
 datum_is depth part = refl
 
 before : (depth : ℕ) → 0 < depth → depth ≡ suc (depth - 1)
 before depth some = omega arith
 
-structure_is : (depth : ℕ) (part : Part) → 0 < depth → same_tag part.tag (constructed 2) ≡ true → datum_as depth part ≡ (each_in (datum_as (depth - 1)) part.content >>= (λ ds. Some (mms.structure (data_before ds mms.no_data))))
+pub structure_is : (depth : ℕ) (part : Part) → 0 < depth → same_tag part.tag (constructed 2) ≡ true → datum_as depth part ≡ (each_in (datum_as (depth - 1)) part.content >>= (λ ds. Some (mms.structure (data_before ds mms.no_data))))
 structure_is depth part some is = ap (λ (n : ℕ). datum_as n part) (before depth some) ∙ datum_is (depth - 1) part ∙ rw is refl
 
 pub simple_is : (depth : ℕ) (part : Part) → 0 < depth → same_tag part.tag (constructed 2) ≡ false → datum_as depth part ≡ simple_as part

@@ -1,13 +1,11 @@
 -- What stands in texts.
-use Rattle.std.specs.Prelude.{ℕ, pos, ◌<◌, ◌^◌, List, [], ◌∷◌}
+use Rattle.std.specs.Prelude.{ℕ, List}
 use Rattle.bay_ber.specs.declared.tag.Tag.{Tag}
 use Rattle.bay_ber.specs.Spelling.{Spells}
-use Rattle.bay_ber.specs.Content.{IsInteger}
-use Rattle.bay_ber.specs.Values.{Part, SpellAll}
 use Rattle.bay_ber.specs.Writing.{truth_octets, integer_octets, bit_string_octets}
 use Rattle.bay_mms.specs.declared.response.Response.{Response}
 use Rattle.bay_mms.specs.declared.response.Response.TheVariants as response
-use Rattle.bay_mms.specs.Tags.{context, constructed, int_tag}
+use Rattle.bay_mms.specs.Tags.{context, constructed}
 use Rattle.bay_mms.specs.Data.{Datum, structure, truth, bits, integer, unsigned, octets, text, utc, other, data_text}
 
 -- the tag of data (ISO 9506-2, Data), and what stands under it
@@ -45,13 +43,3 @@ response_tag (response.Reject id reason) = constructed 4
 pub record IsRead (list : List ℕ) (tag : Tag) : Type 0 where
   pub content : List ℕ
   pub spelled : Spells list tag content
-
--- The octets are one value under A0, whose content is an invoke id of 32 bits and a service, and nothing else (ISO 9506-2,
--- confirmed-RequestPDU).
-pub record IsConfirmed (octets : List ℕ) (id : ℕ) (service : Part) : Type 0 where
-  pub content : List ℕ
-  pub number : List ℕ
-  pub whole : SpellAll octets (record { tag = constructed 0; content = content } ∷ [])
-  pub parts : SpellAll content (record { tag = int_tag; content = number } ∷ service ∷ [])
-  pub is : IsInteger number (pos id)
-  pub below : id < 2 ^ 32

@@ -1,3 +1,4 @@
+pub mod Asks
 pub mod Code
 pub mod Data
 pub mod Grammar
@@ -8,6 +9,10 @@ pub mod RequestViews
 pub mod Requests
 pub mod Responses
 pub mod Spelled
+pub mod SpelledData
+pub mod SpelledInitiate
+pub mod SpelledNames
+pub mod SpelledServices
 pub mod Tags
 pub mod Types
 pub mod Utc

@@ -1,14 +1,19 @@
 // Laws of the texts. Each function does nothing, and its contract is the law.
-ghost use Rattle.std.specs.Prelude.{◌≡◌, ◌<◌, Some, List, ℕ, length};
-ghost use Rattle.bay_ber.specs.Values.{Part};
+ghost use Rattle.std.specs.Prelude.{◌≡◌, ◌<◌, ◌↔◌, Option, Some, Ok, Err, List, ℕ, length};
+ghost use Rattle.bay_ber.specs.Octets.{AreOctets};
 ghost use Rattle.bay_ber.specs.Spelling.{Spells};
 ghost use Rattle.bay_mms.specs.Data.{Datum, datum_text};
 ghost use Rattle.bay_mms.specs.Types.{TypeSpec, type_text};
 ghost use Rattle.bay_mms.specs.Reports.{report_text};
 ghost use Rattle.bay_mms.specs.Responses.{response_text};
 ghost use Rattle.bay_mms.specs.Tags.{constructed};
-ghost use Rattle.bay_mms.specs.Grammar.{service_as, with_id, answer_to};
-ghost use Rattle.bay_mms.specs.Laws.{IsRead, IsConfirmed, datum_tag, datum_content, response_tag};
+ghost use Rattle.bay_mms.specs.Asks.{Asks, AsksUnknown, AsksMany, AsksNothing};
+ghost use Rattle.bay_mms.specs.Grammar.{initiate_in, answer_to};
+ghost use Rattle.bay_mms.specs.Laws.{IsRead, datum_tag, datum_content, response_tag};
+ghost use Rattle.bay_mms.specs.Requests.{Message};
+ghost use Rattle.bay_mms.specs.SpelledInitiate.{IsInitiate};
+ghost use Rattle.bay_mms.specs.declared.fault.MmsFault.TheVariants as MmsFault;
+ghost use Rattle.bay_mms.specs.declared.request.Proposal.{Proposal};
 ghost use Rattle.bay_mms.specs.declared.response.Response.{Response};
 
 /// What is written is read back as one value of BER (X.690 8.1): data under their tags, which have one octet, with their
@@ -19,7 +24,19 @@ pub fn written_is_read()
     ensures report { (names parts : List ℕ) → length (report_text names parts) < 4294967296 → IsRead (report_text names parts) (constructed 3) }
 {}
 
-/// Octets that are a confirmed request, by the relation of bay_ber, are answered by what its service asks, or by its fault.
-pub fn confirmed_is_read()
-    ensures { (octets : List ℕ) (id : ℕ) (service : Part) → IsConfirmed octets id service → answer_to octets ≡ with_id (Some id) id (service_as service) }
+/// Octets ask at most one request: what is in the relation by whole nested spellings is read as that request, and what is read as a
+/// request is in the relation. So is what an association is opened with.
+pub fn one_request()
+    ensures asked { (octets : List ℕ) (request : Message) → Asks request octets → answer_to octets ≡ Ok request }
+    ensures spelled { (octets : List ℕ) (request : Message) → AreOctets octets → answer_to octets ≡ Ok request → Asks request octets }
+    ensures one { (octets : List ℕ) (first second : Message) → Asks first octets → Asks second octets → first ≡ second }
+    ensures initiate { (octets : List ℕ) (proposal : Proposal) → AreOctets octets → (initiate_in octets ≡ Some proposal) ↔ IsInitiate octets proposal }
+{}
+
+/// Each fault has its own relation: a service that is not served, too many variables; and a bad PDU is what is left, with the
+/// invoke id that stands at its front.
+pub fn one_fault()
+    ensures unknown { (octets : List ℕ) (id : ℕ) → AreOctets octets → (answer_to octets ≡ Err (MmsFault.UnknownService id)) ↔ AsksUnknown id octets }
+    ensures many { (octets : List ℕ) (id : ℕ) → AreOctets octets → (answer_to octets ≡ Err (MmsFault.TooMany id)) ↔ AsksMany id octets }
+    ensures bad { (octets : List ℕ) (known : Option ℕ) → AreOctets octets → (answer_to octets ≡ Err (MmsFault.BadPdu known)) ↔ AsksNothing octets known }
 {}

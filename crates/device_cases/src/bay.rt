@@ -2,7 +2,7 @@
 use anyhow::{Context, Result, bail};
 use bay_base::text::Text;
 use bay_base::types::ElementaryType;
-use bay_config::bay::{Origin, Point, SwitchPoint};
+use bay_config::bay::{MeterField, Origin, Point, SwitchPoint};
 use bay_config::read::read_bay;
 use bay_tree::leaf::{Dbpos, Leaf, Quality};
 use bay_tree::row::Row;
@@ -15,7 +15,8 @@ fn word_of_type(kind: ElementaryType) -> &'static str {
     match kind {
         ElementaryType::Bool => "BOOL",
         ElementaryType::Int => "INT",
-        ElementaryType::Dint | ElementaryType::Lint | ElementaryType::Time => "other",
+        ElementaryType::Dint => "DINT",
+        ElementaryType::Lint | ElementaryType::Time => "other",
     }
 }
 
@@ -30,28 +31,58 @@ fn word_of_point(point: SwitchPoint) -> &'static str {
     }
 }
 
-/// A value of a row in a word.
-fn word_of_leaf(leaf: &Option<Leaf>) -> &'static str {
-    match leaf {
-        None => "structure",
-        Some(Leaf::Truth(false)) => "FALSE",
-        Some(Leaf::Dbpos(Dbpos::Intermediate)) => "intermediate",
-        Some(Leaf::Quality(Quality::Good)) => "good",
-        Some(Leaf::Quality(Quality::Invalid)) => "invalid",
-        Some(Leaf::Int8(0)) => "int8-0",
-        Some(Leaf::Int8(2)) => "int8-2",
-        Some(Leaf::Int32(0)) => "int32-0",
-        Some(Leaf::Utc(0)) => "moment-0",
-        Some(_) => "other",
+/// A field of a meter in a word.
+fn word_of_field(field: MeterField) -> &'static str {
+    match field {
+        MeterField::TotW => "total-active-power",
+        MeterField::TotVAr => "total-reactive-power",
+        MeterField::Hz => "frequency",
+        MeterField::PhaseA => "phase-a",
+        MeterField::PhaseB => "phase-b",
+        MeterField::PhaseC => "phase-c",
     }
 }
 
-/// The place of a switch in a word.
-fn word_of_place(switch: usize) -> &'static str {
-    match switch {
-        0 => "0",
-        1 => "1",
+/// What a point stands for: the place of its switch, input or meter, and a word.
+fn origin_of(origin: Origin) -> (usize, &'static str) {
+    match origin {
+        Origin::Switch { switch, point } => (switch, word_of_point(point)),
+        Origin::Input { input } => (input, "input"),
+        Origin::Meter { meter, field } => (meter, word_of_field(field)),
+    }
+}
+
+/// A value of a row in a word, where that is enough to tell it.
+fn word_of_leaf(leaf: &Leaf) -> &'static str {
+    match leaf {
+        Leaf::Truth(false) => "FALSE",
+        Leaf::Dbpos(Dbpos::Intermediate) => "intermediate",
+        Leaf::Quality(Quality::Good) => "good",
+        Leaf::Quality(Quality::Invalid) => "invalid",
+        Leaf::Int8(0) => "int8-0",
+        Leaf::Int8(1) => "int8-1",
+        Leaf::Int8(2) => "int8-2",
+        Leaf::Int8(3) => "int8-3",
+        Leaf::Int8(4) => "int8-4",
+        Leaf::Int32(0) => "int32-0",
+        Leaf::Unsigned8(0) => "unsigned8-0",
+        Leaf::Utc(0) => "moment-0",
         _ => "other",
+    }
+}
+
+/// Whether a word tells the value of a row.
+fn tells_leaf(word: &str, leaf: &Option<Leaf>) -> bool {
+    match leaf {
+        None => word == "structure",
+        Some(Leaf::Octets(octets)) => word == "octets" && octets.as_slice().is_empty(),
+        Some(Leaf::Reference(text)) => word == "reference" && text.as_str().is_empty(),
+        Some(Leaf::Text(text)) => word.strip_prefix("text ") == Some(text.as_str()),
+        Some(Leaf::Unsigned32(number)) => match word.strip_prefix("unsigned32-") {
+            Some(digits) => digits.parse::<u32>().ok() == Some(*number),
+            None => false,
+        },
+        Some(leaf) => word == word_of_leaf(leaf),
     }
 }
 
@@ -60,19 +91,16 @@ fn first_word(line: &str) -> (&str, &str) {
     line.split_once(" ").unwrap_or((line, ""))
 }
 
-/// Whether a line tells a point: name, type, `read` or `write`, the switch, and which of its points.
+/// Whether a line tells a point: name, type, `read` or `write`, the place, and what it stands for.
 fn tells(line: &str, point: &Point) -> bool {
-    let Origin::Switch {
-        switch,
-        point: which,
-    } = point.origin;
+    let (at, word) = origin_of(point.origin);
     let (name, rest) = first_word(line);
     let (kind, rest) = first_word(rest);
     let (right, rest) = first_word(rest);
     let (place, rest) = first_word(rest);
     let is_right = (right == "write") == point.writable && (right == "read") != point.writable;
     let is_typed = kind == word_of_type(point.kind) && is_right;
-    let is_placed = place == word_of_place(switch) && rest == word_of_point(which);
+    let is_placed = place.parse::<usize>().ok() == Some(at) && rest == word;
     name == point.name.as_str() && is_typed && is_placed
 }
 
@@ -99,7 +127,8 @@ pub fn check_rows(alloc: Global, bay: &str, wanted: &str) -> Result<()> {
     let rows = bay.rows.as_slice();
     let mut count = 0usize;
     for (line, row) in wanted.lines().zip(rows.iter()) {
-        if line.split_once(" ") != Some((row.name.as_str(), word_of_leaf(&row.leaf))) {
+        let (name, word) = first_word(line);
+        if name != row.name.as_str() || !tells_leaf(word, &row.leaf) {
             bail!("{line}");
         }
         count = count.saturating_add(1);

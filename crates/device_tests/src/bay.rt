@@ -1,7 +1,8 @@
-// The fields of a bay, bay files with too many switches, and what faults are told as.
+// The fields of a bay, the names of its nodes, bay files with too many entries, and what faults are told as.
 use crate::texts::bay;
 use bay_config::bay::{Control, SwitchKind};
 use bay_config::fault::BayFault;
+use bay_config::nodes::{control_name, interlocking_name, meter_name, node_name};
 use bay_config::read::read_bay;
 use std::alloc::Global;
 use std::test::Fail;
@@ -69,6 +70,50 @@ fn refuses_too_many_switches(rt: HostRuntime) -> Result<(), Fail> {
             "{count} {last}"
         );
     }
+    Ok(())
+}
+
+/// The number of the refusal of a bay with a switch and so many entries of a list of names; 1 for a bay.
+fn code_of_names(alloc: Global, section: &str, key: &str, count: u32) -> Result<u8, Fail> {
+    let mut entries = String::new(alloc);
+    for i in 0..count {
+        let entry = format!(in alloc; "[[{section}]]\n{key} = \"N{i}\"\n")?;
+        entries.push_str(entry.as_str())?;
+    }
+    code_for(alloc, 1, entries.as_str())
+}
+
+#[test]
+fn refuses_too_many_names(rt: HostRuntime) -> Result<(), Fail> {
+    for (section, key, most) in [("input", "name", 64), ("meter", "id", 8)] {
+        assert!(rt;
+            code_of_names(rt.alloc(), section, key, most)? == 1,
+            "{section}"
+        );
+        assert!(rt;
+            code_of_names(rt.alloc(), section, key, most + 1)? == 55,
+            "{section}"
+        );
+    }
+    Ok(())
+}
+
+#[test]
+fn names_of_nodes(rt: HostRuntime) -> Result<(), Fail> {
+    let text = format!(in rt.alloc();
+        "{}[[meter]]\nid = \"M1\"\n[[input]]\nname = \"Es\"\n",
+        bay()
+    )?;
+    let bay = read_bay(rt.alloc(), text.as_str())?;
+    assert!(rt; node_name(rt.alloc(), &bay, 1)?.as_str() == "XSWI1");
+    assert!(rt; control_name(rt.alloc(), &bay, 1)?.as_str() == "CSWI2");
+    assert!(rt; interlocking_name(rt.alloc(), &bay, 1)?.as_str() == "CILO2");
+    assert!(rt; meter_name(rt.alloc(), &bay, 0)?.as_str() == "MMXU1");
+    for names in [&bay.inputs, &bay.meters] {
+        assert!(rt; names.as_slice().len() == 1);
+    }
+    assert!(rt; bay.inputs.as_slice()[0].as_str() == "Es");
+    assert!(rt; bay.meters.as_slice()[0].as_str() == "M1");
     Ok(())
 }
 

@@ -1,5 +1,6 @@
 // The device, call by call, and its rows after contacts and scans.
-use crate::texts::{bay, logic};
+use crate::texts::{bay, logic, metered_bay, released};
+use bay_config::bay::MeterField;
 use bay_device::event::{Event, Step};
 use bay_device::fault::{LoadFault, StepFault};
 use bay_device::load::load;
@@ -72,6 +73,9 @@ fn rows_after_contacts(rt: HostRuntime) -> Result<(), Fail> {
             ("XCBR1$ST$Pos$stVal", Wanted::Position(position)),
             ("XCBR1$ST$Pos$q", Wanted::Quality(quality)),
             ("XCBR1$ST$Pos$t", Wanted::Time(moved)),
+            ("CSWI1$ST$Pos$stVal", Wanted::Position(position)),
+            ("CSWI1$ST$Pos$q", Wanted::Quality(quality)),
+            ("CSWI1$ST$Pos$t", Wanted::Time(moved)),
             ("XCBR1$ST$OpCnt$stVal", Wanted::Count(operations)),
             ("XCBR1$ST$OpCnt$t", Wanted::Time(counted)),
         ] {
@@ -151,6 +155,108 @@ fn look_ups(rt: HostRuntime) -> Result<(), Fail> {
     Ok(())
 }
 
+fn measure(field: MeterField, value: i32) -> Event {
+    Event::Measure {
+        meter: 0,
+        field,
+        value,
+    }
+}
+
+#[test]
+fn rows_after_measures(rt: HostRuntime) -> Result<(), Fail> {
+    let mut device = load(rt.alloc(), metered_bay(), released())?;
+    for (now, field, value, row, since) in [
+        (1000, MeterField::TotW, 0, "MMXU1$MX$TotW$mag$i", 1000),
+        (1100, MeterField::TotW, 0, "MMXU1$MX$TotW$mag$i", 1000),
+        (1200, MeterField::TotVAr, -7, "MMXU1$MX$TotVAr$mag$i", 1200),
+        (1300, MeterField::Hz, 50, "MMXU1$MX$Hz$mag$i", 1300),
+        (
+            1400,
+            MeterField::PhaseA,
+            1,
+            "MMXU1$MX$A$phsA$cVal$mag$i",
+            1400,
+        ),
+        (
+            1500,
+            MeterField::PhaseB,
+            2,
+            "MMXU1$MX$A$phsB$cVal$mag$i",
+            1500,
+        ),
+        (
+            1600,
+            MeterField::PhaseC,
+            3,
+            "MMXU1$MX$A$phsC$cVal$mag$i",
+            1600,
+        ),
+    ] {
+        assert!(rt; device.step(now, measure(field, value)).is_ok(), "at {now}");
+        assert!(rt; holds(device.tree(), row, Wanted::Count(value)), "{row}");
+        let object = row
+            .strip_suffix("$cVal$mag$i")
+            .or(row.strip_suffix("$mag$i"))
+            .unwrap_or("");
+        let quality = format!(in rt.alloc(); "{object}$q")?;
+        let moment = format!(in rt.alloc(); "{object}$t")?;
+        assert!(rt;
+            holds(
+                device.tree(),
+                quality.as_str(),
+                Wanted::Quality(Quality::Good)
+            ),
+            "{row}"
+        );
+        assert!(rt;
+            holds(device.tree(), moment.as_str(), Wanted::Time(since)),
+            "{row}"
+        );
+    }
+    Ok(())
+}
+
+#[test]
+fn inputs_release(rt: HostRuntime) -> Result<(), Fail> {
+    let mut device = load(rt.alloc(), metered_bay(), released())?;
+    for (now, value, closes) in [
+        (1000, false, false),
+        (1100, true, true),
+        (1200, false, false),
+    ] {
+        let event = Event::Input { input: 1, value };
+        assert!(rt; device.step(now, event).is_ok(), "at {now}");
+        assert!(rt; device.step(now, Event::Scan).is_ok(), "at {now}");
+        assert!(rt; device.ena(1) == Some((false, closes)), "at {now}");
+    }
+    Ok(())
+}
+
+#[test]
+fn inputs_and_meters_that_are_there(rt: HostRuntime) -> Result<(), Fail> {
+    let mut device = load(rt.alloc(), metered_bay(), released())?;
+    assert!(rt; device.input_count() == 2 && device.meter_count() == 1);
+    for (name, place) in [("es", Some(0)), ("Lk", Some(1)), ("M1", None)] {
+        assert!(rt; device.input(name) == place, "{name}");
+    }
+    for (id, place) in [("m1", Some(0)), ("ES", None)] {
+        assert!(rt; device.meter(id) == place, "{id}");
+    }
+    let unknown = Event::Input {
+        input: 2,
+        value: true,
+    };
+    assert!(rt; device.step(1000, unknown) == Err(StepFault::NoSuchPoint));
+    let unknown = Event::Measure {
+        meter: 1,
+        field: MeterField::Hz,
+        value: 0,
+    };
+    assert!(rt; device.step(1000, unknown) == Err(StepFault::NoSuchPoint));
+    Ok(())
+}
+
 #[test]
 fn faults_tell_what_is_wrong(rt: HostRuntime) -> Result<(), Fail> {
     for (fault, code, message) in [
@@ -160,7 +266,11 @@ fn faults_tell_what_is_wrong(rt: HostRuntime) -> Result<(), Fail> {
             110,
             "the moment is before the last event's",
         ),
-        (StepFault::NoSuchPoint, 113, "there is no such switch"),
+        (
+            StepFault::NoSuchPoint,
+            113,
+            "there is no such switch, input or meter",
+        ),
     ] {
         assert!(rt; fault.code() == code, "{message}");
         let text = format!(in rt.alloc(); "{fault}")?;

@@ -1,5 +1,5 @@
 -- A program without a fault is one with a labelling.
-use Rattle.std.proofs.Common.{◌≡◌, ℕ, zero, suc, ◌+◌, ◌<◌, ◌≤◌, Bool, true, false, not, ◌&&◌, ◌||◌, cond, List, [], ◌∷◌, ◌++◌, length, map, slice_get, slice_set, refl, sym, ap, subst, ◌∙◌, arith, Option, Some, None, ◌⊎◌, ◌↔◌, inl, inr}
+use Rattle.std.proofs.Common.{◌≡◌, ℕ, zero, suc, ◌+◌, ◌-◌, ◌<◌, ◌≤◌, Bool, true, false, not, ◌&&◌, ◌||◌, cond, List, [], ◌∷◌, ◌++◌, length, map, slice_get, slice_set, refl, sym, ap, subst, ◌∙◌, arith, Option, Some, None, ◌⊎◌, ◌↔◌, inl, inr}
 use Rattle.std.specs.Prelude.{◌==◌, is_some, is_none, nat_le, nat_lt, option_map}
 use Rattle.std.proofs.lemmas.Bool.Decides.{nat_tests}
 use Rattle.std.proofs.lemmas.Bool.{cases_eq}
@@ -23,6 +23,7 @@ use Rattle.il_check.specs.declared.reach.Reach.{Reach}
 use Rattle.il_check.specs.declared.given.Resolved.{Resolved}
 use Rattle.il_check.specs.declared.given.Resolved.TheVariants.{Load, Store, Combine, Not, Convert, Jump, Return, Call}
 use Rattle.il_check.specs.declared.fault.CheckFault.{CheckFault}
+use Rattle.il_check.specs.declared.fault.CheckFault.TheVariants.{TooMany}
 
 -- ---- lists of faults that are empty
 
@@ -30,21 +31,21 @@ two : (b : Bool) → (b ≡ true) ⊎ (b ≡ false)
 two true = inl refl
 two false = inr refl
 
-both_none : {A : Type 0} (xs ys : List A) → xs ++ ys ≡ [] → (xs ≡ []) × (ys ≡ [])
+pub both_none : {A : Type 0} (xs ys : List A) → xs ++ ys ≡ [] → (xs ≡ []) × (ys ≡ [])
 both_none [] ys e = (refl, e)
 both_none (x ∷ xs) ys e = absurd (cc)
 
-none_both : {A : Type 0} (xs ys : List A) → xs ≡ [] → ys ≡ [] → xs ++ ys ≡ []
+pub none_both : {A : Type 0} (xs ys : List A) → xs ≡ [] → ys ≡ [] → xs ++ ys ≡ []
 none_both xs ys e f = ap (λ l. l ++ ys) e ∙ f
 
-if_none : (b : Bool) (f : CheckFault) → fault_if b f ≡ [] → b ≡ false
+pub if_none : (b : Bool) (f : CheckFault) → fault_if b f ≡ [] → b ≡ false
 if_none true f e = absurd (cc)
 if_none false f e = refl
 
 none_if : (b : Bool) (f : CheckFault) → b ≡ false → fault_if b f ≡ []
 none_if b f e = ap (λ c. fault_if c f) e
 
-not_false : (b : Bool) → not b ≡ false → b ≡ true
+pub not_false : (b : Bool) → not b ≡ false → b ≡ true
 not_false true e = refl
 not_false false e = absurd (cc)
 
@@ -58,7 +59,7 @@ false_and false b e = refl
 
 -- ---- one instruction
 
-right_from : (is_reached : Bool) (passed line : ℕ) (r : Resolved) (t : Option ElementaryType) → instruction_faults is_reached passed line r t ≡ [] → (is_reached ≡ true) × IsRight passed r t
+pub right_from : (is_reached : Bool) (passed line : ℕ) (r : Resolved) (t : Option ElementaryType) → instruction_faults is_reached passed line r t ≡ [] → (is_reached ≡ true) × IsRight passed r t
 right_from is_reached passed line r t e =
     let halves = both_none _ _ e in
     let names = both_none _ _ halves.0 in
@@ -88,18 +89,31 @@ right_to is_reached passed line r t reached ok =
 
 -- ---- an entry
 
+pub no_zero : (n : ℕ) → (suc n == 0) ≡ false
+no_zero n = grind (arith, nat_tests)
+
+within : (room : ℕ) (line : ℕ) (fs : List CheckFault) → cond (room == 0) (TooMany line ∷ []) fs ≡ [] → (0 < room) × (fs ≡ [])
+within zero line fs e = absurd (cc)
+within (suc room) line fs e = (omega arith, sym (ap (λ (b : Bool). cond b (TooMany line ∷ []) fs) (no_zero room)) ∙ e)
+
+from_within : (room : ℕ) (line : ℕ) (fs : List CheckFault) → 0 < room → fs ≡ [] → cond (room == 0) (TooMany line ∷ []) fs ≡ []
+from_within zero line fs some e = absurd (omega arith)
+from_within (suc room) line fs some e = ap (λ (b : Bool). cond b (TooMany line ∷ []) fs) (no_zero room) ∙ e
+
 mutual
-  entry_from : (names : Names) (is_reached : Bool) (passed : ℕ) (e : text.Entry) (t : Option ElementaryType) → entry_faults names is_reached passed e t ≡ [] → IsRightEntry names passed e t
-  entry_from names is_reached passed (text.label line name) t e = tt
-  entry_from names is_reached passed (text.action line a) t e = (right_from is_reached passed line (resolved names a) t e).1
-  entry_from names is_reached passed (text.block line operator negated items end) t e =
+  pub entry_from : (names : Names) (room : ℕ) (is_reached : Bool) (passed : ℕ) (e : text.Entry) (t : Option ElementaryType) → entry_faults names room is_reached passed e t ≡ [] → IsRightEntry names room passed e t
+  entry_from names room is_reached passed (text.label line name) t e = tt
+  entry_from names room is_reached passed (text.action line a) t e = (right_from is_reached passed line (resolved names a) t e).1
+  entry_from names room is_reached passed (text.block line operator negated items end) t e =
       let opened = both_none _ _ e in
-      let inner = both_none _ _ opened.1 in
+      let deep = within room line _ opened.1 in
+      let inner = both_none _ _ deep.1 in
       let opening = both_none _ _ opened.0 in
       let wrong = both_none _ _ inner.1 in
       let unset = both_none _ _ wrong.1 in
       let reached = not_false is_reached (if_none _ _ opening.0) in (
-        entries_from names is_reached passed items None inner.0,
+        deep.0,
+        entries_from names (room - 1) is_reached passed items None inner.0,
         record {
           nonzero = if_none _ _ opening.1;
           allowed = and_false is_reached _ reached (if_none _ _ wrong.0);
@@ -107,31 +121,32 @@ mutual
         },
       )
 
-  entries_from : (names : Names) (is_reached : Bool) (passed : ℕ) (es : text.Entries) (t : Option ElementaryType) → entries_faults names is_reached passed es t ≡ [] → AreRightEntries names passed es t
-  entries_from names is_reached passed text.no_entries t e = tt
-  entries_from names is_reached passed (text.entry x es) t e =
+  entries_from : (names : Names) (room : ℕ) (is_reached : Bool) (passed : ℕ) (es : text.Entries) (t : Option ElementaryType) → entries_faults names room is_reached passed es t ≡ [] → AreRightEntries names room passed es t
+  entries_from names room is_reached passed text.no_entries t e = tt
+  entries_from names room is_reached passed (text.entry x es) t e =
       let h = both_none _ _ e in
-      (entry_from names is_reached passed x t h.0, entries_from names is_reached passed es (type_behind names x t) h.1)
+      (entry_from names room is_reached passed x t h.0, entries_from names room is_reached passed es (type_behind names x t) h.1)
 
 mutual
-  entry_to : (names : Names) (is_reached : Bool) (passed : ℕ) (e : text.Entry) (t : Option ElementaryType) → is_reached ≡ true → IsRightEntry names passed e t → entry_faults names is_reached passed e t ≡ []
-  entry_to names is_reached passed (text.label line name) t r ok = refl
-  entry_to names is_reached passed (text.action line a) t r ok = right_to is_reached passed line (resolved names a) t r ok
-  entry_to names is_reached passed (text.block line operator negated items end) t r ok =
+  entry_to : (names : Names) (room : ℕ) (is_reached : Bool) (passed : ℕ) (e : text.Entry) (t : Option ElementaryType) → is_reached ≡ true → IsRightEntry names room passed e t → entry_faults names room is_reached passed e t ≡ []
+  entry_to names room is_reached passed (text.label line name) t r ok = refl
+  entry_to names room is_reached passed (text.action line a) t r ok = right_to is_reached passed line (resolved names a) t r ok
+  entry_to names room is_reached passed (text.block line operator negated items end) t r ok =
       none_both _ _
-      (none_both _ _ (none_if _ _ (ap not r)) (none_if _ _ ok.1.nonzero))
-      (none_both _ _ (entries_to names is_reached passed items None r ok.0)
-      (none_both _ _ (none_if _ _ (false_and is_reached _ ok.1.allowed)) (none_both _ _ (none_if _ _ (false_and is_reached _ ok.1.set)) (none_if _ _ (ap not r)))))
+      (none_both _ _ (none_if _ _ (ap not r)) (none_if _ _ ok.2.nonzero))
+      (from_within room line _ ok.0
+      (none_both _ _ (entries_to names (room - 1) is_reached passed items None r ok.1)
+      (none_both _ _ (none_if _ _ (false_and is_reached _ ok.2.allowed)) (none_both _ _ (none_if _ _ (false_and is_reached _ ok.2.set)) (none_if _ _ (ap not r))))))
 
-  entries_to : (names : Names) (is_reached : Bool) (passed : ℕ) (es : text.Entries) (t : Option ElementaryType) → is_reached ≡ true → AreRightEntries names passed es t → entries_faults names is_reached passed es t ≡ []
-  entries_to names is_reached passed text.no_entries t r ok = refl
-  entries_to names is_reached passed (text.entry x es) t r ok =
-      none_both _ _ (entry_to names is_reached passed x t r ok.0) (entries_to names is_reached passed es (type_behind names x t) r ok.1)
+  entries_to : (names : Names) (room : ℕ) (is_reached : Bool) (passed : ℕ) (es : text.Entries) (t : Option ElementaryType) → is_reached ≡ true → AreRightEntries names room passed es t → entries_faults names room is_reached passed es t ≡ []
+  entries_to names room is_reached passed text.no_entries t r ok = refl
+  entries_to names room is_reached passed (text.entry x es) t r ok =
+      none_both _ _ (entry_to names room is_reached passed x t r ok.0) (entries_to names room is_reached passed es (type_behind names x t) r ok.1)
 
 -- the opening parenthesis is reached, or an instruction is
-entry_reached : (names : Names) (is_reached : Bool) (passed line : ℕ) (operator : Operator) (negated : Bool) (items : text.Entries) (end : ℕ) (t : Option ElementaryType)
-    → entry_faults names is_reached passed (text.block line operator negated items end) t ≡ [] → is_reached ≡ true
-entry_reached names is_reached passed line operator negated items end t e = not_false is_reached (if_none _ _ (both_none _ _ (both_none _ _ e).0).0)
+pub entry_reached : (names : Names) (room : ℕ) (is_reached : Bool) (passed line : ℕ) (operator : Operator) (negated : Bool) (items : text.Entries) (end : ℕ) (t : Option ElementaryType)
+    → entry_faults names room is_reached passed (text.block line operator negated items end) t ≡ [] → is_reached ≡ true
+entry_reached names room is_reached passed line operator negated items end t e = not_false is_reached (if_none _ _ (both_none _ _ (both_none _ _ e).0).0)
 
 -- ---- a result that is unset, in the place of one with a type
 
@@ -146,7 +161,7 @@ becomes_under f t u (inl e) = inl (ap (option_map f) e)
 becomes_under f t u (inr e) = inr (ap (option_map f) e)
 
 -- an instruction that does not use the result is right on each, or on none
-same_for_all : (r : Resolved) (k : ElementaryType) → uses_result r ≡ false → allows r k ≡ allows r elementary.Bool
+pub same_for_all : (r : Resolved) (k : ElementaryType) → uses_result r ≡ false → allows r k ≡ allows r elementary.Bool
 same_for_all (Load negated given) k e = refl
 same_for_all (Store how target) k e = absurd (cc)
 same_for_all (Combine operator negated given is_nonzero) k e = absurd (cc)
@@ -164,7 +179,7 @@ any_of : (a b c d e : Bool) → b ≡ a → c ≡ a → d ≡ a → e ≡ a → 
 any_of true b c d e p q r s = refl
 any_of false b c d e p q r s = rw (p, q, r, s) refl
 
-right_typed : (r : Resolved) (t u : Option ElementaryType) → uses_result r ≡ false → is_wrong r None ≡ false → is_wrong r t ≡ false
+pub right_typed : (r : Resolved) (t u : Option ElementaryType) → uses_result r ≡ false → is_wrong r None ≡ false → is_wrong r t ≡ false
 right_typed r None u e ok = ok
 right_typed r (Some k) u e ok =
     let all : any_type (allows r) ≡ allows r elementary.Bool =
@@ -204,7 +219,7 @@ after_under (Jump condition label) t u b = b
 after_under (Return condition) t u b = b
 after_under (Call called arguments) t u b = inl refl
 
-or_true : (b : Bool) → b || true ≡ true
+pub or_true : (b : Bool) → b || true ≡ true
 or_true true = refl
 or_true false = refl
 
@@ -214,11 +229,11 @@ joined_under operator negated inner t u (inr e) ok =
     let set : joins_unset inner None ≡ false = subst (λ (v : Option ElementaryType). joins_unset inner v ≡ false) e ok.set in
     absurd (let k : true ≡ false = sym (or_true (is_none inner)) ∙ set in cc)
 
-entry_under : (names : Names) (passed : ℕ) (e : text.Entry) (t u : Option ElementaryType) → Becomes t u → IsRightEntry names passed e u → IsRightEntry names passed e t
-entry_under names passed (text.label line name) t u b ok = tt
-entry_under names passed (text.action line a) t u b ok = right_under passed (resolved names a) t u b ok
-entry_under names passed (text.block line operator negated items end) t u b ok =
-    (ok.0, joined_under operator negated (type_behind_all names items None) t u b ok.1)
+entry_under : (names : Names) (room passed : ℕ) (e : text.Entry) (t u : Option ElementaryType) → Becomes t u → IsRightEntry names room passed e u → IsRightEntry names room passed e t
+entry_under names room passed (text.label line name) t u b ok = tt
+entry_under names room passed (text.action line a) t u b ok = right_under passed (resolved names a) t u b ok
+entry_under names room passed (text.block line operator negated items end) t u b ok =
+    (ok.0, ok.1, joined_under operator negated (type_behind_all names items None) t u b ok.2)
 
 -- ---- where ways meet
 
@@ -321,20 +336,20 @@ there_within [] i x e = absurd (cc)
 there_within (y ∷ xs) zero x e = omega arith
 there_within (y ∷ xs) (suc i) x e = let h = there_within xs i x e in omega arith
 
-none_arrived : {A : Type 0} (xs : List A) (n : ℕ) → (arrival (slice_get (map (λ x. unreached) xs) n)).is_reached ≡ false
+pub none_arrived : {A : Type 0} (xs : List A) (n : ℕ) → (arrival (slice_get (map (λ x. unreached) xs) n)).is_reached ≡ false
 none_arrived [] zero = refl
 none_arrived [] (suc n) = refl
 none_arrived (x ∷ xs) zero = refl
 none_arrived (x ∷ xs) (suc n) = none_arrived xs n
 
-mapped_length : {A : Type 0} (xs : List A) → length (map (λ x. unreached) xs) ≡ length xs
+pub mapped_length : {A : Type 0} (xs : List A) → length (map (λ x. unreached) xs) ≡ length xs
 mapped_length [] = refl
 mapped_length (x ∷ xs) = ap suc (mapped_length xs)
 
-same_number : (n m : ℕ) → n ≡ m → (n == m) ≡ true
+pub same_number : (n m : ℕ) → n ≡ m → (n == m) ≡ true
 same_number n m e = grind (arith, nat_tests)
 
-other_number : (n m : ℕ) → (n ≡ m → ⊥) → (n == m) ≡ false
+pub other_number : (n m : ℕ) → (n ≡ m → ⊥) → (n == m) ≡ false
 other_number n m ne = grind (arith, nat_tests)
 
 few : (n : ℕ) → n < 256 → nat_le 256 n ≡ false
@@ -359,20 +374,20 @@ some_if : {A : Type 0} (b : Bool) (x : A) → is_some (cond b (Some x) None) ≡
 some_if true x = refl
 some_if false x = refl
 
-some_is : {A : Type 0} (x y : A) → Some x ≡ Some y → x ≡ y
+pub some_is : {A : Type 0} (x y : A) → Some x ≡ Some y → x ≡ y
 some_is x y e = cc
 
-if_some : {A : Type 0} (b : Bool) (x y : A) → cond b (Some x) None ≡ Some y → (b ≡ true) × (x ≡ y)
+pub if_some : {A : Type 0} (b : Bool) (x y : A) → cond b (Some x) None ≡ Some y → (b ≡ true) × (x ≡ y)
 if_some true x y e = (refl, cc)
 if_some false x y e = absurd (cc)
 
 -- ---- labels that are there
 
 -- Labels have numbers below this.
-abbrev InRange : Names → ℕ → Type 0
+abbrev pub InRange : Names → ℕ → Type 0
 InRange names count = (name : List ℕ) (n : ℕ) → names.label name ≡ Some n → n < count
 
-target_in : (names : Names) (count : ℕ) (a : text.Action) (n : ℕ) → InRange names count → target_of (resolved names a) ≡ Some n → n < count
+pub target_in : (names : Names) (count : ℕ) (a : text.Action) (n : ℕ) → InRange names count → target_of (resolved names a) ≡ Some n → n < count
 target_in names count (text.load negated source) n range e = absurd (cc)
 target_in names count (text.store kind place) n range e = absurd (cc)
 target_in names count (text.combine operator negated source) n range e = absurd (cc)
@@ -382,7 +397,7 @@ target_in names count (text.jump condition name) n range e = range name n e
 target_in names count (text.leave condition) n range e = absurd (cc)
 target_in names count (text.call timer arguments) n range e = absurd (cc)
 
-target_ahead : (passed : ℕ) (r : Resolved) (n : ℕ) → target_of r ≡ Some n → jumps_back passed r ≡ false → passed ≤ n
+pub target_ahead : (passed : ℕ) (r : Resolved) (n : ℕ) → target_of r ≡ Some n → jumps_back passed r ≡ false → passed ≤ n
 target_ahead passed (Load negated given) n e h = absurd (cc)
 target_ahead passed (Store how target) n e h = absurd (cc)
 target_ahead passed (Combine operator negated given is_nonzero) n e h = absurd (cc)
@@ -395,9 +410,9 @@ target_ahead passed (Call called arguments) n e h = absurd (cc)
 -- ---- what jumps have brought
 
 -- what has come to each label, and how many labels there are
-record Brought (named : List ℕ) (arrivals : List Reach) (count : ℕ) : Type 0 where
-  arrived : (n : ℕ) → (arrival (slice_get arrivals n)).is_reached ≡ is_named named n
-  size : length arrivals ≡ count
+pub record Brought (named : List ℕ) (arrivals : List Reach) (count : ℕ) : Type 0 where
+  pub arrived : (n : ℕ) → (arrival (slice_get arrivals n)).is_reached ≡ is_named named n
+  pub size : length arrivals ≡ count
 
 brings : (target : Option ℕ) (now : Reach) (named : List ℕ) (arrivals : List Reach) (count : ℕ) → now.is_reached ≡ true → ((n : ℕ) → target ≡ Some n → n < count)
     → Brought named arrivals count → Brought (with_target target named) (arrived target now arrivals) count
@@ -505,7 +520,7 @@ flows_to names labels count range (text.block line operator negated items end �
     let b = text.block line operator negated items end in
     let reached : s.now.is_reached ≡ true = st.reached ∙ ap is_some f.1.0 in
     none_both _ _
-    (entry_to names s.now.is_reached s.passed b s.now.kind reached (entry_under names s.passed b s.now.kind f.0 (st.typed f.0 f.1.0) f.1.1))
+    (entry_to names 16 s.now.is_reached s.passed b s.now.kind reached (entry_under names 16 s.passed b s.now.kind f.0 (st.typed f.0 f.1.0) f.1.1))
     (flows_to names labels count range es (behind names b s) named (Some (option_map (gives operator) f.0)) f.2 (stands_behind_block labels count names line operator negated items end f.0 named s now f.1.0 st))
 
 stands_behind_all : (names : Names) (labels : Labelling) (count : ℕ) → InRange names count → (es : List text.Entry) (s : Standing) (named : List ℕ) (now : Coming) (t : Option ElementaryType) → Flows names labels es s.passed named now → Stands labels count named s now
@@ -526,7 +541,7 @@ stands_behind_all names labels count range (text.block line operator negated ite
 -- ---- without a fault there is a labelling
 
 -- the type of the current result at the label of this number with the least types
-abbrev least : Names → List text.Entry → Standing → ℕ → Option ElementaryType
+abbrev pub least : Names → List text.Entry → Standing → ℕ → Option ElementaryType
 least names [] s n = None
 least names (text.label line name ∷ es) s n =
     cond (n == s.passed) (met s.now (arrival (slice_get s.arrivals s.passed))).kind (least names es (behind names (text.label line name) s) n)
@@ -567,21 +582,21 @@ brought_becomes names (text.action line a ∷ es) s n v is reached = brought_by 
 brought_becomes names (text.block line operator negated items end ∷ es) s n v is reached = brought_becomes names es (behind names (text.block line operator negated items end) s) n v is reached
 
 -- What is known before items with the least types is just what flows there.
-record Exact (count : ℕ) (named : List ℕ) (s : Standing) (now : Coming) : Type 0 where
-  is : now ≡ cond s.now.is_reached (Some s.now.kind) None
-  brought : Brought named s.arrivals count
+pub record Exact (count : ℕ) (named : List ℕ) (s : Standing) (now : Coming) : Type 0 where
+  pub is : now ≡ cond s.now.is_reached (Some s.now.kind) None
+  pub brought : Brought named s.arrivals count
 
 exact_some : (count : ℕ) (named : List ℕ) (s : Standing) (now : Coming) → Exact count named s now → is_some now ≡ s.now.is_reached
 exact_some count named s now x = ap is_some x.is ∙ some_if s.now.is_reached s.now.kind
 
-exact_now : (count : ℕ) (named : List ℕ) (s : Standing) (now : Coming) → Exact count named s now → s.now.is_reached ≡ true → now ≡ Some s.now.kind
+pub exact_now : (count : ℕ) (named : List ℕ) (s : Standing) (now : Coming) → Exact count named s now → s.now.is_reached ≡ true → now ≡ Some s.now.kind
 exact_now count named s now x reached = x.is ∙ ap (λ (b : Bool). cond b (Some s.now.kind) None) reached
 
 falls_out : (labels : Labelling) (number : ℕ) (r : Reach) (b : Bool) → r.is_reached ≡ b → (r.is_reached ≡ true → Becomes r.kind (labels number)) → Falls labels number (cond b (Some r.kind) None)
 falls_out labels number r true e h = h e
 falls_out labels number r false e h = tt
 
-jumps_out : (labels : Labelling) (names : Names) (es : List text.Entry) (count : ℕ) (r : Resolved) (s : Standing) (named : List ℕ) (target : Option ℕ) → target_of r ≡ target → s.now.is_reached ≡ true → IsRight s.passed r s.now.kind
+pub jumps_out : (labels : Labelling) (names : Names) (es : List text.Entry) (count : ℕ) (r : Resolved) (s : Standing) (named : List ℕ) (target : Option ℕ) → target_of r ≡ target → s.now.is_reached ≡ true → IsRight s.passed r s.now.kind
     → ((n : ℕ) → target_of r ≡ Some n → n < count) → Brought named s.arrivals count → ((n : ℕ) → s.passed ≤ n → labels n ≡ least names es (moved r s) n) → Jumps labels target s.now.kind
 jumps_out labels names es count r s named None t reached ok range b same = tt
 jumps_out labels names es count r s named (Some m) t reached ok range b same =
@@ -593,51 +608,81 @@ jumps_out labels names es count r s named (Some m) t reached ok range b same =
     subst (λ (u : Option ElementaryType). Becomes s.now.kind u) (sym (same m (target_ahead s.passed r m t ok.forward)))
     (becomes_along s.now.kind here.kind (least names es (moved r s) m) (met_right old s.now reached) more)
 
-flows_from : (names : Names) (labels : Labelling) (count : ℕ) → InRange names count → (es : List text.Entry) (s : Standing) (named : List ℕ) (now : Coming) → ((n : ℕ) → s.passed ≤ n → labels n ≡ least names es s n) → items_faults names es s ≡ []
+-- the labels have the least types
+abbrev pub AreLeast : Labelling → Names → List text.Entry → Standing → Type 0
+AreLeast labels names es s = (n : ℕ) → s.passed ≤ n → labels n ≡ least names es s n
+
+label_least : (names : Names) (labels : Labelling) (line : ℕ) (name : List ℕ) (es : List text.Entry) (s : Standing) → AreLeast labels names (text.label line name ∷ es) s
+    → labels s.passed ≡ (met s.now (arrival (slice_get s.arrivals s.passed))).kind
+label_least names labels line name es s same =
+    let come = arrival (slice_get s.arrivals s.passed) in
+    let after = behind names (text.label line name) s in
+    same s.passed (no_less s.passed) ∙ ap (λ (b : Bool). cond b (met s.now come).kind (least names es after s.passed)) (same_number s.passed s.passed refl)
+
+pub least_behind_label : (names : Names) (labels : Labelling) (line : ℕ) (name : List ℕ) (es : List text.Entry) (s : Standing) → AreLeast labels names (text.label line name ∷ es) s
+    → AreLeast labels names es (behind names (text.label line name) s)
+least_behind_label names labels line name es s same n le =
+    let come = arrival (slice_get s.arrivals s.passed) in
+    let after = behind names (text.label line name) s in
+    same n (less_one s.passed n le) ∙ ap (λ (b : Bool). cond b (met s.now come).kind (least names es after n)) (other_number n s.passed (not_before s.passed n le))
+
+pub exact_behind_label : (names : Names) (labels : Labelling) (count : ℕ) (line : ℕ) (name : List ℕ) (es : List text.Entry) (s : Standing) (named : List ℕ) (now : Coming)
+    → AreLeast labels names (text.label line name ∷ es) s → Exact count named s now → Exact count named (behind names (text.label line name) s) (behind_label labels s.passed named now)
+exact_behind_label names labels count line name es s named now same x =
+    let come = arrival (slice_get s.arrivals s.passed) in
+    let here = label_least names labels line name es s same in
+    let either : is_some now || is_named named s.passed ≡ (met s.now come).is_reached =
+    ap (λ (b : Bool). b || is_named named s.passed) (exact_some count named s now x) ∙ ap (λ (b : Bool). s.now.is_reached || b) (sym (x.brought.arrived s.passed)) ∙ sym (met_reached s.now come) in
+    record {
+      is = ap (λ (b : Bool). cond b (Some (labels s.passed)) None) either ∙ ap (λ (u : Option ElementaryType). cond (met s.now come).is_reached (Some u) None) here;
+      brought = x.brought;
+    }
+
+pub exact_behind_action : (names : Names) (count : ℕ) (range : InRange names count) (a : text.Action) (s : Standing) (named : List ℕ) (now : Coming) → s.now.is_reached ≡ true → Exact count named s now
+    → Exact count (with_target (target_of (resolved names a)) named) (moved (resolved names a) s) (behind_action (resolved names a) s.now.kind)
+exact_behind_action names count range a s named now reached x =
+    let r = resolved names a in
+    record {
+      is = ap (λ (b : Bool). cond (b && goes_on r) (Some (type_after r s.now.kind)) None) (sym reached);
+      brought = brings (target_of r) s.now named s.arrivals count reached (λ n e. target_in names count a n range e) x.brought;
+    }
+
+pub exact_behind_block : (names : Names) (count line : ℕ) (operator : Operator) (negated : Bool) (items : text.Entries) (end : ℕ) (s : Standing) (named : List ℕ) (now : Coming) → s.now.is_reached ≡ true → Exact count named s now
+    → Exact count named (behind names (text.block line operator negated items end) s) (Some (option_map (gives operator) s.now.kind))
+exact_behind_block names count line operator negated items end s named now reached x = record {
+  is = ap (λ (b : Bool). cond b (Some (option_map (gives operator) s.now.kind)) None) (sym reached);
+  brought = x.brought;
+}
+
+pub flows_from : (names : Names) (labels : Labelling) (count : ℕ) → InRange names count → (es : List text.Entry) (s : Standing) (named : List ℕ) (now : Coming) → AreLeast labels names es s → items_faults names es s ≡ []
     → Exact count named s now → Flows names labels es s.passed named now
 flows_from names labels count range [] s named now same none x = tt
 flows_from names labels count range (text.label line name ∷ es) s named now same none x =
     let h = both_none _ _ none in
     let own = both_none _ _ h.0 in
-    let come = arrival (slice_get s.arrivals s.passed) in
-    let after = behind names (text.label line name) s in
-    let here : labels s.passed ≡ (met s.now come).kind =
-    same s.passed (no_less s.passed) ∙ ap (λ (b : Bool). cond b (met s.now come).kind (least names es after s.passed)) (same_number s.passed s.passed refl) in
-    let fall = λ (r : s.now.is_reached ≡ true). subst (λ (u : Option ElementaryType). Becomes s.now.kind u) (sym here) (met_left s.now come r) in
-    let falls : Falls labels s.passed now = subst (Falls labels s.passed) (sym x.is) (falls_out labels s.passed s.now s.now.is_reached refl fall) in
-    let either : is_some now || is_named named s.passed ≡ (met s.now come).is_reached =
-    ap (λ (b : Bool). b || is_named named s.passed) (exact_some count named s now x) ∙ ap (λ (b : Bool). s.now.is_reached || b) (sym (x.brought.arrived s.passed)) ∙ sym (met_reached s.now come) in
-    let later = λ (n : ℕ) (le : s.passed + 1 ≤ n).
-    same n (less_one s.passed n le) ∙ ap (λ (b : Bool). cond b (met s.now come).kind (least names es after n)) (other_number n s.passed (not_before s.passed n le)) in (
+    let here = label_least names labels line name es s same in
+    let fall = λ (r : s.now.is_reached ≡ true). subst (λ (u : Option ElementaryType). Becomes s.now.kind u) (sym here) (met_left s.now (arrival (slice_get s.arrivals s.passed)) r) in
+    let falls : Falls labels s.passed now = subst (Falls labels s.passed) (sym x.is) (falls_out labels s.passed s.now s.now.is_reached refl fall) in (
       (not_false (is_first s.passed (names.label name)) (if_none _ _ own.0), few_back s.passed (if_none _ _ own.1), falls),
-      flows_from names labels count range es after named (behind_label labels s.passed named now) later h.1 (record {
-        is = ap (λ (b : Bool). cond b (Some (labels s.passed)) None) either ∙ ap (λ (u : Option ElementaryType). cond (met s.now come).is_reached (Some u) None) here;
-        brought = x.brought;
-      }),
+      flows_from names labels count range es (behind names (text.label line name) s) named (behind_label labels s.passed named now) (least_behind_label names labels line name es s same) h.1
+          (exact_behind_label names labels count line name es s named now same x),
     )
 flows_from names labels count range (text.action line a ∷ es) s named now same none x =
     let r = resolved names a in
     let h = both_none _ _ none in
     let right = right_from s.now.is_reached s.passed line r s.now.kind h.0 in
-    let reached = right.0 in
     let range_here = λ (n : ℕ) (e : target_of r ≡ Some n). target_in names count a n range e in (
       s.now.kind,
-      (exact_now count named s now x reached, right.1, jumps_out labels names es count r s named (target_of r) refl reached right.1 range_here x.brought same),
-      flows_from names labels count range es (moved r s) (with_target (target_of r) named) (behind_action r s.now.kind) same h.1 (record {
-        is = ap (λ (b : Bool). cond (b && goes_on r) (Some (type_after r s.now.kind)) None) (sym reached);
-        brought = brings (target_of r) s.now named s.arrivals count reached range_here x.brought;
-      }),
+      (exact_now count named s now x right.0, right.1, jumps_out labels names es count r s named (target_of r) refl right.0 right.1 range_here x.brought same),
+      flows_from names labels count range es (moved r s) (with_target (target_of r) named) (behind_action r s.now.kind) same h.1 (exact_behind_action names count range a s named now right.0 x),
     )
 flows_from names labels count range (text.block line operator negated items end ∷ es) s named now same none x =
     let b = text.block line operator negated items end in
     let h = both_none _ _ none in
-    let reached = entry_reached names s.now.is_reached s.passed line operator negated items end s.now.kind h.0 in (
+    let reached = entry_reached names 16 s.now.is_reached s.passed line operator negated items end s.now.kind h.0 in (
       s.now.kind,
-      (exact_now count named s now x reached, entry_from names s.now.is_reached s.passed b s.now.kind h.0),
-      flows_from names labels count range es (behind names b s) named (Some (option_map (gives operator) s.now.kind)) same h.1 (record {
-        is = ap (λ (x : Bool). cond x (Some (option_map (gives operator) s.now.kind)) None) (sym reached);
-        brought = x.brought;
-      }),
+      (exact_now count named s now x reached, entry_from names 16 s.now.is_reached s.passed b s.now.kind h.0),
+      flows_from names labels count range es (behind names b s) named (Some (option_map (gives operator) s.now.kind)) same h.1 (exact_behind_block names count line operator negated items end s named now reached x),
     )
 
 -- ---- a program
@@ -653,7 +698,7 @@ labels_within from (text.label line other ∷ es) name n e = within_case from li
 labels_within from (text.action line a ∷ es) name n e = labels_within from es name n e
 labels_within from (text.block line operator negated items end ∷ es) name n e = labels_within from es name n e
 
-first_labels : (es : List text.Entry) (name : List ℕ) (n : ℕ) → looked_up (labels_from 0 es) name ≡ Some n → n < length (labels_from 0 es)
+pub first_labels : (es : List text.Entry) (name : List ℕ) (n : ℕ) → looked_up (labels_from 0 es) name ≡ Some n → n < length (labels_from 0 es)
 first_labels es name n e = let h = labels_within 0 es name n e in omega arith
 
 -- the start of a program is what the checks and any labelling begin with

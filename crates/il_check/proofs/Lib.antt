@@ -1,11 +1,14 @@
 pub mod ApartLemmas
 pub mod CheckedLemmas
+pub mod DeclaredLemmas
 pub mod EntryLemmas
+pub mod GivenLemmas
 pub mod LabelLemmas
 pub mod LabellingLemmas
 pub mod NameLemmas
 pub mod NotedLemmas
 pub mod StandingLemmas
 pub mod TakenLemmas
+pub mod TypedLemmas
 pub mod ViewLemmas
 pub mod WalkLemmas

@@ -28,7 +28,7 @@ option_ahead : {X : Type 0} → (o : Option X) (xs ys : List X) → cons_option 
 option_ahead None xs ys = refl
 option_ahead (Some x) xs ys = refl
 
-filter_map-more : {X Y : Type 0} → (f : X → Option Y) (xs : List X) (x : X) → filter_map f (xs ++ x ∷ []) ≡ filter_map f xs ++ option_to_list (f x)
+pub filter_map-more : {X Y : Type 0} → (f : X → Option Y) (xs : List X) (x : X) → filter_map f (xs ++ x ∷ []) ≡ filter_map f xs ++ option_to_list (f x)
 filter_map-more f [] x = one_option (f x)
 filter_map-more {X} {Y} f (y ∷ ys) x =
     ap (λ (zs : List Y). cons_option (f y) zs) (filter_map-more f ys x) ∙ option_ahead (f y) (filter_map f ys) (option_to_list (f x))

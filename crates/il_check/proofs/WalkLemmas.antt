@@ -1,5 +1,6 @@
 -- One item more.
-use Rattle.std.proofs.Common.{◌≡◌, ℕ, ◌+◌, ◌<◌, ◌≤◌, Bool, List, [], ◌∷◌, ◌++◌, length, map, drop, get_or, Option, Some, None, refl, ap, sym, ◌∙◌, arith, append_assoc, append-nil}
+use Rattle.std.proofs.Common.{◌≡◌, ℕ, ◌+◌, ◌<◌, ◌≤◌, ◌==◌, Bool, true, false, cond, List, [], ◌∷◌, ◌++◌, length, map, drop, get_or, Option, Some, None, refl, ap, sym, ◌∙◌, arith, append_assoc, append-nil}
+use Rattle.std.proofs.lemmas.Bool.Decides.{nat_tests}
 use Rattle.std.proofs.lemmas.Grind.{common_steps}
 use Rattle.std.specs.List.{cons_option}
 use Rattle.std.specs.Option.{option_to_list}
@@ -18,10 +19,25 @@ use Rattle.il_check.specs.declared.walk.Walk.{Walk}
 use Rattle.il_check.specs.declared.walk.Passed.{Passed}
 use Rattle.il_check.specs.declared.typed.TypedEntry.{TypedEntry}
 use Rattle.il_check.specs.declared.fault.CheckFault.{CheckFault}
+use Rattle.il_check.specs.declared.fault.CheckFault.TheVariants.{TooMany}
 use Rattle.il_check.proofs.NotedLemmas.{noted-append, noted-nil}
 
 pub nothing_left : {X : Type 0} → (xs : List X) (i : ℕ) → length xs ≤ i → drop i xs ≡ []
 nothing_left xs i h = grind (arith, common_steps)
+
+no_room : (room : ℕ) → room ≡ 0 → (room == 0) ≡ true
+no_room room e = grind (arith, nat_tests)
+
+some_room : (room : ℕ) → (room ≡ 0 → ⊥) → (room == 0) ≡ false
+some_room room ne = grind (arith, nat_tests)
+
+-- the faults of a parenthesis that is too deep, and of one that is not
+pub deep_found : (a b d : Option CheckFault) (room line : ℕ) (xs ys : List CheckFault) → room ≡ 0 → b ≡ noted a xs → d ≡ noted b (TooMany line ∷ []) → d ≡ noted a (xs ++ cond (room == 0) (TooMany line ∷ []) ys)
+deep_found a b d room line xs ys none e f =
+    f ∙ ap (λ (o : Option CheckFault). noted o (TooMany line ∷ [])) e ∙ sym (noted-append a xs (TooMany line ∷ [])) ∙ ap (λ (t : Bool). noted a (xs ++ cond t (TooMany line ∷ []) ys)) (sym (no_room room none))
+
+pub looked_found : (a d : Option CheckFault) (room line : ℕ) (xs ys : List CheckFault) → (room ≡ 0 → ⊥) → d ≡ noted a (xs ++ ys) → d ≡ noted a (xs ++ cond (room == 0) (TooMany line ∷ []) ys)
+looked_found a d room line xs ys some e = e ∙ ap (λ (t : Bool). noted a (xs ++ cond t (TooMany line ∷ []) ys)) (sym (some_room room some))
 
 -- entries before others
 abbrev pub ahead : List plain.Entry → plain.Entries → plain.Entries
@@ -44,30 +60,30 @@ cons_after xs (Some x) rest = append_assoc xs (x ∷ []) rest
 rest_of : List Item → ℕ → text.Entries
 rest_of all i = text.entries_of (map entry_of (drop i all))
 
-module _ (names : Names) (is_reached : Bool) (passed : ℕ) (all : List Item) (begun : Option CheckFault) where
+module _ (names : Names) (room : ℕ) (is_reached : Bool) (passed : ℕ) (all : List Item) (begun : Option CheckFault) where
   entries : text.Entries
   entries = text.entries_of (map entry_of all)
 
   -- what is known after so many entries
   pub record EntriesSoFar (i : ℕ) (now : Option CheckFault) (p : Passed) : Type 0 where
     pub kind : type_behind_all names (text.entries_of (map entry_of (drop i all))) p.kind ≡ type_behind_all names (text.entries_of (map entry_of all)) None
-    pub left : ahead (map entry_view p.entries.items) (entries_left names (text.entries_of (map entry_of (drop i all))) p.kind) ≡ entries_left names (text.entries_of (map entry_of all)) None
-    pub found : noted now (entries_faults names is_reached passed (text.entries_of (map entry_of (drop i all))) p.kind)
-        ≡ noted begun (entries_faults names is_reached passed (text.entries_of (map entry_of all)) None)
+    pub left : ahead (map entry_view p.entries.items) (entries_left names room (text.entries_of (map entry_of (drop i all))) p.kind) ≡ entries_left names room (text.entries_of (map entry_of all)) None
+    pub found : noted now (entries_faults names room is_reached passed (text.entries_of (map entry_of (drop i all))) p.kind)
+        ≡ noted begun (entries_faults names room is_reached passed (text.entries_of (map entry_of all)) None)
 
   -- what an entry changes
   pub record EntryTaken (e : text.Entry) (old new : Option CheckFault) (p q : Passed) : Type 0 where
     pub kind : q.kind ≡ type_behind names e p.kind
-    pub left : map entry_view q.entries.items ≡ map entry_view p.entries.items ++ option_to_list (entry_left names e p.kind)
-    pub found : new ≡ noted old (entry_faults names is_reached passed e p.kind)
+    pub left : map entry_view q.entries.items ≡ map entry_view p.entries.items ++ option_to_list (entry_left names room e p.kind)
+    pub found : new ≡ noted old (entry_faults names room is_reached passed e p.kind)
 
   pub entries-none : (p : Passed) → p.entries.items ≡ [] → p.kind ≡ None → EntriesSoFar 0 begun p
   entries-none p nothing unset = record {
     kind = ap (type_behind_all names (text.entries_of (map entry_of all))) unset;
     left =
-        ap (λ (es : List TypedEntry). ahead (map entry_view es) (entries_left names (text.entries_of (map entry_of all)) p.kind)) nothing
-        ∙ ap (entries_left names (text.entries_of (map entry_of all))) unset;
-    found = ap (λ (k : Option ElementaryType). noted begun (entries_faults names is_reached passed (text.entries_of (map entry_of all)) k)) unset;
+        ap (λ (es : List TypedEntry). ahead (map entry_view es) (entries_left names room (text.entries_of (map entry_of all)) p.kind)) nothing
+        ∙ ap (entries_left names room (text.entries_of (map entry_of all))) unset;
+    found = ap (λ (k : Option ElementaryType). noted begun (entries_faults names room is_reached passed (text.entries_of (map entry_of all)) k)) unset;
   }
 
   pub entries-more : (i : ℕ) (x : Item) (old new : Option CheckFault) (p q : Passed) → i < length all → x ≡ get_or all i x
@@ -81,16 +97,16 @@ module _ (names : Names) (is_reached : Bool) (passed : ℕ) (all : List Item) (b
             ∙ ap (λ (es : text.Entries). type_behind_all names es p.kind) (sym left)
             ∙ known.kind;
         left =
-            ap (λ (k : Option ElementaryType). ahead (map entry_view q.entries.items) (entries_left names after k)) taken.kind
-            ∙ ap (λ (es : List plain.Entry). ahead es (entries_left names after (type_behind names (entry_of x) p.kind))) taken.left
-            ∙ ahead-option (map entry_view p.entries.items) (entry_left names (entry_of x) p.kind) (entries_left names after (type_behind names (entry_of x) p.kind))
-            ∙ ap (λ (es : text.Entries). ahead (map entry_view p.entries.items) (entries_left names es p.kind)) (sym left)
+            ap (λ (k : Option ElementaryType). ahead (map entry_view q.entries.items) (entries_left names room after k)) taken.kind
+            ∙ ap (λ (es : List plain.Entry). ahead es (entries_left names room after (type_behind names (entry_of x) p.kind))) taken.left
+            ∙ ahead-option (map entry_view p.entries.items) (entry_left names room (entry_of x) p.kind) (entries_left names room after (type_behind names (entry_of x) p.kind))
+            ∙ ap (λ (es : text.Entries). ahead (map entry_view p.entries.items) (entries_left names room es p.kind)) (sym left)
             ∙ known.left;
         found =
-            ap (λ (k : Option ElementaryType). noted new (entries_faults names is_reached passed after k)) taken.kind
-            ∙ ap (λ (o : Option CheckFault). noted o (entries_faults names is_reached passed after (type_behind names (entry_of x) p.kind))) taken.found
-            ∙ sym (noted-append old (entry_faults names is_reached passed (entry_of x) p.kind) (entries_faults names is_reached passed after (type_behind names (entry_of x) p.kind)))
-            ∙ ap (λ (es : text.Entries). noted old (entries_faults names is_reached passed es p.kind)) (sym left)
+            ap (λ (k : Option ElementaryType). noted new (entries_faults names room is_reached passed after k)) taken.kind
+            ∙ ap (λ (o : Option CheckFault). noted o (entries_faults names room is_reached passed after (type_behind names (entry_of x) p.kind))) taken.found
+            ∙ sym (noted-append old (entry_faults names room is_reached passed (entry_of x) p.kind) (entries_faults names room is_reached passed after (type_behind names (entry_of x) p.kind)))
+            ∙ ap (λ (es : text.Entries). noted old (entries_faults names room is_reached passed es p.kind)) (sym left)
             ∙ known.found;
       }
 
@@ -100,17 +116,17 @@ module _ (names : Names) (is_reached : Bool) (passed : ℕ) (all : List Item) (b
       ap (λ (xs : List Item). type_behind_all names (text.entries_of (map entry_of xs)) p.kind) (sym (nothing_left all i within)) ∙ known.kind
 
   pub entries-left : (i : ℕ) (found : Option CheckFault) (p : Passed) → length all ≤ i → EntriesSoFar i found p
-      → plain.entries_of (map entry_view p.entries.items) ≡ entries_left names (text.entries_of (map entry_of all)) None
+      → plain.entries_of (map entry_view p.entries.items) ≡ entries_left names room (text.entries_of (map entry_of all)) None
   entries-left i found p within known =
       sym (ahead-none (map entry_view p.entries.items))
-      ∙ ap (λ (xs : List Item). ahead (map entry_view p.entries.items) (entries_left names (text.entries_of (map entry_of xs)) p.kind)) (sym (nothing_left all i within))
+      ∙ ap (λ (xs : List Item). ahead (map entry_view p.entries.items) (entries_left names room (text.entries_of (map entry_of xs)) p.kind)) (sym (nothing_left all i within))
       ∙ known.left
 
   pub entries-found : (i : ℕ) (found : Option CheckFault) (p : Passed) → length all ≤ i → EntriesSoFar i found p
-      → found ≡ noted begun (entries_faults names is_reached passed (text.entries_of (map entry_of all)) None)
+      → found ≡ noted begun (entries_faults names room is_reached passed (text.entries_of (map entry_of all)) None)
   entries-found i found p within known =
       sym (noted-nil found)
-      ∙ ap (λ (xs : List Item). noted found (entries_faults names is_reached passed (text.entries_of (map entry_of xs)) p.kind)) (sym (nothing_left all i within))
+      ∙ ap (λ (xs : List Item). noted found (entries_faults names room is_reached passed (text.entries_of (map entry_of xs)) p.kind)) (sym (nothing_left all i within))
       ∙ known.found
 
 module _ (names : Names) (all : List Item) (begun : Option CheckFault) (start : Standing) where

@@ -1,5 +1,7 @@
 -- What the declarations of a program mean (IEC 61131-3:2003, 2.4.3), and their faults.
-use Rattle.std.specs.Prelude.{ℕ, ◌+◌, pos, Bool, true, false, not, ◌&&◌, nat_le, is_some, is_none, List, [], ◌∷◌, ◌++◌, length, find, filter_map, Option, None, Some, if◌then◌else◌}
+use Rattle.std.specs.Prelude.{ℕ, ◌+◌, pos, Bool, true, false, not, ◌&&◌, nat_lt, nat_le, is_some, is_none, List, [], ◌∷◌, ◌++◌, length, find, filter_map, Option, None, Some, if◌then◌else◌}
+use Rattle.std.specs.Char.{to_ascii_uppercase}
+use Rattle.std.specs.List.{list_all}
 use Rattle.std.specs.Str.{bytes_eq}
 use Rattle.bay_base.specs.Names.{upper, same_name}
 use Rattle.bay_base.specs.Types.{same_type}
@@ -15,9 +17,10 @@ use Rattle.il_text.specs.declared.program.Scope.{Scope}
 use Rattle.il_text.specs.declared.program.Scope.TheVariants.{Local, External}
 use Rattle.il_image.specs.declared.value.Value.{Value}
 use Rattle.il_image.specs.declared.value.Value.TheVariants as value
+use Rattle.il_image.specs.Images.{is_name_octet}
 use Rattle.il_image.specs.Values.{type_of}
 use Rattle.il_check.specs.Faults.{fault_if}
-use Rattle.il_check.specs.Given.{Names}
+use Rattle.il_check.specs.Given.{Names, typed_value}
 use Rattle.il_check.specs.Rules.{number_in}
 use Rattle.il_check.specs.declared.typed.External as given
 use Rattle.il_check.specs.declared.typed.Variable.{Variable}
@@ -32,20 +35,33 @@ abbrev pub is_external : Scope → Bool
 is_external Local = false
 is_external External = true
 
-abbrev pub point_of : List Point → List ℕ → Option Point
-point_of points name = find (λ p. same_name p.name name) points
+-- an octet that may stand in a name, letters in either case
+abbrev pub may_stand : ℕ → Bool
+may_stand octet = is_name_octet (to_ascii_uppercase octet)
 
-abbrev pub of_type : ElementaryType → Value → Option Value
-of_type kind v = if same_type (type_of v) kind then Some v else None
+-- 1 to 64 letters, digits and underscores
+abbrev pub is_name : List ℕ → Bool
+is_name name = (nat_lt 0 (length name) && nat_le (length name) 64) && list_all may_stand name
+
+abbrev pub named_point : List Point → List ℕ → Option Point
+named_point points name = find (λ p. same_name p.name name) points
+
+-- the point with this name; what is no name names none
+abbrev pub point_of : List Point → List ℕ → Option Point
+point_of points name = if is_name name then named_point points name else None
+
+abbrev pub of_type : ElementaryType → Option Value → Option Value
+of_type kind None = None
+of_type kind (Some v) = if same_type (type_of v) kind then Some v else None
 
 -- the value of a type that a literal is, if it is one
 abbrev pub value_in : ElementaryType → Literal → Option Value
-value_in kind (literal.Truth b) = of_type kind (value.Truth b)
+value_in kind (literal.Truth b) = of_type kind (typed_value (literal.Truth b))
 value_in kind (literal.Number z) = number_in kind z
-value_in kind (literal.Int z) = of_type kind (value.Short z)
-value_in kind (literal.Dint z) = of_type kind (value.Long z)
-value_in kind (literal.Lint z) = of_type kind (value.Wide z)
-value_in kind (literal.Time n) = of_type kind (value.Span n)
+value_in kind (literal.Int z) = of_type kind (typed_value (literal.Int z))
+value_in kind (literal.Dint z) = of_type kind (typed_value (literal.Dint z))
+value_in kind (literal.Lint z) = of_type kind (typed_value (literal.Lint z))
+value_in kind (literal.Time n) = of_type kind (typed_value (literal.Time n))
 
 -- FALSE, 0, or T#0ms
 abbrev pub default_value : ElementaryType → Value

@@ -1,5 +1,5 @@
 -- Instructions with what their names mean (IEC 61131-3:2003, 2.4.3 and 3.2).
-use Rattle.std.specs.Prelude.{ℕ, ℤ, pos, negsuc, Bool, false, not, ◌==◌, List, [], ◌∷◌, Option, None, Some}
+use Rattle.std.specs.Prelude.{ℕ, ℤ, pos, negsuc, Bool, false, not, ◌==◌, is_some, List, [], ◌∷◌, Option, None, Some, if◌then◌else◌}
 use Rattle.bay_base.specs.declared.types.ElementaryType.{ElementaryType}
 use Rattle.bay_base.specs.declared.types.ElementaryType.TheVariants as elementary
 use Rattle.il_text.specs.Listing as text
@@ -10,7 +10,7 @@ use Rattle.il_text.specs.declared.program.Output.TheVariants as output
 use Rattle.il_text.specs.declared.program.Input.{Input}
 use Rattle.il_image.specs.declared.value.Value.{Value}
 use Rattle.il_image.specs.declared.value.Value.TheVariants as value
-use Rattle.il_image.specs.Values.{type_of}
+use Rattle.il_image.specs.Values.{type_of, value_of}
 use Rattle.il_check.specs.declared.typed.TypedOperand.TheVariants as operand
 use Rattle.il_check.specs.declared.given.Meaning.{Meaning}
 use Rattle.il_check.specs.declared.given.Meaning.TheVariants as meaning
@@ -29,26 +29,31 @@ pub record Names : Type 0 where
   pub meaning : List ℕ → Option Meaning
   pub label : List ℕ → Option ℕ
 
--- a value as an operand
-abbrev pub known : Value → Given
-known v = Known (record { operand = operand.Literal v; kind = type_of v; writable = false })
-
--- a literal's value, if it has a type
+-- the value of a literal that has a type, if its number is one of the type's
 abbrev pub typed_value : Literal → Option Value
 typed_value (literal.Truth b) = Some (value.Truth b)
 typed_value (literal.Number z) = None
-typed_value (literal.Int z) = Some (value.Short z)
-typed_value (literal.Dint z) = Some (value.Long z)
-typed_value (literal.Lint z) = Some (value.Wide z)
-typed_value (literal.Time n) = Some (value.Span n)
+typed_value (literal.Int z) = value_of elementary.Int z
+typed_value (literal.Dint z) = value_of elementary.Dint z
+typed_value (literal.Lint z) = value_of elementary.Lint z
+typed_value (literal.Time n) = value_of elementary.Time (pos n)
+
+-- a literal's value as an operand; a number that is none of its type's is of no use
+abbrev pub known : Option Value → Given
+known None = Misused
+known (Some v) = Known (record { operand = operand.Literal v; kind = type_of v; writable = false })
+
+-- a number without a type, which is one of LINT at least
+abbrev pub number_given : ℤ → Given
+number_given z = if is_some (value_of elementary.Lint z) then Number z else Misused
 
 abbrev pub literal_given : Literal → Given
-literal_given (literal.Truth b) = known (value.Truth b)
-literal_given (literal.Number z) = Number z
-literal_given (literal.Int z) = known (value.Short z)
-literal_given (literal.Dint z) = known (value.Long z)
-literal_given (literal.Lint z) = known (value.Wide z)
-literal_given (literal.Time n) = known (value.Span n)
+literal_given (literal.Truth b) = known (typed_value (literal.Truth b))
+literal_given (literal.Number z) = number_given z
+literal_given (literal.Int z) = known (typed_value (literal.Int z))
+literal_given (literal.Dint z) = known (typed_value (literal.Dint z))
+literal_given (literal.Lint z) = known (typed_value (literal.Lint z))
+literal_given (literal.Time n) = known (typed_value (literal.Time n))
 
 -- a name as a variable; a timer's is none
 abbrev pub variable_given : Option Meaning → Given

@@ -1,5 +1,5 @@
 -- Well typed, in words of labels: each label has a type of the current result, or none, with which every instruction is right.
-use Rattle.std.specs.Prelude.{◌≡◌, ℕ, ◌+◌, ◌<◌, ◌==◌, ◌||◌, ◌⊎◌, Bool, true, false, is_some, List, [], ◌∷◌, Option, None, Some, option_map, if◌then◌else◌}
+use Rattle.std.specs.Prelude.{◌≡◌, ℕ, ◌+◌, ◌-◌, ◌<◌, ◌==◌, ◌||◌, ◌⊎◌, Bool, true, false, is_some, List, [], ◌∷◌, Option, None, Some, option_map, if◌then◌else◌}
 use Rattle.bay_base.specs.declared.types.ElementaryType.{ElementaryType}
 use Rattle.il_text.specs.Listing as text
 use Rattle.il_text.specs.declared.program.Operator.{Operator}
@@ -35,16 +35,17 @@ pub record IsJoined (operator : Operator) (negated : Bool) (inner result : Optio
   pub set : joins_unset inner result ≡ false
 
 abbrev mutual
-  -- A parenthesis begins with a result that is not set.
-  pub IsRightEntry : Names → ℕ → text.Entry → Option ElementaryType → Type 0
-  IsRightEntry names passed (text.label line name) result = Unit {0}
-  IsRightEntry names passed (text.action line a) result = IsRight passed (resolved names a) result
-  IsRightEntry names passed (text.block line operator negated items end) result =
-      AreRightEntries names passed items None × IsJoined operator negated (type_behind_all names items None) result
+  -- An entry is right, in which so many parentheses may stand within one another. A parenthesis begins with a result that is
+  -- not set.
+  pub IsRightEntry : Names → ℕ → ℕ → text.Entry → Option ElementaryType → Type 0
+  IsRightEntry names room passed (text.label line name) result = Unit {0}
+  IsRightEntry names room passed (text.action line a) result = IsRight passed (resolved names a) result
+  IsRightEntry names room passed (text.block line operator negated items end) result =
+      (0 < room) × AreRightEntries names (room - 1) passed items None × IsJoined operator negated (type_behind_all names items None) result
 
-  pub AreRightEntries : Names → ℕ → text.Entries → Option ElementaryType → Type 0
-  AreRightEntries names passed text.no_entries result = Unit {0}
-  AreRightEntries names passed (text.entry e es) result = IsRightEntry names passed e result × AreRightEntries names passed es (type_behind names e result)
+  pub AreRightEntries : Names → ℕ → ℕ → text.Entries → Option ElementaryType → Type 0
+  AreRightEntries names room passed text.no_entries result = Unit {0}
+  AreRightEntries names room passed (text.entry e es) result = IsRightEntry names room passed e result × AreRightEntries names room passed es (type_behind names e result)
 
 -- ---- the items
 
@@ -91,7 +92,7 @@ Flows names labels (text.action line a ∷ es) passed named now =
     × Flows names labels es passed (with_target (target_of (resolved names a)) named) (behind_action (resolved names a) t)
 Flows names labels (text.block line operator negated items end ∷ es) passed named now =
     (t : Option ElementaryType)
-    × ((now ≡ Some t) × IsRightEntry names passed (text.block line operator negated items end) t)
+    × ((now ≡ Some t) × IsRightEntry names 16 passed (text.block line operator negated items end) t)
     × Flows names labels es passed named (Some (option_map (gives operator) t))
 
 -- With some labelling every instruction is right. A program begins with a result that is not set.

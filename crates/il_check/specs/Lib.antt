@@ -13,6 +13,7 @@ pub mod ProgramViews
 pub mod Rules
 pub mod Sound
 pub mod Standing
+pub mod TypedProgram
 pub mod Typing
 pub mod WalkView
 pub mod WellTyped

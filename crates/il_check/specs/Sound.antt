@@ -1,10 +1,12 @@
--- What holds of each checked program: it is what the checks make of some program that has no fault, and its names differ.
+-- What holds of each checked program: it is what the checks make of some program that has no fault, its names differ, and it
+-- is well typed.
 use Rattle.std.specs.Prelude.{◌≡◌, ℕ, ◌<◌, false, List, [], ◌++◌, length, map, slice_index_or, Ok}
 use Rattle.bay_base.specs.Names.{same_name}
 use Rattle.bay_config.specs.declared.bay.Point.{Point}
 use Rattle.il_text.specs.Listing as text
 use Rattle.il_check.specs.Checking.{checked_of}
 use Rattle.il_check.specs.Program.{Checked}
+use Rattle.il_check.specs.TypedProgram.{IsTyped}
 
 -- the names of the slots: of the externals, then of the variables
 abbrev pub slot_names : Checked → List (List ℕ)
@@ -24,3 +26,4 @@ WasChecked c = (points : List Point) × (program : text.PlainProgram) × (checke
 pub record IsSound (c : Checked) : Type 0 where
   pub checked : WasChecked c
   pub apart : AreApart (slot_names c)
+  pub typed : IsTyped c

@@ -1,6 +1,6 @@
 -- What is wrong with the instructions of a program (IEC 61131-3:2003, 3.2), with the least types of the
 -- current result that what stands before allows; and what is left of one without a fault.
-use Rattle.std.specs.Prelude.{ℕ, ◌+◌, Bool, true, false, not, ◌&&◌, nat_lt, nat_le, List, [], ◌∷◌, ◌++◌, slice_get, slice_set, Option, None, Some, option_map, if◌then◌else◌}
+use Rattle.std.specs.Prelude.{ℕ, ◌+◌, ◌-◌, ◌==◌, Bool, true, false, not, ◌&&◌, nat_lt, nat_le, List, [], ◌∷◌, ◌++◌, slice_get, slice_set, Option, None, Some, option_map, if◌then◌else◌}
 use Rattle.std.specs.List.{cons_option}
 use Rattle.bay_base.specs.declared.types.ElementaryType.{ElementaryType}
 use Rattle.bay_base.specs.Types.{same_type}
@@ -58,30 +58,33 @@ type_behind_all names text.no_entries result = result
 type_behind_all names (text.entry e es) result = type_behind_all names es (type_behind names e result)
 
 abbrev mutual
-  -- the faults of an entry; a parenthesis begins with a result that is not set
-  pub entry_faults : Names → Bool → ℕ → text.Entry → Option ElementaryType → List CheckFault
-  entry_faults names is_reached passed (text.label line name) result = []
-  entry_faults names is_reached passed (text.action line a) result = instruction_faults is_reached passed line (resolved names a) result
-  entry_faults names is_reached passed (text.block line operator negated items end) result =
+  -- The faults of an entry, in which so many parentheses may stand within one another. A parenthesis begins with a result
+  -- that is not set; of one too deep, what is in it and its end are not judged.
+  pub entry_faults : Names → ℕ → Bool → ℕ → text.Entry → Option ElementaryType → List CheckFault
+  entry_faults names room is_reached passed (text.label line name) result = []
+  entry_faults names room is_reached passed (text.action line a) result = instruction_faults is_reached passed line (resolved names a) result
+  entry_faults names room is_reached passed (text.block line operator negated items end) result =
       opening_faults is_reached line operator
-      ++ (entries_faults names is_reached passed items None
-      ++ closing_faults is_reached end operator negated (type_behind_all names items None) result)
+      ++ (if room == 0 then TooMany line ∷ []
+      else (entries_faults names (room - 1) is_reached passed items None
+      ++ closing_faults is_reached end operator negated (type_behind_all names items None) result))
 
-  pub entries_faults : Names → Bool → ℕ → text.Entries → Option ElementaryType → List CheckFault
-  entries_faults names is_reached passed text.no_entries result = []
-  entries_faults names is_reached passed (text.entry e es) result =
-      entry_faults names is_reached passed e result ++ entries_faults names is_reached passed es (type_behind names e result)
+  pub entries_faults : Names → ℕ → Bool → ℕ → text.Entries → Option ElementaryType → List CheckFault
+  entries_faults names room is_reached passed text.no_entries result = []
+  entries_faults names room is_reached passed (text.entry e es) result =
+      entry_faults names room is_reached passed e result ++ entries_faults names room is_reached passed es (type_behind names e result)
 
 abbrev mutual
   -- what is left of an entry; the grammar has no label, jump, return or call within a parenthesis
-  pub entry_left : Names → text.Entry → Option ElementaryType → Option plain.Entry
-  entry_left names (text.label line name) result = None
-  entry_left names (text.action line a) result = entry_in (resolved names a) result
-  entry_left names (text.block line operator negated items end) result = block_in operator negated (entries_left names items None) result
+  pub entry_left : Names → ℕ → text.Entry → Option ElementaryType → Option plain.Entry
+  entry_left names room (text.label line name) result = None
+  entry_left names room (text.action line a) result = entry_in (resolved names a) result
+  entry_left names room (text.block line operator negated items end) result =
+      block_in operator negated (if room == 0 then plain.no_entries else entries_left names (room - 1) items None) result
 
-  pub entries_left : Names → text.Entries → Option ElementaryType → plain.Entries
-  entries_left names text.no_entries result = plain.no_entries
-  entries_left names (text.entry e es) result = plain.entry_before (entry_left names e result) (entries_left names es (type_behind names e result))
+  pub entries_left : Names → ℕ → text.Entries → Option ElementaryType → plain.Entries
+  entries_left names room text.no_entries result = plain.no_entries
+  entries_left names room (text.entry e es) result = plain.entry_before (entry_left names room e result) (entries_left names room es (type_behind names e result))
 
 abbrev pub same_result : Option ElementaryType → Option ElementaryType → Bool
 same_result (Some a) (Some b) = same_type a b
@@ -158,11 +161,12 @@ abbrev pub label_faults : ℕ → Option ℕ → ℕ → List CheckFault
 label_faults line number passed =
     fault_if (not (is_first passed number)) (DuplicateName line) ++ fault_if (nat_le 256 passed) (TooMany line)
 
+-- 16 parentheses at most stand within one another
 abbrev pub item_faults : Names → text.Entry → Standing → List CheckFault
 item_faults names (text.label line name) s = label_faults line (names.label name) s.passed
 item_faults names (text.action line a) s = instruction_faults s.now.is_reached s.passed line (resolved names a) s.now.kind
 item_faults names (text.block line operator negated items end) s =
-    entry_faults names s.now.is_reached s.passed (text.block line operator negated items end) s.now.kind
+    entry_faults names 16 s.now.is_reached s.passed (text.block line operator negated items end) s.now.kind
 
 abbrev pub items_faults : Names → List text.Entry → Standing → List CheckFault
 items_faults names [] s = []
@@ -173,7 +177,7 @@ abbrev pub item_left : Names → text.Entry → Standing → Option plain.Item
 item_left names (text.label line name) s = Some (plain.label s.passed)
 item_left names (text.action line a) s = item_in (resolved names a) s.now.kind
 item_left names (text.block line operator negated items end) s =
-    option_map plain.plain (block_in operator negated (entries_left names items None) s.now.kind)
+    option_map plain.plain (entry_left names 16 (text.block line operator negated items end) s.now.kind)
 
 abbrev pub items_left : Names → List text.Entry → Standing → List plain.Item
 items_left names [] s = []

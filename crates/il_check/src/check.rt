@@ -23,9 +23,13 @@ use std::alloc::Global;
 /// is wanted, and each type is the one that is wanted (72); the current result is set where it is used (73);
 /// a jump goes to a label (75) that stands below (74); the instruction can be reached (76); what it stores
 /// into may be written (77); a divisor is a literal other than 0 (78). No two labels have one name (71), and
-/// there are at most 256 (79). Where ways with different types of the result meet, it is not set. Where an
-/// instruction can't be reached, its types and the result are not judged. The case of letters in names isn't
-/// significant.
+/// there are at most 256 (79). At most 16 parentheses stand within one another: the 17th is 79, and what is in
+/// it isn't judged. Where ways with different types of the result meet, it is not set. Where an instruction
+/// can't be reached, its types and the result are not judged. The case of letters in names isn't significant.
+///
+/// A program that no text gives may have a literal whose number is none of its type's, which fits nothing
+/// (72), or an external whose name is no name, of 1 to 64 letters, digits and underscores, which is no
+/// point's (70).
 ///
 /// The answer is the typed program, or of the first faulty line the fault of the lowest number
 /// (IEC 61131-3:2003, 2.4.3 and 3.2). A name that is looked up takes no memory.

@@ -1,6 +1,7 @@
 // The declarations of a program (IEC 61131-3:2003, 2.4.3): what names mean, and what is wrong.
 ghost use Rattle.std.specs.Prelude.{◌≡◌, ℕ, List, [], ◌∷◌, ◌++◌, map, vec_len, length, is_some, option_copied, option_map, IfOk, OnOk, string_bytes};
 ghost use Rattle.std.specs.BTreeMap.{get_by_text};
+ghost use Rattle.std.specs.List.{list_all};
 ghost use Rattle.std.specs.Option.{option_to_list};
 ghost use Rattle.bay_base.specs.Names as names;
 ghost use Rattle.il_text.specs.Views.{declared_of};
@@ -13,6 +14,7 @@ use crate::fault::CheckFault;
 use crate::given::Meaning;
 use crate::names::{add_meaning, upper_case};
 use crate::note::note_if;
+use crate::resolve::typed_value;
 use crate::rules::number_in;
 use crate::typed::{External, Slot, Timer, Variable};
 use bay_base::names::same_name;
@@ -41,13 +43,47 @@ pub(crate) struct Declarations {
     pub(crate) found: Option<CheckFault>,
 }
 
-/// The point with this name.
-fn point_of<'a>(points: &'a [Point], name: &str) -> Option<&'a Point>
-    ensures { option_copied result ≡ spec.point_of points.now name.now }
+/// The most characters of a name.
+const MAX_NAME: usize = 64;
+
+/// Whether an octet may stand in a name, letters in either case.
+fn may_stand(octet: u8) -> bool
+    ensures { result ≡ spec.may_stand octet }
+{
+    matches!(octet.to_ascii_uppercase(), b'A'..=b'Z' | b'0'..=b'9' | b'_')
+}
+
+fn all_may_stand(octets: &[u8]) -> bool
+    ensures { result ≡ list_all spec.may_stand octets.now }
+{
+    octets.iter().all(|octet| may_stand(*octet))
+}
+
+/// Whether this is 1 to 64 letters, digits and underscores.
+fn is_name(name: &str) -> bool
+    ensures { result ≡ spec.is_name name.now }
+{
+    let octets = name.as_bytes();
+    0 < octets.len() && octets.len() <= MAX_NAME && all_may_stand(octets)
+}
+
+fn named_point<'a>(points: &'a [Point], name: &str) -> Option<&'a Point>
+    ensures { option_copied result ≡ spec.named_point points.now name.now }
 {
     points
         .iter()
         .find(|point| same_name(point.name.as_str(), name))
+}
+
+/// The point with this name; what is no name names none.
+fn point_of<'a>(points: &'a [Point], name: &str) -> Option<&'a Point>
+    ensures { option_copied result ≡ spec.point_of points.now name.now }
+{
+    if is_name(name) {
+        named_point(points, name)
+    } else {
+        None
+    }
 }
 
 fn is_external(scope: Scope) -> bool
@@ -59,13 +95,12 @@ fn is_external(scope: Scope) -> bool
     }
 }
 
-fn of_type(kind: ElementaryType, value: Value) -> Option<Value>
+fn of_type(kind: ElementaryType, value: Option<Value>) -> Option<Value>
     ensures { result ≡ spec.of_type kind value }
 {
-    if value.type_of().is(kind) {
-        Some(value)
-    } else {
-        None
+    match value {
+        Some(value) if value.type_of().is(kind) => Some(value),
+        _ => None,
     }
 }
 
@@ -74,12 +109,8 @@ fn value_in(kind: ElementaryType, literal: Literal) -> Option<Value>
     ensures { result ≡ spec.value_in kind literal }
 {
     match literal {
-        Literal::Truth(truth) => of_type(kind, Value::Truth(truth)),
         Literal::Number(number) => number_in(kind, number),
-        Literal::Int(number) => of_type(kind, Value::Short(number)),
-        Literal::Dint(number) => of_type(kind, Value::Long(number)),
-        Literal::Lint(number) => of_type(kind, Value::Wide(number)),
-        Literal::Time(milliseconds) => of_type(kind, Value::Span(milliseconds)),
+        _ => of_type(kind, typed_value(literal)),
     }
 }
 

@@ -36,8 +36,9 @@ pub enum CheckFault {
     /// A divisor is not a literal, or is 0.
     #[error("the divisor is not a literal other than 0")]
     ZeroDivisor { line: usize },
-    /// More than 512 variables, 64 timers or 256 labels are declared.
-    #[error("too many names are declared")]
+    /// More than 512 variables, 64 timers or 256 labels are declared, or more than 16 parentheses stand within
+    /// one another.
+    #[error("too many names are declared, or parentheses are too deep")]
     TooMany { line: usize },
     /// There is not enough memory for the program.
     #[error("out of memory")]

@@ -26,11 +26,13 @@ fn is_first(passed: usize, number: Option<usize>) -> bool
 /// The most labels that a program may have.
 const MAX_LABELS: usize = 256;
 
-/// Where an instruction stands: whether it can be reached, and behind how many labels.
+/// Where an instruction stands: whether it can be reached, behind how many labels, and how many parentheses
+/// may yet stand around it within one another.
 #[derive(Clone, Copy, Debug, PartialEq, Eq)]
 pub(crate) struct Place {
     pub(crate) is_reached: bool,
     pub(crate) passed: usize,
+    pub(crate) room: usize,
 }
 
 #[tactic(auto, using(crate::proofs::NotedLemmas::note_rules))]

@@ -84,7 +84,8 @@ impl Typed {
         self.timers.as_slice()
     }
 
-    /// The items, in the order of the text. The program is what the checks make of one without a fault.
+    /// The items, in the order of the text. The program is what the checks make of one without a fault, and it
+    /// is well typed.
     pub fn items(&self) -> &[TypedItem]
         ensures value { result.now ≡ self.now.items }
         ensures sound { IsSound (checked_view self.now) }

@@ -14,26 +14,50 @@ use il_image::value::Value;
 use il_text::program::{Argument, Arguments, Instruction, Literal, Operand, Output, Variable};
 use std::alloc::AllocError;
 
-fn known(value: Value) -> Given
-    ensures { result ≡ spec.known value }
+/// The value of a literal that has a type, if its number is one of the type's. A TIME is at most
+/// 2,147,483,647 ms.
+pub(crate) fn typed_value(literal: Literal) -> Option<Value>
+    ensures { result ≡ spec.typed_value literal }
 {
-    Given::Known(Source {
-        operand: TypedOperand::Literal(value),
-        kind: value.type_of(),
-        writable: false,
-    })
+    match literal {
+        Literal::Truth(truth) => Some(Value::Truth(truth)),
+        Literal::Number(_) => None,
+        Literal::Int(number) => Value::of(ElementaryType::Int, i64::from(number)),
+        Literal::Dint(number) => Value::of(ElementaryType::Dint, i64::from(number)),
+        Literal::Lint(number) => Value::of(ElementaryType::Lint, number),
+        Literal::Time(milliseconds) => Value::of(ElementaryType::Time, i64::from(milliseconds)),
+    }
 }
 
-pub(crate) fn literal_given(literal: Literal) -> Given
+fn known(value: Option<Value>) -> Given
+    ensures { result ≡ spec.known value }
+{
+    match value {
+        Some(value) => Given::Known(Source {
+            operand: TypedOperand::Literal(value),
+            kind: value.type_of(),
+            writable: false,
+        }),
+        None => Given::Misused,
+    }
+}
+
+fn number_given(number: i64) -> Given
+    ensures { result ≡ spec.number_given number }
+{
+    if Value::of(ElementaryType::Lint, number).is_some() {
+        Given::Number(number)
+    } else {
+        Given::Misused
+    }
+}
+
+fn literal_given(literal: Literal) -> Given
     ensures { result ≡ spec.literal_given literal }
 {
     match literal {
-        Literal::Truth(truth) => known(Value::Truth(truth)),
-        Literal::Number(number) => Given::Number(number),
-        Literal::Int(number) => known(Value::Short(number)),
-        Literal::Dint(number) => known(Value::Long(number)),
-        Literal::Lint(number) => known(Value::Wide(number)),
-        Literal::Time(milliseconds) => known(Value::Span(milliseconds)),
+        Literal::Number(number) => number_given(number),
+        _ => known(typed_value(literal)),
     }
 }
 

@@ -17,6 +17,7 @@ use crate::fault::CheckFault;
 use crate::given::Resolved;
 use crate::judge::{Closing, Place, note_closing, note_instruction, note_label, note_opening};
 use crate::names::Names;
+use crate::note::note_if;
 use crate::reach::{Reach, met, unreached};
 use crate::rules::{given_type, goes_on, target_of, type_after};
 use crate::typed::{TypedEntry, TypedItem};
@@ -24,6 +25,9 @@ use crate::typing::{operation_in, transfer_in};
 use bay_base::types::ElementaryType;
 use il_text::program::{Instruction, Item, Operator};
 use std::alloc::{AllocError, Global};
+
+/// The most parentheses that may stand within one another.
+const MAX_DEPTH: usize = 16;
 
 /// What is kept from item to item: the fault that is answered, if there is one so far, and a buffer for
 /// names that are looked up.
@@ -78,9 +82,9 @@ impl Judge {
         items: &[Item<'_>],
     ) -> Result<Passed, AllocError>
         ensures kind { IfOk result (λ p. p.kind ≡ spec.type_behind_all (names_of names.now) (text.entries_of (map entry_of items.now)) None) }
-        ensures left { IfOk result (λ p. plain.entries_of (map entry_view p.entries.items) ≡ spec.entries_left (names_of names.now) (text.entries_of (map entry_of items.now)) None) }
+        ensures left { IfOk result (λ p. plain.entries_of (map entry_view p.entries.items) ≡ spec.entries_left (names_of names.now) place.room (text.entries_of (map entry_of items.now)) None) }
         ensures found { OnOk result (self.new.found
-            ≡ noted self.old.found (spec.entries_faults (names_of names.now) place.is_reached place.passed (text.entries_of (map entry_of items.now)) None)) }
+            ≡ noted self.old.found (spec.entries_faults (names_of names.now) place.room place.is_reached place.passed (text.entries_of (map entry_of items.now)) None)) }
     {
         let mut passed = Passed {
             entries: Vec::new(self.alloc),
@@ -104,9 +108,9 @@ impl Judge {
     ) -> Result<(), AllocError>
         ensures kind { OnOk result (passed.new.kind ≡ spec.type_behind (names_of names.now) (entry_of item.now) passed.old.kind) }
         ensures left { OnOk result (map entry_view passed.new.entries.items
-            ≡ map entry_view passed.old.entries.items ++ option_to_list (spec.entry_left (names_of names.now) (entry_of item.now) passed.old.kind)) }
+            ≡ map entry_view passed.old.entries.items ++ option_to_list (spec.entry_left (names_of names.now) place.room (entry_of item.now) passed.old.kind)) }
         ensures found { OnOk result (self.new.found
-            ≡ noted self.old.found (spec.entry_faults (names_of names.now) place.is_reached place.passed (entry_of item.now) passed.old.kind)) }
+            ≡ noted self.old.found (spec.entry_faults (names_of names.now) place.room place.is_reached place.passed (entry_of item.now) passed.old.kind)) }
     {
         match item {
             Item::Label { .. } => Ok(()),
@@ -133,7 +137,8 @@ impl Judge {
         }
     }
 
-    /// A parenthesis: what is left of it on a result of this type, if that is set.
+    /// A parenthesis: what is left of it on a result of this type, if that is set. One that is too deep isn't
+    /// looked into.
     #[cycle(entries)]
     fn block(
         &mut self,
@@ -144,9 +149,9 @@ impl Judge {
         kind: Option<ElementaryType>,
     ) -> Result<Option<TypedEntry>, AllocError>
         ensures left { IfOk result (λ b. option_map entry_view b
-            ≡ typing.block_in frame.operator frame.negated (spec.entries_left (names_of names.now) (text.entries_of (map entry_of items.now)) None) kind) }
+            ≡ spec.entry_left (names_of names.now) place.room (text.block frame.line frame.operator frame.negated (text.entries_of (map entry_of items.now)) frame.end) kind) }
         ensures found { OnOk result (self.new.found
-            ≡ noted self.old.found (spec.entry_faults (names_of names.now) place.is_reached place.passed
+            ≡ noted self.old.found (spec.entry_faults (names_of names.now) place.room place.is_reached place.passed
             (text.block frame.line frame.operator frame.negated (text.entries_of (map entry_of items.now)) frame.end) kind)) }
     {
         let Frame {
@@ -156,7 +161,16 @@ impl Judge {
             end,
         } = frame;
         self.found = note_opening(self.found, place.is_reached, line, operator);
-        let inner = self.entries(names, place, items)?;
+        if place.room == 0 {
+            self.found = note_if(self.found, true, CheckFault::TooMany { line });
+            return Ok(block_of(operator, negated, Vec::new(self.alloc), kind));
+        }
+        let within = Place {
+            is_reached: place.is_reached,
+            passed: place.passed,
+            room: place.room - 1,
+        };
+        let inner = self.entries(names, within, items)?;
         let closing = Closing {
             operator,
             negated,
@@ -229,11 +243,12 @@ pub(crate) struct Walk {
 
 impl Walk {
     fn place(&self) -> Place
-        ensures { result ≡ record { is_reached = self.now.reach.is_reached; passed = self.now.passed } }
+        ensures { result ≡ record { is_reached = self.now.reach.is_reached; passed = self.now.passed; room = 16 } }
     {
         Place {
             is_reached: self.reach.is_reached,
             passed: self.passed,
+            room: MAX_DEPTH,
         }
     }
 

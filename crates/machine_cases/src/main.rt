@@ -1,12 +1,19 @@
-// Verifies the images that come on standard input, and scans them, and prints how many images and scans there were; the
+// Verifies the images that come on standard input, compiles the programs, and scans them, and prints how many there were; the
 // first that comes out otherwise than it says is told, and the program fails.
 //
 // A line is a note behind `#`; `front HEX`, what images begin with, up to their code's length, until another takes its
 // place; an image's verdict and its code: `accepted DEPTH BUDGET CODE`, `refused NUMBER PLACE CODE`, with `-` for no
 // code; `machine CODE`, the machine that is scanned from then on; or a scan of it: `scan MS STEPS INPUTS OUTPUTS`, with
 // the numbers of the values parted by commas, and `-` for none.
+//
+// Of programs: `= TEXT`, what the next ones declare; `report INSTRUCTIONS DEPTH BUDGET LINES`, a program's report, and its
+// machine is scanned from then on; `image HEX LINES`, its image's octets; `size N LINES`, how many there are; `fault CODE
+// LINES`. In a text ` / ` ends a line, and `N * LINE` is that line N times.
 #![tactic(auto)]
 
+mod programs;
+
+use crate::programs::program;
 use anyhow::{Context, Result, bail};
 use bay_config::bay::Point;
 use bay_config::read::read_bay;
@@ -17,21 +24,30 @@ use il_verify::verify::verify;
 use std::alloc::Global;
 use std::io::Read;
 
-/// A bay of two switches, QA1 and QB1.
+/// A bay of two switches, QA1 and QB1, an input ES and a meter M1.
 const BAY: &str =
     "bay = { domain = \"B\", vendor = \"V\", model = \"M\", revision = \"1\", scan_max_age_ms = 0 }
 switch = [{ id = \"QA1\", kind = \"breaker\", control = \"status\" },
  { id = \"QB1\", kind = \"disconnector\", control = \"status\" }]
+input = [{ name = \"ES\" }]
+meter = [{ id = \"M1\" }]
 ";
 
-/// What the next images begin with, in hexadecimal digits.
+/// What the lines before a line make of the next ones, and how many cases there were.
 #[derive(Drop)]
-struct Front<'a> {
-    hex: &'a str,
+struct Session {
+    /// What the next images begin with, in hexadecimal digits.
+    front: String,
+    /// What the next programs declare.
+    declared: String,
+    machine: Machine,
+    images: u32,
+    programs: u32,
+    scans: u32,
 }
 
 /// The first word of a line, and the others.
-fn first_word(line: &str) -> (&str, &str) {
+pub(crate) fn first_word(line: &str) -> (&str, &str) {
     line.split_once(" ").unwrap_or((line, ""))
 }
 
@@ -68,16 +84,16 @@ fn is_judged(
 }
 
 /// The octets of the image with this code, behind the front.
-fn image_of(alloc: Global, front: &Front, code: &str) -> Result<Vec<u8>> {
+fn image_of(alloc: Global, front: &str, code: &str) -> Result<Vec<u8>> {
     let code = octets_of(alloc, code)?;
-    let mut octets = octets_of(alloc, front.hex)?;
+    let mut octets = octets_of(alloc, front)?;
     octets.extend_from_slice(&u16::try_from(code.len())?.to_be_bytes())?;
     octets.extend_from_slice(code.as_slice())?;
     Ok(octets)
 }
 
 /// The case of a line, behind the front of its image.
-fn check(alloc: Global, points: &[Point], front: &Front, line: &str) -> Result<()> {
+fn check(alloc: Global, points: &[Point], front: &str, line: &str) -> Result<()> {
     let (verdict, rest) = first_word(line);
     let (first, rest) = first_word(rest);
     let (second, code) = first_word(rest);
@@ -91,7 +107,7 @@ fn check(alloc: Global, points: &[Point], front: &Front, line: &str) -> Result<(
 }
 
 /// The machine of the image with this code, behind the front.
-fn machine_of(alloc: Global, points: &[Point], front: &Front, code: &str) -> Result<Machine> {
+fn machine_of(alloc: Global, points: &[Point], front: &str, code: &str) -> Result<Machine> {
     let octets = image_of(alloc, front, code)?;
     match verify(alloc, decode(alloc, octets.as_slice())?, points) {
         Ok(verified) => match Machine::new(alloc, verified) {
@@ -151,35 +167,57 @@ fn scan(alloc: Global, machine: &mut Machine, line: &str) -> Result<()> {
     Ok(())
 }
 
+/// One line.
+fn case(alloc: Global, points: &[Point], session: &mut Session, line: &str) -> Result<()> {
+    let (word, rest) = first_word(line);
+    match word {
+        "#" => {}
+        "front" => session.front = String::from_str(alloc, rest)?,
+        "=" => session.declared = String::from_str(alloc, rest)?,
+        "machine" => session.machine = machine_of(alloc, points, session.front.as_str(), rest)?,
+        "scan" => {
+            scan(alloc, &mut session.machine, rest)?;
+            session.scans = session.scans.saturating_add(1);
+        }
+        "report" | "image" | "size" | "fault" => {
+            program(
+                alloc,
+                points,
+                session.declared.as_str(),
+                line,
+                &mut session.machine,
+            )?;
+            session.programs = session.programs.saturating_add(1);
+        }
+        _ => {
+            check(alloc, points, session.front.as_str(), line)?;
+            session.images = session.images.saturating_add(1);
+        }
+    }
+    Ok(())
+}
+
 fn main(rt: HostRuntime) -> Result<()> {
     let bay = read_bay(rt.alloc(), BAY)?;
     let points = bay.points.as_slice();
     let mut text = String::new(rt.alloc());
     rt.reader().read_to_string(&mut text)?;
-    let mut front = Front {
-        hex: "494c424302000000000000",
+    let front = String::from_str(rt.alloc(), "494c424302000000000000")?;
+    let machine = machine_of(rt.alloc(), points, front.as_str(), "01")?;
+    let mut session = Session {
+        front,
+        declared: String::from_str(rt.alloc(), "VAR / END_VAR")?,
+        machine,
+        images: 0,
+        programs: 0,
+        scans: 0,
     };
-    let mut machine = machine_of(rt.alloc(), points, &front, "01")?;
-    let mut images = 0u32;
-    let mut scans = 0u32;
     for line in text.as_str().lines() {
-        let (word, rest) = first_word(line);
-        match word {
-            "#" => {}
-            "front" => front.hex = rest,
-            "machine" => {
-                machine = machine_of(rt.alloc(), points, &front, rest).context(line)?;
-            }
-            "scan" => {
-                scan(rt.alloc(), &mut machine, rest).context(line)?;
-                scans = scans.saturating_add(1);
-            }
-            _ => {
-                check(rt.alloc(), points, &front, line).context(line)?;
-                images = images.saturating_add(1);
-            }
-        }
+        case(rt.alloc(), points, &mut session, line).context(line)?;
     }
-    println!(&rt; "{images} images are judged and {scans} scans come out as they should")?;
+    let (images, programs, scans) = (session.images, session.programs, session.scans);
+    println!(&rt;
+        "{images} images are judged, {programs} programs are compiled and {scans} scans come out as they should"
+    )?;
     Ok(())
 }

@@ -16,19 +16,19 @@ loop-i-preserved c =
     let within : c.loop-i.i < length slots = omega (arith, long, c.loop-i-test.true) in
     let sized : length slots ≡ length c.args.values.now = long ∙ c.requires.sized in
     let v = c.index-variables-i.result in
-    let read : c.slot_input.result ≡ slot_input c.args.tree.now c.args.switches.now (get_or slots c.loop-i.i v.origin) =
-    c.slot_input.ensures ∙ ap (slot_input c.args.tree.now c.args.switches.now) (sym (get_or-map (λ (x : Variable). x.origin) variables c.loop-i.i v)) in
+    let read : c.slot_input.result ≡ slot_input c.args.tree.now c.args.switches.now c.args.inputs.now (get_or slots c.loop-i.i v.origin) =
+    c.slot_input.ensures ∙ ap (slot_input c.args.tree.now c.args.switches.now c.args.inputs.now) (sym (get_or-map (λ (x : Variable). x.origin) variables c.loop-i.i v)) in
     elim c.match-slot_input.branch [
       | in-Some w ↦ record {
         sized = rw (w.values-is, w.set.ensures) (length-set c.loop-i.values c.loop-i.i _ ∙ c.loop-i.invariant.sized);
         read =
             rw (w.values-is, w.set.ensures, c.loop-i.invariant.read)
-            (inputs-turn c.args.tree.now c.args.switches.now slots c.args.values.now c.loop-i.i v.origin _ within sized read _ w.in-Some.is);
+            (inputs-turn c.args.tree.now c.args.switches.now c.args.inputs.now slots c.args.values.now c.loop-i.i v.origin _ within sized read _ w.in-Some.is);
       }
       | in-None w ↦ record {
         sized = rw w.values-is c.loop-i.invariant.sized;
         read =
             rw (w.values-is, c.loop-i.invariant.read)
-            (inputs-kept c.args.tree.now c.args.switches.now slots c.args.values.now c.loop-i.i v.origin _ within sized read w.in-None.is);
+            (inputs-kept c.args.tree.now c.args.switches.now c.args.inputs.now slots c.args.values.now c.loop-i.i v.origin _ within sized read w.in-None.is);
       }
     ]

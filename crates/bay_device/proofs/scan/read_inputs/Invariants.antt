@@ -6,5 +6,5 @@ use Rattle.bay_device.proofs.scan.read_inputs.Given as goal
 abbrev pub invariant-loop-i : goal.invariant-loop-i
 invariant-loop-i l = record {
   sized : length l.values ≡ length l.initial.values;
-  read : l.values ≡ inputs_put l.tree l.switches (take l.i (origins_of l.variables)) l.initial.values;
+  read : l.values ≡ inputs_put l.tree l.switches l.inputs (take l.i (origins_of l.variables)) l.initial.values;
 }

@@ -17,6 +17,7 @@ take_position-changed-requires c =
 pub invariant_of-self : goal.invariant_of-self
 invariant_of-self c = record {
   bound = rw c.take_position-changed.ensures.layout c.args.self.now.bound;
+  metered = rw c.take_position-changed.ensures.layout c.args.self.now.metered;
   sized = c.args.self.now.sized;
 }
 

@@ -16,6 +16,7 @@ write_outputs-requires c =
 pub invariant_of-self : goal.invariant_of-self
 invariant_of-self c = record {
   bound = rw c.write_outputs.ensures.layout c.args.self.now.bound;
+  metered = rw c.write_outputs.ensures.layout c.args.self.now.metered;
   sized = rw c.run_on_inputs.ensures.sized c.args.self.now.sized;
 }
 

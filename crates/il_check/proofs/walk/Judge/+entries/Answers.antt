@@ -3,23 +3,27 @@ use Rattle.il_check.specs.Faults.{noted}
 use Rattle.il_check.specs.NamesView.{names_of}
 use Rattle.il_check.specs.WellTyped.{closing_faults}
 use Rattle.il_check.proofs.NotedLemmas.{noted-after}
-use Rattle.il_check.proofs.WalkLemmas.{entries-more, entries-left}
+use Rattle.il_check.proofs.WalkLemmas.{deep_found, looked_found, entries-more, entries-left}
 use Rattle.il_check.proofs.walk.Judge.+entries.Goals as goal
 
 pub block-returns-clause-found : goal.block-returns-clause-found
 block-returns-clause-found t c =
-    noted-after _ _ _ _ _ _ _ c.note_opening-self.ensures c.in_ok-inner.ensures.found
+    looked_found _ _ c.args.place.room c.args.frame.line _ _ c.if-place-eq0.false
+    (noted-after _ _ _ _ _ _ _ c.note_opening-self.ensures c.in_ok-inner.ensures.found
     (c.note_closing-self.ensures
-    ∙ ap (λ k. noted c.entries.new.self.found (closing_faults c.args.place.is_reached c.args.frame.end c.args.frame.operator c.args.frame.negated k c.args.kind)) c.in_ok-inner.ensures.kind)
+    ∙ ap (λ k. noted c.entries.new.self.found (closing_faults c.args.place.is_reached c.args.frame.end c.args.frame.operator c.args.frame.negated k c.args.kind)) c.in_ok-inner.ensures.kind))
+
+pub block-returns-then-place-eq0-clause-found : goal.block-returns-then-place-eq0-clause-found
+block-returns-then-place-eq0-clause-found t c = deep_found _ _ _ c.args.place.room c.args.frame.line _ _ c.if-place-eq0.true c.note_opening-self.ensures c.note_if-self.ensures
 
 pub entries-loop-item-preserved : goal.entries-loop-item-preserved
 entries-loop-item-preserved t c =
-    entries-more (names_of c.args.names.now) c.args.place.is_reached c.args.place.passed c.args.items.now c.args.self.now.found
+    entries-more (names_of c.args.names.now) c.args.place.room c.args.place.is_reached c.args.place.passed c.args.items.now c.args.self.now.found
     c.loop-item.item-index c.item-item.result c.loop-item.self.found c.entry.new.self.found c.loop-item.passed c.entry.new.passed (omega arith) c.item-item.is
     c.loop-item.invariant
     (record { kind = c.in_ok-entry.ensures.kind; left = c.in_ok-entry.ensures.left; found = c.in_ok-entry.ensures.found })
 
 pub entries-returns-clause-left : goal.entries-returns-clause-left
 entries-returns-clause-left t c =
-    entries-left (names_of c.args.names.now) c.args.place.is_reached c.args.place.passed c.args.items.now c.args.self.now.found
+    entries-left (names_of c.args.names.now) c.args.place.room c.args.place.is_reached c.args.place.passed c.args.items.now c.args.self.now.found
     c.loop-item.item-index c.loop-item.self.found c.loop-item.passed (omega arith) c.loop-item.invariant

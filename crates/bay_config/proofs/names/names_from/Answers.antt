@@ -1,0 +1,38 @@
+use Rattle.std.proofs.Common.{◌≡◌, ◌<◌, ◌+◌, ◌∙◌, length, drop, ap, sym, inl, inr, Err, arith, rules}
+use Rattle.toml.specs.View.{table_view, items_view}
+use Rattle.bay_config.specs.Section.{tables_of}
+use Rattle.bay_config.specs.Bay.{name_in}
+use Rattle.bay_config.proofs.NameLemmas.{name_check}
+use Rattle.bay_config.proofs.ListLemmas.{after, read_all, turn_none, turn_some, turn_refused}
+use Rattle.bay_config.proofs.names.names_from.Goals.{in-Some+in_ok-name+in_ok-push, in_default}
+use Rattle.bay_config.proofs.names.names_from.Goals as goal
+
+pub returns-in_err-name : goal.returns-in_err-name
+returns-in_err-name c =
+    let vs = c.args.values.now in
+    let h : c.loop-i.i < length vs = omega arith in
+    elim c.in_err-name.ensures [
+      | inl m ↦ search rules
+      | inr read ↦
+          let e : read_all (name_check c.args.which) (name_in c.args.which) (tables_of (items_view vs)) ≡ Err c.in_err-name.field-0.0 =
+          c.loop-i.invariant ∙ turn_refused (name_check c.args.which) (name_in c.args.which) vs c.loop-i.i c.index-values-i.result c.loop-i.names.items (table_view c.in-Some.table.now) c.in_err-name.field-0.0 h c.index-values-i.is c.in-Some.ensures read in
+          rw e (search rules)
+    ]
+
+pub loop-i-preserved : goal.loop-i-preserved
+loop-i-preserved c =
+    let vs = c.args.values.now in
+    let i = c.loop-i.i in
+    let v = c.index-values-i.result in
+    let done = c.loop-i.names.items in
+    let h : i < length vs = omega arith in
+    elim c.match-as_table.branch [
+      | in-Some+in_ok-name+in_ok-push w ↦
+          c.loop-i.invariant
+          ∙ turn_some (name_check c.args.which) (name_in c.args.which) vs i v done (table_view w.in-Some.table.now) w.in_ok-name.name h c.index-values-i.is w.in-Some.ensures w.in_ok-name.ensures
+          ∙ ap (λ d. after d (read_all (name_check c.args.which) (name_in c.args.which) (tables_of (items_view (drop (i + 1) vs))))) (sym (ap (λ s. s.items) w.names-is ∙ w.in_ok-push.ensures.items))
+      | in_default w ↦
+          c.loop-i.invariant
+          ∙ turn_none (name_check c.args.which) (name_in c.args.which) vs i v done h c.index-values-i.is w.in_default.ensures
+          ∙ ap (λ s. after s.items (read_all (name_check c.args.which) (name_in c.args.which) (tables_of (items_view (drop (i + 1) vs))))) (sym w.names-is)
+    ]

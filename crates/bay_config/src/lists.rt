@@ -1,0 +1,34 @@
+// A section of a file that is a list of tables.
+ghost use Rattle.std.specs.Prelude.{◌≡◌, is_some};
+ghost use Rattle.std.specs.List.{list_all};
+ghost use Rattle.toml.specs.Data.{as_table};
+ghost use Rattle.toml.specs.View.{view, items_view};
+ghost use Rattle.bay_base.specs.Exact.{judged};
+ghost use Rattle.bay_config.specs.Key.{first_of};
+ghost use Rattle.bay_config.specs.Section.{list_checks};
+
+use crate::fault::BayFault;
+use toml::Value;
+
+/// Whether each value is a table.
+fn are_tables(values: &[Value]) -> bool
+    ensures { result ≡ list_all (λ v. is_some (as_table (view v))) values.now }
+{
+    values.iter().all(|value| value.is_table())
+}
+
+/// Refuses a list that has too few values, one that is no table, or too many.
+pub fn check_list(values: &[Value], least: usize, most: usize) -> Result<(), BayFault>
+    ensures { result ≡ judged (first_of (list_checks least most (items_view values.now))) tt }
+{
+    if values.len() < least {
+        return Err(BayFault::MissingKey);
+    }
+    if !are_tables(values) {
+        return Err(BayFault::BadValue);
+    }
+    if values.len() > most {
+        return Err(BayFault::TooMany);
+    }
+    Ok(())
+}

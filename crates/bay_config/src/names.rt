@@ -1,0 +1,117 @@
+// The sections `input` and `meter` of a file, which list names.
+ghost use Rattle.std.specs.Prelude.{◌≡◌, ◌∷◌, [], map};
+ghost use Rattle.toml.specs.View.{table_view, items_view};
+ghost use Rattle.bay_config.specs.declared.fault.BayFault.TheVariants.{OutOfMemory};
+ghost use Rattle.bay_config.specs.Bay.{name_key, name_keys, name_in, section_name, most_names, name_section, names_in};
+ghost use Rattle.bay_base.specs.Exact.{Gives, judged};
+ghost use Rattle.bay_config.specs.Key.{first_of, entry_refusal};
+ghost use Rattle.bay_config.specs.Section.{tables_of, items_refusal, section_refusal};
+
+use crate::fault::BayFault;
+use crate::keys::{check_keys, find, identifier_at};
+use crate::lists::check_list;
+use bay_base::listing::Listing;
+use bay_base::text::Text;
+use std::alloc::Global;
+use toml::{Table, Value};
+
+/// A section that lists names.
+#[derive(Clone, Copy, Debug, PartialEq, Eq)]
+pub enum NameSection {
+    /// The inputs, each with its `name`.
+    Input,
+    /// The meters, each with its `id`.
+    Meter,
+}
+
+impl NameSection {
+    /// The key of the section.
+    fn name(self) -> &'static str
+        ensures { result.now ≡ section_name self }
+    {
+        match self {
+            NameSection::Input => "input",
+            NameSection::Meter => "meter",
+        }
+    }
+
+    /// The one key of each of its tables.
+    fn key(self) -> &'static str
+        ensures { result.now ≡ name_key self }
+    {
+        match self {
+            NameSection::Input => "name",
+            NameSection::Meter => "id",
+        }
+    }
+
+    /// The keys of each of its tables.
+    fn keys(self) -> &'static [&'static str]
+        ensures { map (λ k. k.now) result.now ≡ name_key self ∷ [] }
+    {
+        match self {
+            NameSection::Input => &["name"],
+            NameSection::Meter => &["id"],
+        }
+    }
+
+    /// How many tables it may have.
+    fn most(self) -> usize
+        ensures { result ≡ most_names self }
+    {
+        match self {
+            NameSection::Input => 64,
+            NameSection::Meter => 8,
+        }
+    }
+}
+
+/// The name of a table.
+fn name_from(alloc: Global, table: &Table, which: NameSection) -> Result<Text, BayFault>
+    ensures { let t = table_view table.now in Gives OutOfMemory (λ x. x) result (judged (entry_refusal (name_keys which) t) (name_in which t)) }
+{
+    check_keys(table, which.keys())?;
+    identifier_at(alloc, table, which.key(), 16)
+}
+
+/// The names of a list's tables.
+fn names_from(
+    alloc: Global,
+    values: &[Value],
+    which: NameSection,
+) -> Result<Listing<Text>, BayFault>
+    ensures { let tables = tables_of (items_view values.now) in
+        Gives OutOfMemory (λ x. x) result (judged (first_of (map (λ t. entry_refusal (name_keys which) t) tables)) (map (name_in which) tables)) }
+{
+    let mut names = Vec::new(alloc);
+    for i in 0..values.len() {
+        if let Some(table) = values[i].as_table() {
+            let name = name_from(alloc, table, which)?;
+            names.push(name)?;
+        }
+    }
+    Ok(Listing::new(names))
+}
+
+/// The names of a list, of which there are not too many, each a table.
+fn names_of(alloc: Global, values: &[Value], which: NameSection) -> Result<Listing<Text>, BayFault>
+    ensures { let items = items_view values.now in
+        Gives OutOfMemory (λ x. x) result (judged (items_refusal 0 (most_names which) (λ _. name_keys which) items) (map (name_in which) (tables_of items))) }
+{
+    check_list(values, 0, which.most())?;
+    names_from(alloc, values, which)
+}
+
+/// The names of a section; none where it is missing.
+pub fn names_at(alloc: Global, file: &Table, which: NameSection) -> Result<Listing<Text>, BayFault>
+    ensures { let f = table_view file.now in
+        Gives OutOfMemory (λ x. x) result (judged (section_refusal f (name_section which)) (names_in f which)) }
+{
+    match find(file, which.name()) {
+        Some(value) => match value.as_array() {
+            Some(values) => names_of(alloc, values.as_slice(), which),
+            None => Err(BayFault::BadValue),
+        },
+        None => Ok(Listing::new(Vec::new(alloc))),
+    }
+}

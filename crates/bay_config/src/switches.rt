@@ -1,0 +1,193 @@
+// The section `switch` of a file.
+ghost use Rattle.std.specs.Prelude.{◌≡◌, ◌∷◌, [], false, map, codes, IfOk, unwrap_or};
+ghost use Rattle.toml.specs.View.{table_view, items_view};
+ghost use Rattle.bay_config.specs.declared.bay.SwitchKind.TheVariants.{Breaker};
+ghost use Rattle.bay_config.specs.declared.fault.BayFault.TheVariants.{OutOfMemory};
+ghost use Rattle.bay_config.specs.declared.bay.Control.TheVariants.{Status};
+ghost use Rattle.bay_config.specs.Bay.{switch_section, switches_in};
+ghost use Rattle.bay_base.specs.Exact.{Gives, judged};
+ghost use Rattle.bay_config.specs.Key.{first_of, has_unknown, key_refusal, entry_refusal, named, number_in};
+ghost use Rattle.bay_config.specs.Section.{tables_of, items_refusal, section_refusal};
+ghost use Rattle.bay_config.specs.Switch.{kinds, controls, kind_of, control_of, kind_key, control_key, sbo_timeout_key, travel_key, time_keys, switch_keys, switch_in};
+
+use crate::bay::{Control, Switch, SwitchKind};
+use crate::fault::BayFault;
+use crate::keys::{check_keys, find, identifier_at, number_at};
+use crate::lists::check_list;
+use bay_base::listing::Listing;
+use std::alloc::Global;
+use toml::{Table, Value};
+
+/// The kind of switch that a word names.
+fn kind_named(word: &str) -> Option<SwitchKind>
+    ensures { result ≡ named kinds word.now }
+{
+    match word {
+        "breaker" => Some(SwitchKind::Breaker),
+        "disconnector" => Some(SwitchKind::Disconnector),
+        "earthing" => Some(SwitchKind::Earthing),
+        _ => None,
+    }
+}
+
+/// The kind of control that a word names.
+fn control_named(word: &str) -> Option<Control>
+    ensures { result ≡ named controls word.now }
+{
+    match word {
+        "status" => Some(Control::Status),
+        "direct" => Some(Control::Direct),
+        "sbo" => Some(Control::Sbo),
+        "sbo-enhanced" => Some(Control::SboEnhanced),
+        _ => None,
+    }
+}
+
+#[tactic(auto, using(crate::proofs::KeyLemmas::among_named))]
+fn kind_at(table: &Table) -> Result<SwitchKind, BayFault>
+    ensures { let t = table_view table.now in
+        result ≡ judged (key_refusal t kind_key) (unwrap_or (kind_of t) Breaker) }
+{
+    match find(table, "kind") {
+        Some(value) => match value.as_str() {
+            Some(word) => match kind_named(word) {
+                Some(kind) => Ok(kind),
+                None => Err(BayFault::BadValue),
+            },
+            None => Err(BayFault::BadValue),
+        },
+        None => Err(BayFault::MissingKey),
+    }
+}
+
+/// The kind of control of a table, if it can be read.
+fn readable_control(table: &Table) -> Option<Control>
+    ensures { result ≡ control_of (table_view table.now) }
+{
+    match find(table, "control") {
+        Some(value) => match value.as_str() {
+            Some(word) => control_named(word),
+            None => None,
+        },
+        None => None,
+    }
+}
+
+#[tactic(auto, using(crate::proofs::KeyLemmas::among_named))]
+fn control_at(table: &Table) -> Result<Control, BayFault>
+    ensures held { let t = table_view table.now in
+        result ≡ judged (key_refusal t control_key) (unwrap_or (control_of t) Status) }
+    ensures readable { IfOk result (λ c. control_of (table_view table.now) ≡ Some c) }
+{
+    match find(table, "control") {
+        Some(value) => match value.as_str() {
+            Some(word) => match control_named(word) {
+                Some(control) => Ok(control),
+                None => Err(BayFault::BadValue),
+            },
+            None => Err(BayFault::BadValue),
+        },
+        None => Err(BayFault::MissingKey),
+    }
+}
+
+/// The names of the keys that a switch with this control has.
+fn switch_key_names(control: Option<Control>) -> &'static [&'static str]
+    ensures { map (λ k. k.now) result.now ≡ codes "id" ∷ codes "kind" ∷ codes "control" ∷ map (λ k. k.name) (time_keys control) }
+{
+    match control {
+        Some(Control::Status) => &["id", "kind", "control"],
+        Some(Control::Direct) => &["id", "kind", "control", "travel_ms"],
+        Some(Control::Sbo | Control::SboEnhanced) | None => &[
+            "id",
+            "kind",
+            "control",
+            "sbo_timeout_ms",
+            "travel_ms",
+        ],
+    }
+}
+
+/// How long a selection lasts and how long the switch may travel.
+fn both_times_at(table: &Table) -> Result<(u32, u32), BayFault>
+    ensures { let t = table_view table.now in
+        result ≡ judged (first_of (map (key_refusal t) (sbo_timeout_key ∷ travel_key ∷ []))) (number_in t (codes "sbo_timeout_ms"), number_in t (codes "travel_ms")) }
+{
+    let sbo_timeout_ms = number_at(table, "sbo_timeout_ms", 1, 600_000)?;
+    let travel_ms = number_at(table, "travel_ms", 1, 600_000)?;
+    Ok((sbo_timeout_ms, travel_ms))
+}
+
+/// How long a selection lasts and how long the switch may travel; 0 where its control excludes the key.
+fn times_at(table: &Table, control: Control) -> Result<(u32, u32), BayFault>
+    requires known { has_unknown (map (λ k. k.name) (switch_keys (table_view table.now))) (table_view table.now) ≡ false }
+    requires readable { control_of (table_view table.now) ≡ Some control }
+    ensures { let t = table_view table.now in
+        result ≡ judged (first_of (map (key_refusal t) (time_keys (Some control)))) (number_in t (codes "sbo_timeout_ms"), number_in t (codes "travel_ms")) }
+{
+    match control {
+        Control::Status => Ok((0, 0)),
+        Control::Direct => {
+            let travel_ms = number_at(table, "travel_ms", 1, 600_000)?;
+            Ok((0, travel_ms))
+        }
+        Control::Sbo => both_times_at(table),
+        Control::SboEnhanced => both_times_at(table),
+    }
+}
+
+/// The switch of a table.
+fn switch_from(alloc: Global, table: &Table) -> Result<Switch, BayFault>
+    ensures { let t = table_view table.now in Gives OutOfMemory (λ x. x) result (judged (entry_refusal (switch_keys t) t) (switch_in t)) }
+{
+    check_keys(table, switch_key_names(readable_control(table)))?;
+    let id = identifier_at(alloc, table, "id", 16)?;
+    let kind = kind_at(table)?;
+    let control = control_at(table)?;
+    let (sbo_timeout_ms, travel_ms) = times_at(table, control)?;
+    Ok(Switch {
+        id,
+        kind,
+        control,
+        sbo_timeout_ms,
+        travel_ms,
+    })
+}
+
+/// The switches of a list's tables.
+fn switches_from(alloc: Global, values: &[Value]) -> Result<Listing<Switch>, BayFault>
+    ensures { let tables = tables_of (items_view values.now) in
+        Gives OutOfMemory (λ x. x) result (judged (first_of (map (λ t. entry_refusal (switch_keys t) t) tables)) (map switch_in tables)) }
+{
+    let mut switches = Vec::new(alloc);
+    for i in 0..values.len() {
+        if let Some(table) = values[i].as_table() {
+            let switch = switch_from(alloc, table)?;
+            switches.push(switch)?;
+        }
+    }
+    Ok(Listing::new(switches))
+}
+
+/// The switches of a list, of which there are 1 to 32, each a table.
+fn switches_of(alloc: Global, values: &[Value]) -> Result<Listing<Switch>, BayFault>
+    ensures { let items = items_view values.now in
+        Gives OutOfMemory (λ x. x) result (judged (items_refusal 1 32 switch_keys items) (map switch_in (tables_of items))) }
+{
+    check_list(values, 1, 32)?;
+    switches_from(alloc, values)
+}
+
+/// The section `switch`.
+pub fn switches_at(alloc: Global, file: &Table) -> Result<Listing<Switch>, BayFault>
+    ensures { let f = table_view file.now in
+        Gives OutOfMemory (λ x. x) result (judged (section_refusal f switch_section) (switches_in f)) }
+{
+    match find(file, "switch") {
+        Some(value) => match value.as_array() {
+            Some(values) => switches_of(alloc, values.as_slice()),
+            None => Err(BayFault::BadValue),
+        },
+        None => Err(BayFault::MissingKey),
+    }
+}

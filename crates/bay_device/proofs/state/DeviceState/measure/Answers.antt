@@ -1,0 +1,39 @@
+use Rattle.std.proofs.Common.{◌≡◌, Some, ap, sym, ◌∙◌, slice_get, option_map}
+use Rattle.std.proofs.lemmas.Int.{to_z-of_z}
+use Rattle.std.proofs.lemmas.Option.{slice_get-map}
+use Rattle.bay_device.specs.Device.{measure_outcome}
+use Rattle.bay_device.specs.Layout.{layout_of, status_in, field_rows, meters_of}
+use Rattle.bay_device.specs.Names.{field_names}
+use Rattle.bay_device.specs.StateView.{state_view}
+use Rattle.bay_device.specs.declared.meter.BoundMeter.{BoundMeter}
+use Rattle.bay_device.proofs.ContactLemmas.{measure-done, field-kinded, field-named}
+use Rattle.bay_device.proofs.ListLemmas.{got-some}
+use Rattle.bay_device.proofs.state.DeviceState.measure.Goals as goal
+
+pub take_measure-changed-requires : goal.take_measure-changed-requires
+take_measure-changed-requires c =
+    let d = c.args.self.now in
+    let bound = c.in-Some.bound.now in
+    let here : slice_get d.meters c.args.meter ≡ Some bound = rw c.as_slice.ensures at (got-some _ c.args.meter c.in-Some.bound c.in-Some.ensures.lookup) in
+    rw c.field-rows.ensures (field-kinded (layout_of d.tree) bound.rows c.args.field (d.metered c.args.meter bound here).kinded)
+
+pub invariant_of-self : goal.invariant_of-self
+invariant_of-self c = record {
+  bound = rw c.take_measure-changed.ensures.layout c.args.self.now.bound;
+  metered = rw c.take_measure-changed.ensures.layout c.args.self.now.metered;
+  sized = c.args.self.now.sized;
+}
+
+pub returns-clause-after : goal.returns-clause-after
+returns-clause-after c =
+    let d = c.args.self.now in
+    let bound = c.in-Some.bound.now in
+    let f = c.args.field in
+    let here : slice_get d.meters c.args.meter ≡ Some bound = rw c.as_slice.ensures at (got-some _ c.args.meter c.in-Some.bound c.in-Some.ensures.lookup) in
+    let meter : slice_get (meters_of d.meters) c.args.meter ≡ Some bound.id = slice_get-map (λ (b : BoundMeter). b.id) d.meters c.args.meter ∙ ap (λ o. option_map (λ (b : BoundMeter). b.id) o) here in
+    let named = ap (status_in (layout_of d.tree)) c.field-rows.ensures ∙ field-named (layout_of d.tree) bound.rows f ∙ ap (field_names f) (d.metered c.args.meter bound here).named in
+    let fits = c.ranges.value in
+    let changed = simp to_z-of_z at c.take_measure-changed.ensures.changed in
+    let rows = simp to_z-of_z at c.take_measure-changed.ensures.rows in
+    measure-done (state_view d) c.args.meter f (status_in (layout_of d.tree) c.field-rows.result) c.args.value c.args.now _ _ named changed rows
+    ∙ ap (λ o. (measure_outcome c.args.now c.args.meter f c.args.value (state_view d) o).after) (sym meter)

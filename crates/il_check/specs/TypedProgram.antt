@@ -1,0 +1,163 @@
+-- Which checked programs are well typed (IEC 61131-3:2003, 2.4.3 and 3.2), without a word of names: what stands where has its
+-- type, what is written may be written, and each instruction is reached.
+use Rattle.std.specs.Prelude.{◌≡◌, ℕ, pos, suc, ◌+◌, ◌<◌, ◌≤◌, ◌&&◌, ◌||◌, ◌==◌, max, Bool, true, false, not, List, [], ◌∷◌, length, slice_get, Option, None, Some, option_map}
+use Rattle.std.specs.Ordering.{int_eq}
+use Rattle.bay_base.specs.declared.types.ElementaryType.{ElementaryType}
+use Rattle.bay_base.specs.declared.types.ElementaryType.TheVariants as elementary
+use Rattle.il_text.specs.declared.program.Condition.{Condition}
+use Rattle.il_text.specs.declared.program.Condition.TheVariants.{Always, IfTrue, IfFalse}
+use Rattle.il_image.specs.Images.{Each, IsName, IsValue}
+use Rattle.il_image.specs.Values.{number_of, type_of}
+use Rattle.il_check.specs.Given.{output_type}
+use Rattle.il_check.specs.Labelling.{Labelling, Coming, Falls, Jumps, with_target, behind_label}
+use Rattle.il_check.specs.Program.{Entry, operation, block, Entries, no_entries, entry, Item, label, transfer, plain, Checked}
+use Rattle.il_check.specs.Rules.{may_negate, is_plain, works, gives, divides, input_type, converted_from, converted_to}
+use Rattle.il_check.specs.declared.typed.External.{External}
+use Rattle.il_check.specs.declared.typed.Variable.{Variable}
+use Rattle.il_check.specs.declared.typed.Slot.{Slot}
+use Rattle.il_check.specs.declared.typed.Slot.TheVariants as slot
+use Rattle.il_check.specs.declared.typed.TypedOperand.{TypedOperand}
+use Rattle.il_check.specs.declared.typed.TypedOperand.TheVariants as operand
+use Rattle.il_check.specs.declared.typed.TypedArgument.{TypedArgument}
+use Rattle.il_check.specs.declared.typed.TypedArguments.{TypedArguments}
+use Rattle.il_check.specs.declared.typed.TypedArguments.TheVariants as arguments
+use Rattle.il_check.specs.declared.typed.Operation.{Operation}
+use Rattle.il_check.specs.declared.typed.Operation.TheVariants as op
+use Rattle.il_check.specs.declared.typed.Transfer.{Transfer}
+use Rattle.il_check.specs.declared.typed.Transfer.TheVariants as go
+
+-- ---- what is read and written
+
+-- the type of the values in a slot, if there is the slot
+abbrev pub slot_type : Checked → Slot → Option ElementaryType
+slot_type c (slot.External n) = option_map (λ e. e.kind) (slice_get c.externals n)
+slot_type c (slot.Variable n) = option_map (λ v. type_of v.initial) (slice_get c.variables n)
+
+abbrev pub is_writable : Option External → Bool
+is_writable None = false
+is_writable (Some e) = e.writable
+
+abbrev pub may_write : Checked → Slot → Bool
+may_write c (slot.External n) = is_writable (slice_get c.externals n)
+may_write c (slot.Variable n) = true
+
+abbrev pub IsOperand : Checked → TypedOperand → ElementaryType → Type 0
+IsOperand c (operand.Literal v) kind = IsValue v × (type_of v ≡ kind)
+IsOperand c (operand.Slot s) kind = slot_type c s ≡ Some kind
+IsOperand c (operand.Output timer gives_what) kind = (timer < length c.timers) × (output_type gives_what ≡ kind)
+
+-- a literal other than 0
+abbrev pub is_divisor : TypedOperand → Bool
+is_divisor (operand.Literal v) = not (int_eq (number_of v) (pos 0))
+is_divisor (operand.Slot s) = false
+is_divisor (operand.Output timer gives_what) = false
+
+-- ---- operations, on a result of the first type, which leave one of the second; none is a result that is not set
+
+abbrev pub IsOperation : Checked → Operation → Option ElementaryType → Option ElementaryType → Type 0
+IsOperation c (op.Load negated x) t u =
+    (kind : ElementaryType) × IsOperand c x kind × (may_negate negated kind ≡ true) × (u ≡ Some kind)
+IsOperation c (op.Store how s) t u =
+    (kind : ElementaryType) × (slot_type c s ≡ Some kind) × (may_write c s ≡ true) × (may_negate (not (is_plain how)) kind ≡ true) × (t ≡ Some kind) × (u ≡ t)
+IsOperation c (op.Combine operator kind negated x) t u =
+    IsOperand c x kind × (works operator negated kind ≡ true) × (divides operator && not (is_divisor x) ≡ false) × (t ≡ Some kind) × (u ≡ Some (gives operator kind))
+IsOperation c op.Not t u = (t ≡ Some elementary.Bool) × (u ≡ t)
+IsOperation c (op.Convert conversion) t u = (t ≡ Some (converted_from conversion)) × (u ≡ Some (converted_to conversion))
+
+-- A parenthesis begins with a result that is not set, and its operator divides by no parenthesis.
+abbrev mutual
+  pub IsEntry : Checked → Entry → Option ElementaryType → Option ElementaryType → Type 0
+  IsEntry c (operation o) t u = IsOperation c o t u
+  IsEntry c (block operator kind negated es) t u =
+      AreEntries c es None (Some kind) × (works operator negated kind ≡ true) × (divides operator ≡ false) × (t ≡ Some kind) × (u ≡ Some (gives operator kind))
+
+  pub AreEntries : Checked → Entries → Option ElementaryType → Option ElementaryType → Type 0
+  AreEntries c no_entries t u = u ≡ t
+  AreEntries c (entry e es) t u = (w : Option ElementaryType) × IsEntry c e t w × AreEntries c es w u
+
+-- how deep parentheses stand within one another
+abbrev mutual
+  pub entry_depth : Entry → ℕ
+  entry_depth (operation o) = 0
+  entry_depth (block operator kind negated es) = suc (entries_depth es)
+
+  pub entries_depth : Entries → ℕ
+  entries_depth no_entries = 0
+  entries_depth (entry e es) = max (entry_depth e) (entries_depth es)
+
+-- ---- jumps, returns and calls
+
+abbrev pub IsArgument : Checked → TypedArgument → Type 0
+IsArgument c a = IsOperand c a.operand (input_type a.input)
+
+abbrev pub AreArguments : Checked → TypedArguments → Type 0
+AreArguments c arguments.None = Unit {0}
+AreArguments c (arguments.One a) = IsArgument c a
+AreArguments c (arguments.Two a b) = IsArgument c a × IsArgument c b
+
+-- Only a BOOL decides.
+abbrev pub Decides : Condition → Option ElementaryType → Type 0
+Decides Always t = Unit {0}
+Decides IfTrue t = t ≡ Some elementary.Bool
+Decides IfFalse t = t ≡ Some elementary.Bool
+
+abbrev pub has_label : List Item → ℕ → Bool
+has_label [] number = false
+has_label (label n ∷ is) number = (n == number) || has_label is number
+has_label (transfer t ∷ is) number = has_label is number
+has_label (plain e ∷ is) number = has_label is number
+
+-- A jump goes to a label below.
+abbrev pub IsTransfer : Checked → List Item → Transfer → Option ElementaryType → Type 0
+IsTransfer c below (go.Jump condition number) t = Decides condition t × (has_label below number ≡ true)
+IsTransfer c below (go.Return condition) t = Decides condition t
+IsTransfer c below (go.Call timer args) t = (timer < length c.timers) × AreArguments c args
+
+abbrev pub target_of : Transfer → Option ℕ
+target_of (go.Jump condition number) = Some number
+target_of (go.Return condition) = None
+target_of (go.Call timer args) = None
+
+abbrev pub behind_condition : Condition → Option ElementaryType → Coming
+behind_condition Always t = None
+behind_condition IfTrue t = Some t
+behind_condition IfFalse t = Some t
+
+abbrev pub behind_transfer : Transfer → Option ElementaryType → Coming
+behind_transfer (go.Jump condition number) t = behind_condition condition t
+behind_transfer (go.Return condition) t = behind_condition condition t
+behind_transfer (go.Call timer args) t = Some None
+
+-- ---- the items
+
+-- Behind so many labels, with jumps to these ones, and with this coming from above, each item is reached and right; labels
+-- stand in the order of their numbers.
+abbrev pub AreItems : Checked → Labelling → List Item → ℕ → List ℕ → Coming → Type 0
+AreItems c labels [] passed named now = Unit {0}
+AreItems c labels (label n ∷ is) passed named now =
+    ((n ≡ passed) × (passed < 256) × Falls labels passed now)
+    × AreItems c labels is (passed + 1) named (behind_label labels passed named now)
+AreItems c labels (transfer x ∷ is) passed named now =
+    (t : Option ElementaryType)
+    × ((now ≡ Some t) × IsTransfer c is x t × Jumps labels (target_of x) t)
+    × AreItems c labels is passed (with_target (target_of x) named) (behind_transfer x t)
+AreItems c labels (plain e ∷ is) passed named now =
+    (t : Option ElementaryType) × (u : Option ElementaryType)
+    × ((now ≡ Some t) × IsEntry c e t u × (entry_depth e ≤ 16))
+    × AreItems c labels is passed named (Some u)
+
+abbrev pub HasName : External → Type 0
+HasName e = IsName e.name
+
+abbrev pub BeginsRight : Variable → Type 0
+BeginsRight v = IsValue v.initial
+
+-- There are 512 slots and 64 timers at most, and with some labelling each item is reached and right. A program begins with
+-- a result that is not set.
+pub record IsTyped (c : Checked) : Type 0 where
+  pub slots : length c.externals + length c.variables ≤ 512
+  pub timers : length c.timers ≤ 64
+  pub names : Each HasName c.externals
+  pub initial : Each BeginsRight c.variables
+  pub labels : Labelling
+  pub items : AreItems c labels c.items 0 [] (Some None)

@@ -1,0 +1,244 @@
+-- What a program means (IEC 61131-3:2003, 3.2 and table 52): by structure, on a current result, the variables and the timers,
+-- at a moment. What meets a result that is not set, a name that is not there, a value of another type or a divisor of 0 means
+-- nothing.
+use Rattle.std.specs.Prelude.{ℕ, ℤ, pos, ◌&&◌, ◌==◌, Bool, true, false, not, List, [], ◌∷◌, slice_get, slice_set, Option, None, Some, option_map, if◌then◌else◌}
+use Rattle.std.specs.Ordering.{int_eq}
+use Rattle.bay_base.specs.Types.{same_type}
+use Rattle.il_text.specs.declared.program.Condition.{Condition}
+use Rattle.il_text.specs.declared.program.Condition.TheVariants.{Always, IfTrue, IfFalse}
+use Rattle.il_text.specs.declared.program.Input.{Input}
+use Rattle.il_text.specs.declared.program.Input.TheVariants.{In, Pt}
+use Rattle.il_text.specs.declared.program.Operator.{Operator}
+use Rattle.il_text.specs.declared.program.Output.{Output}
+use Rattle.il_text.specs.declared.program.Output.TheVariants.{Q, Et}
+use Rattle.il_text.specs.declared.program.StoreKind.{StoreKind}
+use Rattle.il_text.specs.declared.program.StoreKind.TheVariants as store
+use Rattle.il_image.specs.Arithmetic.{compared, computed, connected, widened}
+use Rattle.il_image.specs.Machine.{divides, is_comparable, value_in}
+use Rattle.il_image.specs.Timers.{called}
+use Rattle.il_image.specs.Values.{number_of, type_of}
+use Rattle.il_image.specs.declared.arithmetic.Operation.{Operation as Arithmetic}
+use Rattle.il_image.specs.declared.arithmetic.Width.{Width}
+use Rattle.il_image.specs.declared.arithmetic.Width.TheVariants as width
+use Rattle.il_image.specs.declared.timer.Timer.{Timer}
+use Rattle.il_image.specs.declared.value.Value.{Value}
+use Rattle.il_image.specs.declared.value.Value.TheVariants.{Truth, Short, Long, Wide, Span}
+use Rattle.il_check.specs.Program.{Entry, operation, block, Entries, no_entries, entry, Item, label, transfer, plain}
+use Rattle.il_check.specs.declared.typed.Operation.{Operation}
+use Rattle.il_check.specs.declared.typed.Operation.TheVariants as op
+use Rattle.il_check.specs.declared.typed.Slot.{Slot}
+use Rattle.il_check.specs.declared.typed.Slot.TheVariants.{External, Variable}
+use Rattle.il_check.specs.declared.typed.Transfer.TheVariants as go
+use Rattle.il_check.specs.declared.typed.TypedArgument.{TypedArgument}
+use Rattle.il_check.specs.declared.typed.TypedArguments.{TypedArguments}
+use Rattle.il_check.specs.declared.typed.TypedArguments.TheVariants as arguments
+use Rattle.il_check.specs.declared.typed.TypedOperand.{TypedOperand}
+use Rattle.il_check.specs.declared.typed.TypedOperand.TheVariants as operand
+use Rattle.il_compile.specs.Senses.{Sense, connects, computes, compares, sense_of, widening_of}
+
+-- the values of the externals, the variables and the timers, each by its name's place among the declarations
+pub record Memory : Type 0 where
+  pub externals : List Value
+  pub variables : List Value
+  pub timers : List Timer
+
+-- the current result, where it is set, and the memory
+pub record State : Type 0 where
+  pub result : Option Value
+  pub memory : Memory
+
+infixl 10 ◌>>=◌
+abbrev pub ◌>>=◌ : {A B : Type 0} → Option A → (A → Option B) → Option B
+None >>= f = None
+(Some x) >>= f = f x
+
+-- ---- values
+
+abbrev pub inverse : Value → Option Value
+inverse (Truth b) = Some (Truth (not b))
+inverse other = None
+
+abbrev pub inverse_if : Bool → Value → Option Value
+inverse_if false v = Some v
+inverse_if true v = inverse v
+
+abbrev pub connected_values : Value → Value → (Bool → Bool → Bool) → Option Value
+connected_values (Truth a) (Truth b) f = Some (Truth (f a b))
+connected_values a b f = None
+
+-- of two numbers of one width; none is divided by 0
+abbrev pub computed_in : Width → Arithmetic → ℤ → ℤ → Option Value
+computed_in w o a b = if divides o && int_eq b (pos 0) then None else Some (value_in w (computed o w a b))
+
+abbrev pub computed_values : Arithmetic → Value → Value → Option Value
+computed_values o (Short a) (Short b) = computed_in width.Int o a b
+computed_values o (Long a) (Long b) = computed_in width.Dint o a b
+computed_values o (Wide a) (Wide b) = computed_in width.Lint o a b
+computed_values o a b = None
+
+-- what an operator makes of the current result and an operand
+abbrev pub combined : Sense → Value → Value → Option Value
+combined (connects c) a b = connected_values a b (connected c)
+combined (computes o) a b = computed_values o a b
+combined (compares c) a b = if is_comparable c a b then Some (Truth (compared c (number_of a) (number_of b))) else None
+
+-- ---- reading and writing
+
+abbrev pub output_of : Output → Timer → Value
+output_of Q t = Truth t.output
+output_of Et t = Span t.elapsed
+
+abbrev pub slot_value : Slot → Memory → Option Value
+slot_value (External n) m = slice_get m.externals n
+slot_value (Variable n) m = slice_get m.variables n
+
+abbrev pub read : TypedOperand → Memory → Option Value
+read (operand.Literal v) m = Some v
+read (operand.Slot s) m = slot_value s m
+read (operand.Output n what) m = option_map (output_of what) (slice_get m.timers n)
+
+abbrev pub with_value : Slot → Value → Memory → Memory
+with_value (External n) v m = record m { externals = slice_set m.externals n v }
+with_value (Variable n) v m = record m { variables = slice_set m.variables n v }
+
+-- A variable takes only values of its type.
+abbrev pub written : Slot → Value → Memory → Option Memory
+written s v m = do
+  old ← slot_value s m
+  if same_type (type_of v) (type_of old) then Some (with_value s v m) else None
+
+abbrev pub decided : Value → Option Bool
+decided (Truth b) = Some b
+decided other = None
+
+-- TRUE is written where the result is TRUE, or FALSE
+abbrev pub set_to : Bool → Slot → Value → Memory → Option Memory
+set_to new s v m = do
+  is_on ← decided v
+  if is_on then written s (Truth new) m else Some m
+
+abbrev pub stored : StoreKind → Slot → Value → Memory → Option Memory
+stored store.Plain s v m = written s v m
+stored store.Negated s v m = do
+  w ← inverse v
+  written s w m
+stored store.Set s v m = set_to true s v m
+stored store.Reset s v m = set_to false s v m
+
+-- ---- operations and parentheses
+
+abbrev pub acted : Operation → State → Option State
+acted (op.Load negated x) s = do
+  v ← read x s.memory
+  w ← inverse_if negated v
+  Some (record s { result = Some w })
+acted (op.Store how slot) s = do
+  v ← s.result
+  m ← stored how slot v s.memory
+  Some (record s { memory = m })
+acted (op.Combine operator kind negated x) s = do
+  a ← s.result
+  v ← read x s.memory
+  b ← inverse_if negated v
+  c ← combined (sense_of operator) a b
+  Some (record s { result = Some c })
+acted op.Not s = do
+  v ← s.result
+  w ← inverse v
+  Some (record s { result = Some w })
+acted (op.Convert conversion) s = do
+  v ← s.result
+  w ← widened (widening_of conversion) v
+  Some (record s { result = Some w })
+
+-- the operator of a parenthesis takes the result of what is in it
+abbrev pub closed : Operator → Bool → Option Value → State → Option State
+closed operator negated before inner = do
+  a ← before
+  v ← inner.result
+  b ← inverse_if negated v
+  c ← combined (sense_of operator) a b
+  Some (record inner { result = Some c })
+
+abbrev pub without_result : State → State
+without_result s = record s { result = None }
+
+-- What is in a parenthesis begins with a result that is not set.
+abbrev mutual
+  pub mean_entry : Entry → State → Option State
+  mean_entry (operation o) s = acted o s
+  mean_entry (block operator kind negated es) s = do
+    inner ← mean_entries es (without_result s)
+    closed operator negated s.result inner
+
+  pub mean_entries : Entries → State → Option State
+  mean_entries no_entries s = Some s
+  mean_entries (entry e es) s = do
+    behind ← mean_entry e s
+    mean_entries es behind
+
+-- ---- jumps, returns and calls
+
+-- Only a BOOL decides.
+abbrev pub goes : Condition → Option Value → Option Bool
+goes Always result = Some true
+goes IfTrue result = result >>= decided
+goes IfFalse result = option_map not (result >>= decided)
+
+abbrev pub given : Input → Value → Timer → Option Timer
+given In (Truth b) t = Some (record t { input = b })
+given Pt (Span n) t = Some (record t { preset = n })
+given input other t = None
+
+abbrev pub with_timer : ℕ → (Timer → Option Timer) → Memory → Option Memory
+with_timer n f m = do
+  old ← slice_get m.timers n
+  new ← f old
+  Some (record m { timers = slice_set m.timers n new })
+
+abbrev pub with_argument : ℕ → TypedArgument → Memory → Option Memory
+with_argument n a m = do
+  v ← read a.operand m
+  with_timer n (given a.input v) m
+
+abbrev pub with_arguments : ℕ → TypedArguments → Memory → Option Memory
+with_arguments n arguments.None m = Some m
+with_arguments n (arguments.One a) m = with_argument n a m
+with_arguments n (arguments.Two a b) m = do
+  first ← with_argument n a m
+  with_argument n b first
+
+-- The timer has its inputs, and then it runs; the result is not set then.
+abbrev pub run_timer : ℕ → ℕ → TypedArguments → State → Option State
+run_timer now n args s = do
+  m ← with_arguments n args s.memory
+  after ← with_timer n (λ t. Some (called t now)) m
+  Some (record { result = None; memory = after })
+
+-- ---- the items
+
+-- At a moment, the items one behind the other; or where a label is sought, those behind it. A jump goes on behind its label, and
+-- a return ends the run.
+abbrev pub mean_from : ℕ → Option ℕ → List Item → State → Option State
+mean_from now None [] s = Some s
+mean_from now (Some l) [] s = None
+mean_from now (Some l) (label n ∷ is) s = if n == l then mean_from now None is s else mean_from now (Some l) is s
+mean_from now (Some l) (transfer t ∷ is) s = mean_from now (Some l) is s
+mean_from now (Some l) (plain e ∷ is) s = mean_from now (Some l) is s
+mean_from now None (label n ∷ is) s = mean_from now None is s
+mean_from now None (transfer (go.Jump condition l) ∷ is) s = do
+  leaves ← goes condition s.result
+  if leaves then mean_from now (Some l) is s else mean_from now None is s
+mean_from now None (transfer (go.Return condition) ∷ is) s = do
+  leaves ← goes condition s.result
+  if leaves then Some s else mean_from now None is s
+mean_from now None (transfer (go.Call n args) ∷ is) s = do
+  behind ← run_timer now n args s
+  mean_from now None is behind
+mean_from now None (plain e ∷ is) s = do
+  behind ← mean_entry e s
+  mean_from now None is behind
+
+-- A program begins with a result that is not set; what it leaves in memory is what it means.
+abbrev pub mean : ℕ → List Item → Memory → Option Memory
+mean now items m = option_map (λ s. s.memory) (mean_from now None items (record { result = None; memory = m }))

@@ -1,0 +1,159 @@
+// A checked program becomes an image.
+ghost use Rattle.std.specs.Prelude.{◌≡◌, ◌+◌, ◌*◌, ◌≤◌, ◌++◌, [], ◌∷◌, Ok, length, map, min, reverse, IfOk, OnOk};
+ghost use Rattle.bay_base.specs.Exact.{Gives};
+ghost use Rattle.il_image.specs.Images.{Each, all_spelled};
+ghost use Rattle.il_image.specs.Tables.{HasTable};
+ghost use Rattle.il_check.specs.Program.{Checked};
+ghost use Rattle.il_check.specs.ProgramViews.{checked_view, item_view};
+ghost use Rattle.il_check.specs.TypedProgram.{HasName, IsTyped};
+ghost use Rattle.il_compile.specs.Code as spec;
+ghost use Rattle.il_compile.specs.Compiled.{compiled_of, image_of, image_size, point_of, points_octets};
+ghost use Rattle.il_compile.specs.Correct.{DoesTheText};
+ghost use Rattle.il_compile.specs.Senses.{timer_of};
+ghost use Rattle.il_compile.specs.declared.fault.CompileFault.TheVariants.{OutOfMemory};
+
+use crate::behind::{Behind, behind_all};
+use crate::fault::CompileFault;
+use bay_base::listing::Listing;
+use bay_base::text::Text;
+use il_check::program::Typed;
+use il_check::typed::{External, Timer, Variable};
+use il_image::image::{Image, ImagePoint};
+use il_image::instr::Instr;
+use il_image::timer::TimerKind;
+use il_image::value::Value;
+use il_text::program as text;
+use std::alloc::{AllocError, Global};
+
+/// The most octets that an image may have.
+const MAX_OCTETS: usize = 65_535;
+
+fn point_of(alloc: Global, external: &External) -> Result<ImagePoint, AllocError>
+    ensures { IfOk result (λ point. point ≡ point_of external.now) }
+{
+    Ok(ImagePoint {
+        name: Text::from_str(alloc, external.name.as_str())?,
+        elementary: external.kind,
+        writable: external.writable,
+    })
+}
+
+fn points_of(alloc: Global, externals: &[External]) -> Result<Vec<ImagePoint>, AllocError>
+    ensures { IfOk result (λ points. points.items ≡ map point_of externals.now) }
+{
+    let mut points = Vec::new(alloc);
+    for external in externals {
+        points.push(point_of(alloc, external)?)?;
+    }
+    Ok(points)
+}
+
+fn values_of(alloc: Global, variables: &[Variable]) -> Result<Vec<Value>, AllocError>
+    ensures { IfOk result (λ values. values.items ≡ map (λ v. v.initial) variables.now) }
+{
+    let mut values = Vec::new(alloc);
+    for variable in variables {
+        values.push(variable.initial)?;
+    }
+    Ok(values)
+}
+
+fn timer_of(kind: text::TimerKind) -> TimerKind
+    ensures { result ≡ timer_of kind }
+{
+    match kind {
+        text::TimerKind::OnDelay => TimerKind::OnDelay,
+        text::TimerKind::OffDelay => TimerKind::OffDelay,
+    }
+}
+
+fn kinds_of(alloc: Global, timers: &[Timer]) -> Result<Vec<TimerKind>, AllocError>
+    ensures { IfOk result (λ kinds. kinds.items ≡ map (λ t. timer_of t.kind) timers.now) }
+{
+    let mut kinds = Vec::new(alloc);
+    for timer in timers {
+        kinds.push(timer_of(timer.kind))?;
+    }
+    Ok(kinds)
+}
+
+// The octets of the externals' points in an image.
+fn points_size(externals: &[External]) -> usize
+    requires few { length externals.now ≤ 512 }
+    requires names { Each HasName externals.now }
+    ensures value { result ≡ points_octets externals.now }
+    ensures bounded { result ≤ 34_304 }
+{
+    let mut size = 0;
+    for external in externals {
+        size += 3 + external.name.as_str().len();
+    }
+    size
+}
+
+/// The octets of a program's code: a cell for the result, the instructions of the items, of which the last stands first, and HALT.
+fn spell_all(alloc: Global, behind: Vec<Instr>) -> Result<Vec<u8>, AllocError>
+    ensures { IfOk result (λ code. code.items ≡ all_spelled (spec.unset ∷ reverse behind.items ++ Instr.Halt ∷ [])) }
+{
+    let mut behind = behind;
+    let mut code = Vec::new(alloc);
+    Instr::Push(Value::Truth(false)).spell(&mut code)?;
+    while let Some(instr) = behind.pop() {
+        instr.spell(&mut code)?;
+    }
+    Instr::Halt.spell(&mut code)?;
+    Ok(code)
+}
+
+/// The octets of an image beside those of its code, in version 2 of the format: the mark and the version, four counts, and
+/// what is counted.
+fn head_size(program: &Typed) -> usize
+    requires { IsTyped (checked_view program.now) }
+    ensures value { result ≡ 13 + points_octets program.now.externals + 9 * length program.now.variables + length program.now.timers }
+    ensures bounded { result ≤ 40_000 }
+{
+    13 + points_size(program.externals()) + 9 * program.variables().len() + program.timers().len()
+}
+
+fn compiled(alloc: Global, program: &Typed) -> Result<Image, CompileFault>
+    ensures image { Gives OutOfMemory (λ image. image) result (compiled_of (checked_view program.now)) }
+    ensures typed { IsTyped (checked_view program.now) }
+{
+    let behind = behind_all(alloc, program.externals().len(), program.items())?;
+    let size = head_size(program) + 3 + behind.octets as usize;
+    if size > MAX_OCTETS {
+        return Err(CompileFault::CodeTooLong);
+    }
+    let points = points_of(alloc, program.externals())?;
+    let variables = values_of(alloc, program.variables())?;
+    let timers = kinds_of(alloc, program.timers())?;
+    let code = spell_all(alloc, behind.instrs)?;
+    Ok(Image::new(
+        Listing::new(points),
+        Listing::new(variables),
+        Listing::new(timers),
+        Listing::new(code),
+    ))
+}
+
+/// Compiles a checked program. The image has the externals as points, the variables with their initial values, the timers, and
+/// the code; slots are the externals and then the variables, in the order of their declarations, and a timer's number is its
+/// place among the timers.
+///
+/// The code begins with a cell for the current result; each instruction acts on the topmost cell (IEC 61131-3:2003, table 52), a
+/// parenthesis on one of its own, and the code ends with HALT.
+///
+/// The only fault but want of memory is `CodeTooLong`, exactly where the image as it is written would have more than 65,535
+/// octets.
+pub fn compile(alloc: Global, program: &Typed) -> Result<Image, CompileFault>
+    // The image of the program, or that it is too long, unless memory ran out.
+    ensures image { Gives OutOfMemory (λ image. image) result (compiled_of (checked_view program.now)) }
+    // From all values of the program's types, at each moment, the machine runs the code without a trap to HALT, in no more steps
+    // than the code has octets, and leaves in slots and timers what the program means.
+    ensures follows { IfOk result (λ image. DoesTheText (checked_view program.now) image.code) }
+    // A table of kinds agrees with the code: each instruction is allowed on what stands on the stack before it, and is reached.
+    ensures tabled { IfOk result (λ image. HasTable image) }
+{
+    let image = compiled(alloc, program)?;
+    Ok(image)
+}

@@ -1,0 +1,238 @@
+// The instructions of operands, operators, operations, parentheses and calls.
+ghost use Rattle.std.specs.Prelude.{◌≡◌, ◌<◌, ◌^◌, [], ◌∷◌, ◌++◌, OnOk};
+ghost use Rattle.il_image.specs.Images.{Each};
+ghost use Rattle.il_image.specs.Spelling.{IsInstr};
+ghost use Rattle.il_check.specs.ProgramViews.{entry_view};
+ghost use Rattle.il_compile.specs.Behind.{IsSpellableEntry};
+ghost use Rattle.il_compile.specs.Code as spec;
+ghost use Rattle.il_compile.specs.Senses as senses;
+
+use bay_base::types::ElementaryType;
+use il_check::typed::{Operation, Slot, TypedArgument, TypedArguments, TypedEntry, TypedOperand};
+use il_image::arithmetic::{Comparison, Operation as Arithmetic, Width};
+use il_image::instr::Instr;
+use il_image::opcode::{Connective, SlotUse, TimerUse, When, Widening};
+use il_image::value::Value;
+use il_text::program::{Condition, Conversion, Input, Operator, Output, StoreKind};
+use std::alloc::AllocError;
+
+/// The number of a slot: the externals come first, and then the variables.
+fn slot_number(externals: usize, slot: Slot) -> u16
+    requires { spec.slot_number externals slot < 2 ^ 16 }
+    ensures { result ≡ spec.slot_number externals slot }
+{
+    match slot {
+        Slot::External(n) => n as u16,
+        Slot::Variable(n) => (externals + n) as u16,
+    }
+}
+
+/// The instruction that puts an operand on the stack.
+fn fetch(externals: usize, operand: TypedOperand) -> Instr
+    requires { IsInstr (spec.fetch externals operand) }
+    ensures { result ≡ spec.fetch externals operand }
+{
+    match operand {
+        TypedOperand::Literal(value) => Instr::Push(value),
+        TypedOperand::Slot(slot) => Instr::Slot(SlotUse::Load, slot_number(externals, slot)),
+        TypedOperand::Output { timer, output } => match output {
+            Output::Q => Instr::Timer(TimerUse::LoadOutput, timer as u16),
+            Output::Et => Instr::Timer(TimerUse::LoadElapsed, timer as u16),
+        },
+    }
+}
+
+fn width_of(kind: ElementaryType) -> Width
+    ensures { result ≡ spec.width_of kind }
+{
+    match kind {
+        ElementaryType::Dint => Width::Dint,
+        ElementaryType::Lint => Width::Lint,
+        _ => Width::Int,
+    }
+}
+
+/// The instruction of an operator on two values of a type.
+fn operator_instr(operator: Operator, kind: ElementaryType) -> Instr
+    ensures { result ≡ spec.sense_instr (senses.sense_of operator) kind }
+{
+    match operator {
+        Operator::And => Instr::Combine(Connective::And),
+        Operator::Or => Instr::Combine(Connective::Or),
+        Operator::Xor => Instr::Combine(Connective::Xor),
+        Operator::Add => Instr::Compute(Arithmetic::Add, width_of(kind)),
+        Operator::Sub => Instr::Compute(Arithmetic::Sub, width_of(kind)),
+        Operator::Mul => Instr::Compute(Arithmetic::Mul, width_of(kind)),
+        Operator::Div => Instr::Compute(Arithmetic::Div, width_of(kind)),
+        Operator::Mod => Instr::Compute(Arithmetic::Mod, width_of(kind)),
+        Operator::Gt => Instr::Compare(Comparison::Gt),
+        Operator::Ge => Instr::Compare(Comparison::Ge),
+        Operator::Eq => Instr::Compare(Comparison::Eq),
+        Operator::Ne => Instr::Compare(Comparison::Ne),
+        Operator::Le => Instr::Compare(Comparison::Le),
+        Operator::Lt => Instr::Compare(Comparison::Lt),
+    }
+}
+
+fn widening_of(conversion: Conversion) -> Widening
+    ensures { result ≡ senses.widening_of conversion }
+{
+    match conversion {
+        Conversion::IntToDint => Widening::IntToDint,
+        Conversion::DintToLint => Widening::DintToLint,
+    }
+}
+
+/// When a jump goes.
+pub(crate) fn when_of(condition: Condition) -> When
+    ensures { result ≡ senses.when_of condition }
+{
+    match condition {
+        Condition::Always => When::Always,
+        Condition::IfTrue => When::IfTrue,
+        Condition::IfFalse => When::IfFalse,
+    }
+}
+
+fn input_use(input: Input) -> TimerUse
+    ensures { result ≡ spec.input_use input }
+{
+    match input {
+        Input::In => TimerUse::SetInput,
+        Input::Pt => TimerUse::SetPreset,
+    }
+}
+
+/// Appends an instruction.
+pub(crate) fn put(code: &mut Vec<Instr>, instr: Instr) -> Result<(), AllocError>
+    ensures { OnOk result (code.new.items ≡ code.old.items ++ instr ∷ []) }
+{
+    code.push(instr)?;
+    Ok(())
+}
+
+fn put_negation(code: &mut Vec<Instr>, negated: bool) -> Result<(), AllocError>
+    ensures { OnOk result (code.new.items ≡ code.old.items ++ spec.negation negated) }
+{
+    if negated {
+        put(code, Instr::Not)?;
+    }
+    Ok(())
+}
+
+/// Appends what stands behind an operand or a parenthesis.
+fn put_operated(
+    code: &mut Vec<Instr>,
+    operator: Operator,
+    kind: ElementaryType,
+    negated: bool,
+) -> Result<(), AllocError>
+    ensures { OnOk result (code.new.items ≡ code.old.items ++ spec.operated operator kind negated) }
+{
+    put_negation(code, negated)?;
+    put(code, operator_instr(operator, kind))
+}
+
+fn put_store(code: &mut Vec<Instr>, kind: StoreKind, slot: u16) -> Result<(), AllocError>
+    ensures { OnOk result (code.new.items ≡ code.old.items ++ spec.store_code kind slot) }
+{
+    match kind {
+        StoreKind::Plain => put(code, Instr::Slot(SlotUse::Store, slot)),
+        StoreKind::Negated => {
+            put(code, Instr::Not)?;
+            put(code, Instr::Slot(SlotUse::Store, slot))?;
+            put(code, Instr::Not)
+        }
+        StoreKind::Set => put(code, Instr::Slot(SlotUse::SetIf, slot)),
+        StoreKind::Reset => put(code, Instr::Slot(SlotUse::ResetIf, slot)),
+    }
+}
+
+fn put_operation(
+    code: &mut Vec<Instr>,
+    externals: usize,
+    operation: Operation,
+) -> Result<(), AllocError>
+    requires { Each IsInstr (spec.operation_code externals operation) }
+    ensures { OnOk result (code.new.items ≡ code.old.items ++ spec.operation_code externals operation) }
+{
+    match operation {
+        Operation::Load { negated, operand } => {
+            put(code, Instr::Drop)?;
+            put(code, fetch(externals, operand))?;
+            put_negation(code, negated)
+        }
+        Operation::Store { kind, slot } => put_store(code, kind, slot_number(externals, slot)),
+        Operation::Combine {
+            operator,
+            kind,
+            negated,
+            operand,
+        } => {
+            put(code, fetch(externals, operand))?;
+            put_operated(code, operator, kind, negated)
+        }
+        Operation::Not => put(code, Instr::Not),
+        Operation::Convert(conversion) => put(code, Instr::Widen(widening_of(conversion))),
+    }
+}
+
+/// Appends an operation, or a parenthesis, which begins with a cell for a result that is not set.
+pub(crate) fn put_entry(
+    code: &mut Vec<Instr>,
+    externals: usize,
+    entry: &TypedEntry,
+) -> Result<(), AllocError>
+    requires { IsSpellableEntry externals (entry_view entry.now) }
+    ensures { OnOk result (code.new.items ≡ code.old.items ++ spec.entry_code externals (entry_view entry.now)) }
+{
+    match entry {
+        TypedEntry::Operation(operation) => put_operation(code, externals, *operation),
+        TypedEntry::Block {
+            operator,
+            kind,
+            negated,
+            entries,
+        } => {
+            put(code, Instr::Push(Value::Truth(false)))?;
+            for inner in entries {
+                put_entry(code, externals, inner)?;
+            }
+            put_operated(code, *operator, *kind, *negated)
+        }
+    }
+}
+
+fn put_argument(
+    code: &mut Vec<Instr>,
+    externals: usize,
+    timer: u16,
+    argument: TypedArgument,
+) -> Result<(), AllocError>
+    requires { Each IsInstr (spec.argument_code externals timer argument) }
+    ensures { OnOk result (code.new.items ≡ code.old.items ++ spec.argument_code externals timer argument) }
+{
+    put(code, fetch(externals, argument.operand))?;
+    put(code, Instr::Timer(input_use(argument.input), timer))
+}
+
+/// Appends a call: the arguments in the order of the text, and then the timer runs.
+pub(crate) fn put_call(
+    code: &mut Vec<Instr>,
+    externals: usize,
+    timer: u16,
+    arguments: TypedArguments,
+) -> Result<(), AllocError>
+    requires { Each IsInstr (spec.arguments_code externals timer arguments) }
+    ensures { OnOk result (code.new.items ≡ code.old.items ++ (spec.arguments_code externals timer arguments ++ Instr.Timer TimerUse.Run timer ∷ [])) }
+{
+    match arguments {
+        TypedArguments::None => {}
+        TypedArguments::One(argument) => put_argument(code, externals, timer, argument)?,
+        TypedArguments::Two(first, second) => {
+            put_argument(code, externals, timer, first)?;
+            put_argument(code, externals, timer, second)?;
+        }
+    }
+    put(code, Instr::Timer(TimerUse::Run, timer))
+}

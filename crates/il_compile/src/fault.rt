@@ -1,0 +1,46 @@
+// Why a program is not compiled.
+ghost use Rattle.std.specs.Prelude.{◌≡◌};
+ghost use Rattle.il_compile.specs.Faults.{code_of};
+ghost use Rattle.il_compile.specs.declared.fault.CompileFault.TheVariants.{OutOfMemory};
+
+use std::alloc::{AllocError, AllocFailed};
+use thiserror::Error;
+
+/// Why a program is not compiled.
+#[derive(Clone, Copy, Debug, PartialEq, Eq, Error)]
+pub enum CompileFault {
+    /// The image would have more than 65,535 octets as it is written.
+    #[error("the image of the program would have more than 65,535 octets")]
+    CodeTooLong,
+    /// There is no memory for the image.
+    #[error("out of memory")]
+    OutOfMemory,
+}
+
+impl CompileFault {
+    /// The fault's number, 85. Want of memory has none.
+    pub fn code(self) -> Option<u8>
+        ensures { result ≡ code_of self }
+    {
+        match self {
+            CompileFault::CodeTooLong => Some(85),
+            CompileFault::OutOfMemory => None,
+        }
+    }
+}
+
+impl From<AllocError> for CompileFault {
+    ghost from_gives = { λ _ e. e ≡ OutOfMemory };
+
+    fn from(_error: AllocError) -> CompileFault {
+        CompileFault::OutOfMemory
+    }
+}
+
+impl<T: Drop> From<AllocFailed<T>> for CompileFault {
+    ghost from_gives = { λ _ e. e ≡ OutOfMemory };
+
+    fn from(_error: AllocFailed<T>) -> CompileFault {
+        CompileFault::OutOfMemory
+    }
+}

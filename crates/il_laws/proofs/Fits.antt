@@ -1,0 +1,318 @@
+-- The image of a checked program fits the points that it was checked with, and its code writes what it may.
+use Rattle.std.proofs.Common.{◌≡◌, ℕ, zero, suc, ◌+◌, ◌<◌, ◌≤◌, ◌&&◌, ◌||◌, Bool, true, false, not, cond, nat_le, if◌then◌else◌, List, [], ◌∷◌, ◌++◌, length, map, Option, Some, None, Result, Ok, Err, refl, sym, ap, ap₂, subst, ◌∙◌, arith}
+use Rattle.std.specs.Prelude.{codes, find, slice_get}
+use Rattle.std.specs.Bool.{beq}
+use Rattle.std.specs.List.{cons_option, list_any}
+use Rattle.std.specs.Str.{bytes_eq}
+use Rattle.std.proofs.lemmas.Bool.{leb-true, le-leb}
+use Rattle.std.proofs.lemmas.List.{length-map}
+use Rattle.std.proofs.lemmas.Slice.Eq.{bytes_eq-Decides}
+use Rattle.bay_base.specs.Exact.{judged}
+use Rattle.bay_base.specs.Names.{same_name, upper}
+use Rattle.bay_base.specs.Types.{same_type}
+use Rattle.bay_base.specs.declared.types.ElementaryType.{ElementaryType}
+use Rattle.bay_base.proofs.NameLemmas.{upper-upper}
+use Rattle.bay_config.specs.Point.{inputs_from, meters_from, points_from, points_of_all}
+use Rattle.bay_config.specs.declared.bay.Point.{Point}
+use Rattle.bay_config.specs.declared.bay.Switch.{Switch}
+use Rattle.il_text.specs.Listing as text
+use Rattle.il_text.specs.declared.program.DeclaredType.{DeclaredType}
+use Rattle.il_text.specs.declared.program.DeclaredType.TheVariants as type
+use Rattle.il_text.specs.declared.program.Literal.{Literal}
+use Rattle.il_text.specs.declared.program.Scope.{Scope}
+use Rattle.il_text.specs.declared.program.Scope.TheVariants as scope
+use Rattle.il_image.specs.Images.{Each, Image}
+use Rattle.il_image.specs.Spelling.{IsInstr}
+use Rattle.il_image.specs.declared.instr.Instr.{Instr}
+use Rattle.il_image.specs.declared.instr.Instr.TheVariants.{Halt, Push, Drop, Slot, Not, Combine, Compute, Compare, Widen, Jump, Timer}
+use Rattle.il_image.specs.declared.opcode.SlotUse.TheVariants.{Load, Store, SetIf, ResetIf}
+use Rattle.il_image.proofs.KindLemmas.{same_is, same_self}
+use Rattle.il_check.specs.Checking.{checked_of, checked_program, faults_of, start}
+use Rattle.il_check.specs.Declaring.{declaration_faults, declarations_faults, external_at, external_in, externals_of, is_typed, names_in, point_of as declared_point, is_name}
+use Rattle.il_check.specs.Faults.{fault_if, least_fault}
+use Rattle.il_check.specs.Program.{Checked}
+use Rattle.il_check.specs.Sound.{AreApart, name_at}
+use Rattle.il_check.specs.TypedProgram.{IsTyped}
+use Rattle.il_check.specs.WellTyped.{items_faults}
+use Rattle.il_check.specs.declared.fault.CheckFault.{CheckFault}
+use Rattle.il_check.specs.declared.typed.External.{External}
+use Rattle.il_check.specs.declared.typed.Variable.{Variable}
+use Rattle.il_check.proofs.ApartLemmas.{all_apart}
+use Rattle.il_check.proofs.NotedLemmas.{append-none, least_fault-none}
+use Rattle.il_verify.specs.Binding.{are_points, fits, is_point}
+use Rattle.il_verify.specs.Judging.{is_read_only, writes_read_only}
+use Rattle.il_verify.specs.Slots.{point_slot, slots_of, variable_slot}
+use Rattle.il_verify.specs.Verdicts.{IsVerified, KeepsReadOnly}
+use Rattle.il_compile.specs.Code.{program_code}
+use Rattle.il_compile.specs.Compiled.{compiled_of, image_of, image_size, point_of}
+use Rattle.il_compile.specs.Senses.{timer_of}
+use Rattle.il_laws.specs.Verified.{HasUpperName, HaveUpperNames}
+use Rattle.il_compile.specs.declared.fault.CompileFault.TheVariants.{CodeTooLong}
+use Rattle.il_compile.proofs.SizeLemmas.{size_is}
+use Rattle.il_compile.proofs.Spellable.{program_are}
+use Rattle.il_compile.proofs.Tabled.{has_table, keeps_at}
+use Rattle.il_compile.proofs.TabledSteps.{Keeps, writable}
+
+not_true : (b : Bool) → (b ≡ true → ⊥) → b ≡ false
+not_true true h = absurd (h refl)
+not_true false h = refl
+
+both : (a b : Bool) → a ≡ true → b ≡ true → a && b ≡ true
+both true b e f = f
+both false b e f = absurd cc
+
+either : (a b : Bool) → b ≡ true → a || b ≡ true
+either true b e = refl
+either false b e = e
+
+neither : (a b : Bool) → a ≡ false → b ≡ false → a || b ≡ false
+neither true b e f = absurd cc
+neither false b e f = f
+
+clash : (b : Bool) → b ≡ true → b ≡ false → ⊥
+clash b e f = absurd cc
+
+-- ---- the externals are points
+
+-- some point has the external's name, type and writability
+abbrev IsBound : List Point → External → Type 0
+IsBound points e = list_any (λ b. is_point (point_of e) b) points ≡ true
+
+some_same : {A : Type 0} (x y : A) → Some x ≡ Some y → x ≡ y
+some_same x y e = cc
+
+found_holds : (test : Point → Bool) (points : List Point) (p : Point) → find test points ≡ Some p → HaveUpperNames points → (test p ≡ true) × HasUpperName p
+found_holds test [] p e h = absurd cc
+found_holds test (q ∷ points) p e h =
+    elim (test q) as (λ b. test q ≡ b → cond b (Some q) (find test points) ≡ Some p → (test p ≡ true) × HasUpperName p) [
+      | true ↦ (λ t g. (let same : q ≡ p = some_same q p g in (subst (λ x. test x ≡ true) same t, subst HasUpperName same h.0)))
+      | false ↦ (λ t g. found_holds test points p g h.1)
+    ] refl e
+
+found_any : (test other : Point → Bool) (points : List Point) (p : Point) → find test points ≡ Some p → other p ≡ true → list_any other points ≡ true
+found_any test other [] p e h = absurd cc
+found_any test other (q ∷ points) p e h =
+    elim (test q) as (λ b. cond b (Some q) (find test points) ≡ Some p → other q || list_any other points ≡ true) [
+      | true ↦ (λ g. (let same : q ≡ p = some_same q p g in ap (λ b. b || list_any other points) (ap other same ∙ h)))
+      | false ↦ (λ g. either (other q) (list_any other points) (found_any test other points p g h))
+    ] e
+
+equal_self : (b : Bool) → beq b b ≡ true
+equal_self true = refl
+equal_self false = refl
+
+same_upper : (a b : List ℕ) → same_name a b ≡ true → upper a ≡ upper b
+unfolding same_name
+same_upper a b h = (bytes_eq-Decides (upper a) (upper b)).0 h
+
+same_self_name : (a : List ℕ) → same_name a a ≡ true
+unfolding same_name
+same_self_name a = (bytes_eq-Decides (upper a) (upper a)).1 refl
+
+-- what is found for a name alone
+of_a_name : (b : Bool) (o : Option Point) (p : Point) → (if b then o else None) ≡ Some p → o ≡ Some p
+of_a_name true o p e = e
+of_a_name false o p e = absurd cc
+
+bound_at : (points : List Point) (name : List ℕ) (kind : ElementaryType) (o : Option Point) (es : List External) → declared_point points name ≡ o → HaveUpperNames points
+    → is_typed scope.External (type.Elementary kind) o None ≡ true → Each (IsBound points) es → Each (IsBound points) (cons_option (external_at name kind o) es)
+bound_at points name kind None es e h t rest = rest
+bound_at points name kind (Some p) es e h t rest =
+    let e : find (λ q. same_name q.name name) points ≡ Some p = of_a_name (is_name name) (find (λ q. same_name q.name name) points) p e in
+    let f = found_holds (λ q. same_name q.name name) points p e h in
+    let named : upper name ≡ p.name = sym (same_upper p.name name f.0) ∙ f.1 in
+    let typed : same_type kind p.kind ≡ true = subst (λ k. same_type kind k ≡ true) (sym (same_is p.kind kind t)) (same_self kind) in (
+      found_any (λ q. same_name q.name name) (λ b. is_point (point_of (record { name = upper name; kind = kind; writable = p.writable; origin = p.origin })) b) points p e
+          (both (bytes_eq (upper name) p.name) (same_type kind p.kind && beq p.writable p.writable) ((bytes_eq-Decides (upper name) p.name).1 named)
+          (both (same_type kind p.kind) (beq p.writable p.writable) typed (equal_self p.writable))),
+      rest,
+    )
+
+bound_in : (points : List Point) (d : text.Declared) (s : Scope) (k : DeclaredType) (given : Option Literal) (es : List External) → HaveUpperNames points
+    → is_typed s k (declared_point points d.name) given ≡ true → Each (IsBound points) es → Each (IsBound points) (cons_option (external_in points d s k) es)
+bound_in points d scope.External (type.Elementary kind) given es h t rest = bound_at points d.name kind (declared_point points d.name) es refl h t rest
+bound_in points d scope.External (type.Timer kind) given es h t rest = rest
+bound_in points d scope.Local (type.Elementary kind) given es h t rest = rest
+bound_in points d scope.Local (type.Timer kind) given es h t rest = rest
+
+no_fault : (test : Bool) (f : CheckFault) → fault_if test f ≡ [] → test ≡ false
+no_fault true f none = absurd cc
+no_fault false f none = refl
+
+not_not : (b : Bool) → not b ≡ false → b ≡ true
+not_not true e = refl
+not_not false e = absurd cc
+
+all_bound : (points : List Point) (before ds : List text.Declared) → HaveUpperNames points → declarations_faults points before ds ≡ [] → Each (IsBound points) (externals_of points ds)
+all_bound points before [] h none = tt
+all_bound points before (d ∷ ds) h none =
+    let two = append-none (declaration_faults points before d) (declarations_faults points (before ++ d ∷ []) ds) none in
+    let typed : is_typed d.scope d.kind (declared_point points d.name) d.initial ≡ true =
+    not_not _ (no_fault _ _ (append-none _ _ (append-none _ _ (append-none _ _ two.0).1).1).0) in
+    bound_in points d d.scope d.kind d.initial (externals_of points ds) h typed (all_bound points (before ++ d ∷ []) ds h two.1)
+
+-- ---- no name stands twice
+
+none_alike : (name : List ℕ) (es : List External) (ns : List (List ℕ)) → ((j : ℕ) → j < length (map (λ e. e.name) es ++ ns) → same_name name (name_at (map (λ e. e.name) es ++ ns) j) ≡ false)
+    → list_any (λ q. bytes_eq q.name name) (map point_of es) ≡ false
+none_alike name [] ns h = refl
+none_alike name (e ∷ es) ns h =
+    neither (bytes_eq e.name name) (list_any (λ q. bytes_eq q.name name) (map point_of es))
+    (not_true (bytes_eq e.name name) (λ t.
+    (let same : e.name ≡ name = (bytes_eq-Decides e.name name).0 t in
+    let first : same_name name e.name ≡ false = h 0 (omega arith) in
+    clash (same_name name name) (same_self_name name) (subst (λ x. same_name name x ≡ false) same first))))
+    (none_alike name es ns (λ j lt. h (suc j) (omega arith)))
+
+apart_rest : (x : List ℕ) (xs : List (List ℕ)) → AreApart (x ∷ xs) → AreApart xs
+apart_rest x xs h i j lt within = h (suc i) (suc j) (omega arith) (omega arith)
+
+points_fit : (points : List Point) (es : List External) (ns : List (List ℕ)) → Each (IsBound points) es → AreApart (map (λ e. e.name) es ++ ns) → are_points points (map point_of es) ≡ true
+points_fit points [] ns h apart = refl
+points_fit points (e ∷ es) ns h apart =
+    let alone : list_any (λ q. bytes_eq q.name e.name) (map point_of es) ≡ false = none_alike e.name es ns (λ j lt. apart 0 (suc j) (omega arith) (omega arith)) in
+    both (list_any (λ b. is_point (point_of e) b) points && not (list_any (λ q. bytes_eq q.name e.name) (map point_of es))) (are_points points (map point_of es))
+    (both (list_any (λ b. is_point (point_of e) b) points) (not (list_any (λ q. bytes_eq q.name e.name) (map point_of es))) h.0 (ap not alone))
+    (points_fit points es ns h.1 (apart_rest e.name (map (λ x. x.name) es ++ ns) apart))
+
+-- ---- what is known of a checked program
+
+ok_same : {A E : Type 0} (x y : A) → ◌≡◌ {A = Result A E} (Ok x) (Ok y) → x ≡ y
+ok_same x y e = cc
+
+passed : (o : Option CheckFault) (x c : Checked) → judged o x ≡ Ok c → (o ≡ None) × (x ≡ c)
+passed None x c e = (refl, ok_same x c e)
+passed (Some f) x c e = absurd cc
+
+image_fits : (points : List Point) (c : Checked) → IsTyped c → are_points points (map point_of c.externals) ≡ true → fits points (image_of c) ≡ true
+unfolding fits
+image_fits points c ok h =
+    let s = ok.slots in
+    let t = ok.timers in
+    let a = length-map c.externals point_of in
+    let b = length-map c.variables (λ v. v.initial) in
+    let d = length-map c.timers (λ x. timer_of x.kind) in
+    both (nat_le (length (map point_of c.externals) + length (map (λ v. v.initial) c.variables)) 512 && nat_le (length (map (λ x. timer_of x.kind) c.timers)) 64) (are_points points (map point_of c.externals))
+    (both (nat_le (length (map point_of c.externals) + length (map (λ v. v.initial) c.variables)) 512) (nat_le (length (map (λ x. timer_of x.kind) c.timers)) 64)
+    (le-leb (length (map point_of c.externals) + length (map (λ v. v.initial) c.variables)) 512 (omega arith)) (le-leb (length (map (λ x. timer_of x.kind) c.timers)) 64 (omega arith))) h
+
+checked_fits : (points : List Point) (program : text.PlainProgram) (c : Checked) → HaveUpperNames points → checked_of points program ≡ Ok c → IsTyped c → fits points (image_of c) ≡ true
+checked_fits points program c upper_names e ok =
+    let p = passed (least_fault (faults_of points program)) (checked_program points program) c e in
+    let none = (append-none (declarations_faults points [] program.declarations) (items_faults (names_in points program) program.items (start program)) (least_fault-none (faults_of points program) p.0)).0 in
+    image_fits points c ok
+    (subst (λ x. are_points points (map point_of x.externals) ≡ true) p.1
+    (points_fit points (externals_of points program.declarations) _ (all_bound points [] program.declarations upper_names none) (all_apart points program.declarations none)))
+
+-- ---- what the code writes
+
+map_both : {A B : Type 0} (f : A → B) (xs ys : List A) → map f (xs ++ ys) ≡ map f xs ++ map f ys
+map_both f [] ys = refl
+map_both f (x ∷ xs) ys = ap (λ l. f x ∷ l) (map_both f xs ys)
+
+-- a slot that may be written is none that may only be read
+not_fixed : (es : List External) (vs : List Variable) (n : ℕ) → slice_get (map (λ e. e.writable) es ++ map (λ v. true) vs) n ≡ Some true
+    → is_read_only (map point_slot (map point_of es) ++ map variable_slot (map (λ v. v.initial) vs)) n ≡ false
+not_fixed [] [] n h = refl
+not_fixed [] (v ∷ vs) zero h = refl
+not_fixed [] (v ∷ vs) (suc n) h = not_fixed [] vs n h
+not_fixed (e ∷ es) vs zero h = (let w : e.writable ≡ true = some_same e.writable true h in ap not w)
+not_fixed (e ∷ es) vs (suc n) h = not_fixed es vs n h
+
+module _ (c : Checked) where
+  may_be_written : (n : ℕ) → slice_get (writable c) n ≡ Some true → is_read_only (slots_of (image_of c)) n ≡ false
+  unfolding slots_of
+  may_be_written n h = not_fixed c.externals c.variables n h
+
+  keeps_read_only : (i : Instr) → Keeps c i → writes_read_only (slots_of (image_of c)) i ≡ false
+  keeps_read_only (Slot Load n) h = refl
+  keeps_read_only (Slot Store n) h = may_be_written n h
+  keeps_read_only (Slot SetIf n) h = may_be_written n h
+  keeps_read_only (Slot ResetIf n) h = may_be_written n h
+  keeps_read_only Halt h = refl
+  keeps_read_only (Push v) h = refl
+  keeps_read_only Drop h = refl
+  keeps_read_only Not h = refl
+  keeps_read_only (Combine x) h = refl
+  keeps_read_only (Compute o w) h = refl
+  keeps_read_only (Compare x) h = refl
+  keeps_read_only (Widen w) h = refl
+  keeps_read_only (Jump when distance) h = refl
+  keeps_read_only (Timer timer_use n) h = refl
+
+  pub writes : IsTyped c → Each IsInstr (program_code c) → KeepsReadOnly (image_of c)
+  writes ok are place i next p e = keeps_read_only i (keeps_at c ok are place i next p e)
+
+-- ---- all of it
+
+short : (c : Checked) (image : Image) → compiled_of c ≡ Ok image → (image_size c ≤ 65_535) × (image_of c ≡ image)
+short c image e =
+    elim (nat_le (image_size c) 65_535) as (λ b. nat_le (image_size c) 65_535 ≡ b → (if b then Ok (image_of c) else Err CodeTooLong) ≡ Ok image → (image_size c ≤ 65_535) × (image_of c ≡ image))
+    [ true ↦ (λ t g. (leb-true (image_size c) 65_535 t, ok_same (image_of c) image g)) | false ↦ (λ t g. absurd cc) ] refl e
+
+pub verified : (points : List Point) (program : text.PlainProgram) (c : Checked) → HaveUpperNames points → checked_of points program ≡ Ok c → IsTyped c
+    → (image : Image) → compiled_of c ≡ Ok image → IsVerified points image
+verified points program c upper_names e ok image compiled =
+    let s = short c image compiled in
+    let le = s.0 in
+    let are = program_are c ok (omega (arith, size_is c)) in
+    subst (IsVerified points) s.1 (record {
+      fits = checked_fits points program c upper_names e ok;
+      safe = record { table = has_table c ok are; writes = writes c ok are };
+    })
+
+-- ---- a bay's points
+
+upper_name : (id ending : List ℕ) → upper ending ≡ ending → upper (upper id ++ ending) ≡ upper id ++ ending
+upper_name id ending e = map_both _ (upper id) ending ∙ ap₂ ◌++◌ (upper-upper id) e
+
+pub upper_from : (place : ℕ) (switches : List Switch) → HaveUpperNames (points_from place switches)
+upper_from place [] = tt
+upper_from place (s ∷ switches) = (
+  upper_name s.id (codes "_POS") refl,
+  (
+    upper_name s.id (codes "_OPEN") refl,
+    (
+      upper_name s.id (codes "_CLOSED") refl,
+      (
+        upper_name s.id (codes "_ENA_OPN") refl,
+        (upper_name s.id (codes "_ENA_CLS") refl, upper_from (place + 1) switches),
+      ),
+    ),
+  ),
+)
+
+inputs_upper : (place : ℕ) (names : List (List ℕ)) → HaveUpperNames (inputs_from place names)
+inputs_upper place [] = tt
+inputs_upper place (name ∷ names) = (upper-upper name, inputs_upper (place + 1) names)
+
+meters_upper : (place : ℕ) (ids : List (List ℕ)) → HaveUpperNames (meters_from place ids)
+meters_upper place [] = tt
+meters_upper place (id ∷ ids) = (
+  upper_name id (codes "_TOTW") refl,
+  (
+    upper_name id (codes "_TOTVAR") refl,
+    (
+      upper_name id (codes "_HZ") refl,
+      (
+        upper_name id (codes "_AA") refl,
+        (
+          upper_name id (codes "_AB") refl,
+          (
+            upper_name id (codes "_AC") refl,
+            meters_upper (place + 1) ids,
+          ),
+        ),
+      ),
+    ),
+  ),
+)
+
+both_upper : (a b : List Point) → HaveUpperNames a → HaveUpperNames b → HaveUpperNames (a ++ b)
+both_upper [] b h k = k
+both_upper (p ∷ a) b h k = (h.0, both_upper a b h.1 k)
+
+pub all_upper : (switches : List Switch) (inputs meters : List (List ℕ)) → HaveUpperNames (points_of_all switches inputs meters)
+all_upper switches inputs meters =
+    both_upper (points_from 0 switches) (inputs_from 0 inputs ++ meters_from 0 meters) (upper_from 0 switches)
+    (both_upper (inputs_from 0 inputs) (meters_from 0 meters) (inputs_upper 0 inputs) (meters_upper 0 meters))

@@ -1,0 +1,102 @@
+// Reports of controls, and lengths of pages.
+use crate::rows::position_of;
+use crate::words::{first_word, is_written, octets_of, truth_of};
+use anyhow::{Result, bail};
+use bay_mms::page::{name_length, page_length};
+use bay_mms::report::{ControlError, Operate, Origin, write_failure, write_termination};
+use std::alloc::Global;
+
+/// The report of a failure.
+fn failure_of<'a>(
+    alloc: Global,
+    object: &'a str,
+    category: i8,
+    identity: &'a [u8],
+    number: u8,
+    cause: u8,
+) -> Result<Vec<u8>> {
+    let origin = Origin { category, identity };
+    let failure = ControlError {
+        object,
+        origin,
+        number,
+        cause,
+    };
+    Ok(write_failure(alloc, &failure)?)
+}
+
+/// Whether an operate of an object that fails is told so: its octets, the object, the category and the identity of its origin, its
+/// number and its cause.
+pub fn is_failure(alloc: Global, words: &str) -> Result<bool> {
+    let (octets, rest) = first_word(words);
+    let (object, rest) = first_word(rest);
+    let (category, rest) = first_word(rest);
+    let (identity, rest) = first_word(rest);
+    let (number, cause) = first_word(rest);
+    let identity = octets_of(alloc, identity)?;
+    let category = category.parse::<i8>()?;
+    let number = number.parse::<u8>()?;
+    let cause = cause.parse::<u8>()?;
+    let written = failure_of(alloc, object, category, identity.as_slice(), number, cause)?;
+    is_written(alloc, written.as_slice(), octets)
+}
+
+/// The eight octets of a moment.
+fn moment_of(alloc: Global, word: &str) -> Result<[u8; 8]> {
+    let octets = octets_of(alloc, word)?;
+    if octets.len() != 8 {
+        bail!("no moment: {word}");
+    }
+    let mut moment = [0; 8];
+    moment.copy_from_slice(octets.as_slice());
+    Ok(moment)
+}
+
+/// Whether an operate that has ended well is told so: its octets, the domain, the item, the value, the category and the identity of
+/// its origin, its number, its moment, whether it is a test, and its check.
+pub fn is_termination(alloc: Global, words: &str) -> Result<bool> {
+    let (octets, rest) = first_word(words);
+    let (domain, rest) = first_word(rest);
+    let (item, rest) = first_word(rest);
+    let (value, rest) = first_word(rest);
+    let (category, rest) = first_word(rest);
+    let (identity, rest) = first_word(rest);
+    let (number, rest) = first_word(rest);
+    let (moment, rest) = first_word(rest);
+    let (is_test, check) = first_word(rest);
+    let identity = octets_of(alloc, identity)?;
+    let origin = Origin {
+        category: category.parse::<i8>()?,
+        identity: identity.as_slice(),
+    };
+    let operate = Operate {
+        value: truth_of(value)?,
+        origin,
+        number: number.parse::<u8>()?,
+        moment: moment_of(alloc, moment)?,
+        is_test: truth_of(is_test)?,
+        check: position_of(check)?,
+    };
+    let written = write_termination(alloc, domain, item, &operate)?;
+    is_written(alloc, written.as_slice(), octets)
+}
+
+/// Whether a page of names of so many octets has this length under an invoke id.
+pub fn is_page(words: &str) -> Result<bool> {
+    let (id, rest) = first_word(words);
+    let (names, length) = first_word(rest);
+    let names = names.parse::<u32>()?;
+    if names > 1_000_000 {
+        bail!("a page of {names} octets");
+    }
+    Ok(page_length(id.parse::<u32>()?, names) == length.parse::<u64>()?)
+}
+
+/// Whether a name takes so many octets of a page.
+pub fn is_name(words: &str) -> Result<bool> {
+    let (name, length) = first_word(words);
+    if name.len() > 1_000 {
+        bail!("a name that is too long");
+    }
+    Ok(name_length(name) == length.parse::<u64>()?)
+}

@@ -1,0 +1,151 @@
+// Responses, and the octets that they are written in.
+ghost use Rattle.std.specs.Prelude.{IfOk};
+ghost use Rattle.bay_mms.specs.Responses.{IsReadOf};
+
+use crate::rows::Rows;
+use crate::words::{first_word, is_written, truth_of};
+use anyhow::{Result, bail};
+use bay_base::text::Text;
+use bay_mms::response::{
+    Agreed, ErrorClass, ReadResult, RejectReason, Response, Service, WriteResult, write_response,
+};
+use bay_tree::tree::Tree;
+use std::alloc::Global;
+
+/// What is agreed: the size, how many may be outstanding on either side, the nesting or `-`, and the parameters.
+fn agreed_of(size: &str, words: &str) -> Result<Agreed> {
+    let (calling, rest) = first_word(words);
+    let (called, rest) = first_word(rest);
+    let (nesting, parameters) = first_word(rest);
+    let nesting = match nesting {
+        "-" => None,
+        _ => Some(nesting.parse::<i64>()?),
+    };
+    Ok(Agreed {
+        size: size.parse::<u32>()?,
+        calling: calling.parse::<u32>()?,
+        called: called.parse::<u32>()?,
+        nesting,
+        parameters: parameters.parse::<u8>()?,
+    })
+}
+
+/// The names of a page.
+fn names_of(alloc: Global, words: &str) -> Result<Vec<Text>> {
+    let mut names = Vec::new(alloc);
+    for name in words.split(" ") {
+        if !name.is_empty() {
+            names.push(Text::from_str(alloc, name)?)?;
+        }
+    }
+    Ok(names)
+}
+
+/// What is read of a variable: `value:` and its name, `text:` and a text in its place, or `failure:` and a number; any other word
+/// stands for a failure.
+fn read_of(alloc: Global, tree: &Tree, word: &str) -> Result<ReadResult>
+    ensures { IfOk result (λ read. IsReadOf tree.now read) }
+{
+    let (kind, what) = word.split_once(":").unwrap_or(("failure", "0"));
+    match kind {
+        "value" => Ok(ReadResult::Value(tree.find(what)?)),
+        "text" => Ok(ReadResult::Reference(Text::from_str(alloc, what)?)),
+        _ => Ok(ReadResult::Failure(what.parse::<u8>()?)),
+    }
+}
+
+/// What comes of writes, each: `success`, or a number.
+fn writes_of(alloc: Global, words: &str) -> Result<Vec<WriteResult>> {
+    let mut results = Vec::new(alloc);
+    for word in words.split(" ") {
+        match word.parse::<u8>() {
+            Ok(number) => results.push(WriteResult::Failure(number))?,
+            Err(_) => results.push(WriteResult::Success)?,
+        }
+    }
+    Ok(results)
+}
+
+fn class_of(word: &str) -> Result<ErrorClass> {
+    match word {
+        "no-such-object" => Ok(ErrorClass::NoSuchObject),
+        "resource" => Ok(ErrorClass::Resource),
+        _ => bail!("no class: {word}"),
+    }
+}
+
+fn reason_of(word: &str) -> Result<RejectReason> {
+    match word {
+        "unrecognized-service" => Ok(RejectReason::UnrecognizedService),
+        "invalid-pdu" => Ok(RejectReason::InvalidPdu),
+        _ => bail!("no reason: {word}"),
+    }
+}
+
+/// The octets of a response: its kind, the first of its words, which is mostly an invoke id, and the others. All kinds stand in one
+/// function: the borrow checker wants the types of a response's parts named where one is written.
+fn response_of(alloc: Global, tree: &Tree, kind: &str, first: &str, rest: &str) -> Result<Vec<u8>> {
+    let id = first.parse::<u32>().unwrap_or(0);
+    let (second, others) = first_word(rest);
+    let written = match kind {
+        "initiate" => write_response(alloc, &Response::Initiate(agreed_of(first, rest)?))?,
+        "conclude" => write_response(alloc, &Response::Conclude)?,
+        "identify" => {
+            let (model, revision) = first_word(others);
+            let service = Service::Identify {
+                vendor: second,
+                model,
+                revision,
+            };
+            write_response(alloc, &Response::Confirmed { id, service })?
+        }
+        "names" => {
+            let more = truth_of(second)?;
+            let names = names_of(alloc, others)?;
+            let service = Service::Names {
+                names: names.as_slice(),
+                more,
+            };
+            write_response(alloc, &Response::Confirmed { id, service })?
+        }
+        "attributes" => {
+            let handle = tree.find(rest)?;
+            let service = Service::Attributes { tree, handle };
+            write_response(alloc, &Response::Confirmed { id, service })?
+        }
+        "read" => {
+            let results = [read_of(alloc, tree, second)?, read_of(alloc, tree, others)?];
+            let service = Service::Read {
+                tree,
+                results: &results,
+            };
+            write_response(alloc, &Response::Confirmed { id, service })?
+        }
+        "write" => {
+            let results = writes_of(alloc, rest)?;
+            let service = Service::Write {
+                results: results.as_slice(),
+            };
+            write_response(alloc, &Response::Confirmed { id, service })?
+        }
+        "error" => {
+            let class = class_of(rest)?;
+            write_response(alloc, &Response::Error { id, class })?
+        }
+        _ => {
+            let id = first.parse::<u32>().ok();
+            let reason = reason_of(rest)?;
+            write_response(alloc, &Response::Reject { id, reason })?
+        }
+    };
+    Ok(written)
+}
+
+/// Whether a response is written in these octets.
+pub fn is_response(alloc: Global, rows: &mut Rows, words: &str) -> Result<bool> {
+    let (octets, rest) = first_word(words);
+    let (kind, rest) = first_word(rest);
+    let (first, rest) = first_word(rest);
+    let written = response_of(alloc, rows.tree()?, kind, first, rest)?;
+    is_written(alloc, written.as_slice(), octets)
+}
