@@ -1,7 +1,9 @@
 -- What a device is, and what one event makes of it (IEC 61850-7-4: XCBR, XSWI, CSWI, CILO and MMXU; IEC 61850-7-3:
 -- status values and measured values).
-use Rattle.std.specs.Prelude.{ℕ, ℤ, ◌+◌, Bool, true, false, not, ◌&&◌, ◌||◌, nat_lt, ◌==◌, pos, ◌+ℤ◌, int_lt, List, [], ◌∷◌, slice_get, slice_set, Option, None, Some, Result, Ok, Err, if◌then◌else◌}
+use Rattle.std.specs.Prelude.{ℕ, ℤ, ◌+◌, Bool, true, false, not, ◌&&◌, ◌||◌, nat_lt, ◌==◌, pos, ◌+ℤ◌, int_lt, List, [], ◌∷◌, length, map, position, slice_get, slice_set, unwrap_or, Option, None, Some, Result, Ok, Err, if◌then◌else◌}
 use Rattle.std.specs.Ordering.{int_eq}
+use Rattle.bay_base.specs.declared.types.ElementaryType.{ElementaryType}
+use Rattle.bay_base.specs.declared.types.ElementaryType.TheVariants as elementary
 use Rattle.bay_tree.specs.Rows.{leaf_of, with_leaf_of}
 use Rattle.bay_tree.specs.declared.row.Row.{Row}
 use Rattle.bay_tree.specs.declared.leaf.Leaf.{Leaf}
@@ -16,23 +18,22 @@ use Rattle.bay_config.specs.declared.bay.Origin.{Origin}
 use Rattle.bay_config.specs.declared.bay.Origin.TheVariants as origin
 use Rattle.bay_config.specs.declared.bay.SwitchPoint.{SwitchPoint}
 use Rattle.bay_config.specs.declared.bay.SwitchPoint.TheVariants.{Position, Open, Closed, EnableOpen, EnableClose}
+use Rattle.il_image.specs.Machine.{Ending, Halted, Trapped, Unfinished, run}
+use Rattle.il_image.specs.declared.timer.Timer.{Timer}
+use Rattle.il_image.specs.declared.value.Value.{Value}
+use Rattle.il_image.specs.declared.value.Value.TheVariants.{Truth, Short, Long, Wide, Span}
+use Rattle.il_scan.specs.Scans.{Held, outputs_of, started}
 use Rattle.bay_device.specs.Names.{StatusNames, SwitchNames, switch_names, meter_names, field_names}
-use Rattle.bay_device.specs.Straight.{Action}
-use Rattle.bay_device.specs.Meaning.{Value, truth, Variables, mean}
 use Rattle.bay_device.specs.declared.event.Event.{Event}
 use Rattle.bay_device.specs.declared.event.Event.TheVariants.{Contact, Input, Measure, Scan}
 use Rattle.bay_device.specs.declared.event.Step.{Step}
 use Rattle.bay_device.specs.declared.fault.StepFault.{StepFault}
 use Rattle.bay_device.specs.declared.fault.StepFault.TheVariants.{MomentTooLarge, TimeWentBack, NoSuchPoint}
 
--- a variable of the program: its name in upper case, and what it stands for in the bay, if it is external
-pub record Variable : Type 0 where
-  pub name : List ℕ
-  pub origin : Option Origin
-
 -- a device: what its bay file says of the bay, its switches, the names and the values of its inputs, the ids of its
--- meters, its program, the rows of its tree, the values of its variables in the order of their declarations, the moment
--- of the last accepted event, and the last scan: its moment, and whether what it read has changed since
+-- meters; what the points stand for that its program only reads, and those that it may write, each in the order of the
+-- program's points; the machine that runs the program: its image, its slots and its timers; the rows of its tree; the
+-- moment of the last accepted event; and the last scan: its moment, and whether what it read has changed since
 pub record State : Type 0 where
   pub domain : List ℕ
   pub vendor : List ℕ
@@ -43,10 +44,10 @@ pub record State : Type 0 where
   pub inputs : List (List ℕ)
   pub input_values : List Bool
   pub meters : List (List ℕ)
-  pub declared : List Variable
-  pub items : List Action
+  pub reads : List Origin
+  pub writes : List Origin
+  pub machine : Held
   pub rows : List Row
-  pub variables : Variables
   pub moment : ℕ
   pub last_scan : Option ℕ
   pub is_stale : Bool
@@ -167,34 +168,40 @@ measure_taken now k field value s =
       is_stale = s.is_stale || not (tells_measure names value s.rows);
     }
 
--- what the points that are read say of a position
-abbrev pub input_of : SwitchPoint → Option Leaf → Option Bool
-input_of Open position = Some (is_position Off position)
-input_of Closed position = Some (is_position On position)
-input_of Position position = None
-input_of EnableOpen position = None
-input_of EnableClose position = None
+-- the number of a position: 0 intermediate, 1 off, 2 on, 3 bad
+abbrev pub number_of_position : Option Leaf → ℤ
+number_of_position (Some (leaf.Dbpos Off)) = pos 1
+number_of_position (Some (leaf.Dbpos On)) = pos 2
+number_of_position (Some (leaf.Dbpos Bad)) = pos 3
+number_of_position other = pos 0
 
-abbrev pub input_of_switch : List Switch → List Row → ℕ → SwitchPoint → Option Switch → Option Bool
-input_of_switch switches rows k point None = None
-input_of_switch switches rows k point (Some switch) = input_of point (leaf_of (switch_names switches k switch).position.value rows)
+-- what the points of a switch say of its position; those that the program writes say nothing
+abbrev pub position_value : SwitchPoint → Option Leaf → Value
+position_value Position position = Short (number_of_position position)
+position_value Open position = Truth (is_position Off position)
+position_value Closed position = Truth (is_position On position)
+position_value EnableOpen position = Truth false
+position_value EnableClose position = Truth false
 
--- the value that the contacts and the inputs give a variable; a measured value is no truth value
-abbrev pub input_value : List Switch → List Row → List Bool → Option Origin → Option Bool
-input_value switches rows inputs None = None
-input_value switches rows inputs (Some (origin.Switch k point)) = input_of_switch switches rows k point (slice_get switches k)
-input_value switches rows inputs (Some (origin.Input k)) = slice_get inputs k
-input_value switches rows inputs (Some (origin.Meter k field)) = None
+-- the position of the switch at a place, as the rows have it
+abbrev pub position_leaf : List Switch → List Row → ℕ → Option Switch → Option Leaf
+position_leaf switches rows k None = None
+position_leaf switches rows k (Some switch) = leaf_of (switch_names switches k switch).position.value rows
 
-abbrev pub or_else : Option Bool → Value → Value
-or_else None v = v
-or_else (Some b) v = truth b
+-- a measured value, in whole units
+abbrev pub number_of_leaf : Option Leaf → ℤ
+number_of_leaf (Some (leaf.Int32 n)) = n
+number_of_leaf other = pos 0
 
--- the points that are read take their values from the positions and the inputs
-abbrev pub with_inputs : List Switch → List Row → List Bool → List Variable → Variables → Variables
-with_inputs switches rows inputs [] vs = vs
-with_inputs switches rows inputs (d ∷ ds) [] = []
-with_inputs switches rows inputs (d ∷ ds) (v ∷ vs) = (v.0, or_else (input_value switches rows inputs d.origin) v.1) ∷ with_inputs switches rows inputs ds vs
+-- the value that the contacts, the inputs and the measures give a point
+abbrev pub point_value : State → Origin → Value
+point_value s (origin.Switch k point) = position_value point (position_leaf s.switches s.rows k (slice_get s.switches k))
+point_value s (origin.Input k) = Truth (unwrap_or (slice_get s.input_values k) false)
+point_value s (origin.Meter k field) = Long (number_of_leaf (leaf_of (field_names field (meter_names k)).value s.rows))
+
+-- the values of the points that the program only reads
+abbrev pub inputs_of : State → List Value
+inputs_of s = map (point_value s) s.reads
 
 abbrev pub same_point : SwitchPoint → SwitchPoint → Bool
 same_point Position Position = true
@@ -204,21 +211,24 @@ same_point EnableOpen EnableOpen = true
 same_point EnableClose EnableClose = true
 same_point p q = false
 
--- a variable stands for this point of the switch at a place
-abbrev pub is_point : ℕ → SwitchPoint → Option Origin → Bool
-is_point k point None = false
-is_point k point (Some (origin.Switch j which)) = j == k && same_point which point
-is_point k point (Some (origin.Input j)) = false
-is_point k point (Some (origin.Meter j field)) = false
+-- this point of the switch at a place
+abbrev pub is_point : ℕ → SwitchPoint → Origin → Bool
+is_point k point (origin.Switch j which) = j == k && same_point which point
+is_point k point (origin.Input j) = false
+is_point k point (origin.Meter j field) = false
 
-abbrev pub is_true : Value → Bool
-is_true (truth b) = b
+abbrev pub is_true : Option Value → Bool
+is_true (Some (Truth b)) = b
+is_true other = false
+
+-- the value at a place, if there is one
+abbrev pub output_at : Option ℕ → List Value → Option Value
+output_at None outputs = None
+output_at (Some n) outputs = slice_get outputs n
 
 -- what the program gave a point of the switch at a place; FALSE where it does not name it
-abbrev pub output_of : ℕ → SwitchPoint → List Variable → Variables → Bool
-output_of k point [] vs = false
-output_of k point (d ∷ ds) [] = false
-output_of k point (d ∷ ds) (v ∷ vs) = if is_point k point d.origin then is_true v.1 else output_of k point ds vs
+abbrev pub output_of : ℕ → SwitchPoint → List Origin → List Value → Bool
+output_of k point writes outputs = is_true (output_at (position (is_point k point) writes) outputs)
 
 -- an interlocking value and its quality, with the moment where one of them changed
 abbrev pub with_enabled : StatusNames → Bool → ℕ → List Row → List Row
@@ -231,23 +241,44 @@ abbrev pub with_output : SwitchNames → Bool → Bool → ℕ → List Row → 
 with_output names opens closes now rows = with_enabled names.ena_cls closes now (with_enabled names.ena_opn opens now rows)
 
 -- the interlocking values of all switches take their points' values, from place k on
-abbrev pub with_outputs : List Switch → List Variable → Variables → ℕ → ℕ → List Switch → List Row → List Row
-with_outputs switches declared variables now k [] rows = rows
-with_outputs switches declared variables now k (s ∷ ss) rows =
-    with_outputs switches declared variables now (k + 1) ss
-    (with_output (switch_names switches k s) (output_of k EnableOpen declared variables) (output_of k EnableClose declared variables) now rows)
+abbrev pub with_outputs : List Switch → List Origin → List Value → ℕ → ℕ → List Switch → List Row → List Row
+with_outputs switches writes outputs now k [] rows = rows
+with_outputs switches writes outputs now k (s ∷ ss) rows =
+    with_outputs switches writes outputs now (k + 1) ss
+    (with_output (switch_names switches k s) (output_of k EnableOpen writes outputs) (output_of k EnableClose writes outputs) now rows)
+
+-- what a run leaves in slots and timers, and how many steps it takes
+pub record Ran : Type 0 where
+  pub slots : List Value
+  pub timers : List Timer
+  pub steps : ℕ
+
+-- a run that halts; no run of verified code ends otherwise
+abbrev pub ran_of : Ending → Ran
+ran_of (Halted slots timers steps) = record { slots = slots; timers = timers; steps = steps }
+ran_of (Trapped trap) = record { slots = []; timers = []; steps = 0 }
+ran_of Unfinished = record { slots = []; timers = []; steps = 0 }
+
+-- the machine's run at a moment, from what the points that are read hold then
+abbrev pub ending_at : ℕ → State → Ending
+ending_at now s = run s.machine.image.code now (length s.machine.image.code) (started s.machine (inputs_of s)) 0
+
+abbrev pub ran_at : ℕ → State → Ran
+ran_at now s = ran_of (ending_at now s)
+
+-- the device with what a run left, and with its interlocking values in the tree
+abbrev pub after_run : ℕ → Ran → State → State
+after_run now ran s = record s {
+  machine = record s.machine { slots = ran.slots; timers = ran.timers };
+  rows = with_outputs s.switches s.writes (outputs_of s.machine.image.points ran.slots) now 0 s.switches s.rows;
+  moment = now;
+  last_scan = Some now;
+  is_stale = false;
+}
 
 -- the points are read, the program runs once, and the interlocking values take their points' values
 abbrev pub scanned : ℕ → State → State
-scanned now s =
-    let variables = (mean s.items None (with_inputs s.switches s.rows s.input_values s.declared s.variables)).variables in
-    record s {
-      rows = with_outputs s.switches s.declared variables now 0 s.switches s.rows;
-      variables = variables;
-      moment = now;
-      last_scan = Some now;
-      is_stale = false;
-    }
+scanned now s = after_run now (ran_at now s) s
 
 -- the last moment that a time stamp can tell
 abbrev pub last_moment : ℕ
@@ -264,22 +295,22 @@ refused fault s = record { answer = Err fault; after = s }
 
 abbrev pub contact_outcome : ℕ → ℕ → Dbpos → State → Option Switch → Outcome
 contact_outcome now k position s None = refused NoSuchPoint s
-contact_outcome now k position s (Some switch) = record { answer = Ok (record { scanned = false }); after = contact_taken now k switch position s }
+contact_outcome now k position s (Some switch) = record { answer = Ok (record { scan = None }); after = contact_taken now k switch position s }
 
 abbrev pub input_outcome : ℕ → ℕ → Bool → State → Option Bool → Outcome
 input_outcome now k value s None = refused NoSuchPoint s
-input_outcome now k value s (Some before) = record { answer = Ok (record { scanned = false }); after = input_taken now k value before s }
+input_outcome now k value s (Some before) = record { answer = Ok (record { scan = None }); after = input_taken now k value before s }
 
 abbrev pub measure_outcome : ℕ → ℕ → MeterField → ℤ → State → Option (List ℕ) → Outcome
 measure_outcome now k field value s None = refused NoSuchPoint s
-measure_outcome now k field value s (Some id) = record { answer = Ok (record { scanned = false }); after = measure_taken now k field value s }
+measure_outcome now k field value s (Some id) = record { answer = Ok (record { scan = None }); after = measure_taken now k field value s }
 
 -- of an event that its moment does not refuse
 abbrev pub event_outcome : ℕ → Event → State → Outcome
 event_outcome now (Contact k position) s = contact_outcome now k position s (slice_get s.switches k)
 event_outcome now (Input k value) s = input_outcome now k value s (slice_get s.input_values k)
 event_outcome now (Measure k field value) s = measure_outcome now k field value s (slice_get s.meters k)
-event_outcome now Scan s = record { answer = Ok (record { scanned = true }); after = scanned now s }
+event_outcome now Scan s = record { answer = Ok (record { scan = Some (ran_at now s).steps }); after = scanned now s }
 
 -- of an event at a moment, which is neither too large nor before the last event's
 abbrev pub outcome : ℕ → Event → State → Outcome

@@ -1,12 +1,15 @@
 -- Where the values of switches and meters stand in a tree: the names and the kinds of the rows at their handles.
-use Rattle.std.specs.Prelude.{◌≡◌, ℕ, List, [], map, Option, Some, None, All, slice_get, slice_index_or}
+use Rattle.std.specs.Prelude.{◌≡◌, ℕ, ◌+◌, List, [], ◌∷◌, map, Option, Some, None, All, position, slice_get, slice_index_or}
 use Rattle.bay_tree.specs.Rows.{names_of, kinds_of}
 use Rattle.bay_tree.specs.declared.row.Row.{Row}
 use Rattle.bay_tree.specs.declared.leaf.Kind.{Kind}
 use Rattle.bay_tree.specs.declared.leaf.Kind.TheVariants as kind
 use Rattle.bay_config.specs.declared.bay.Switch.{Switch}
 use Rattle.bay_device.specs.Names.{StatusNames, SwitchNames, switch_names, MeterNames, meter_names}
-use Rattle.bay_device.specs.Slots.{outputs_at}
+use Rattle.bay_device.specs.declared.switch.SwitchOutputs.{SwitchOutputs}
+use Rattle.bay_config.specs.declared.bay.SwitchPoint.{SwitchPoint}
+use Rattle.bay_config.specs.declared.bay.SwitchPoint.TheVariants.{EnableOpen, EnableClose}
+use Rattle.bay_device.specs.Device.{is_point}
 use Rattle.bay_config.specs.declared.bay.Origin.{Origin}
 use Rattle.bay_config.specs.declared.bay.MeterField.{MeterField}
 use Rattle.bay_config.specs.declared.bay.MeterField.TheVariants.{TotW, TotVAr, Hz, PhaseA, PhaseB, PhaseC}
@@ -66,14 +69,24 @@ AreKinded layout bound = All (λ b. AreSwitchRows layout b.rows) bound
 abbrev pub switches_of : List BoundSwitch → List Switch
 switches_of bound = map (λ b. b.switch) bound
 
--- the handles of the switch at a place have its names, and its slots are those of its points
-pub record IsBound (layout : Layout) (slots : List (Option Origin)) (switches : List Switch) (k : ℕ) (bound : BoundSwitch) : Type 0 where
+-- among the points that may be written, the places of the interlocking values of the switch at a place
+abbrev pub outputs_at : List Origin → ℕ → SwitchOutputs
+outputs_at writes k = record { ena_opn = position (is_point k EnableOpen) writes; ena_cls = position (is_point k EnableClose) writes }
+
+-- the handles of the switch at a place have its names, and its outputs are those of its points
+pub record IsBound (layout : Layout) (writes : List Origin) (switches : List Switch) (k : ℕ) (bound : BoundSwitch) : Type 0 where
   pub named : switch_in layout bound.rows ≡ switch_names switches k bound.switch
   pub kinded : AreSwitchRows layout bound.rows
-  pub outputs : bound.outputs ≡ outputs_at slots k
+  pub outputs : bound.outputs ≡ outputs_at writes k
 
-abbrev pub AreBound : Layout → List (Option Origin) → List BoundSwitch → Type 0
-AreBound layout slots bound = (k : ℕ) (b : BoundSwitch) → slice_get bound k ≡ Some b → IsBound layout slots (switches_of bound) k b
+abbrev pub AreBound : Layout → List Origin → List BoundSwitch → Type 0
+AreBound layout writes bound = (k : ℕ) (b : BoundSwitch) → slice_get bound k ≡ Some b → IsBound layout writes (switches_of bound) k b
+
+-- the switches with their rows, from place k on, and the places of their interlocking values
+abbrev pub bound_from : List Origin → ℕ → List Switch → List SwitchRows → List BoundSwitch
+bound_from writes k [] rows = []
+bound_from writes k (s ∷ ss) [] = []
+bound_from writes k (s ∷ ss) (r ∷ rs) = record { switch = s; rows = r; outputs = outputs_at writes k } ∷ bound_from writes (k + 1) ss rs
 
 abbrev pub meter_in : Layout → MeterRows → MeterNames
 meter_in layout rows = record {
@@ -102,6 +115,10 @@ pub record AreMeterRows (layout : Layout) (rows : MeterRows) : Type 0 where
   pub phase_a : AreStatusRows layout kind.Int32 rows.phase_a
   pub phase_b : AreStatusRows layout kind.Int32 rows.phase_b
   pub phase_c : AreStatusRows layout kind.Int32 rows.phase_c
+
+-- those of each meter
+abbrev pub AreMeterKinded : Layout → List BoundMeter → Type 0
+AreMeterKinded layout bound = All (λ m. AreMeterRows layout m.rows) bound
 
 -- the bay's meters, in their order
 abbrev pub meters_of : List BoundMeter → List (List ℕ)

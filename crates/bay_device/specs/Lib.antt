@@ -1,14 +1,11 @@
-pub mod Bound
 pub mod Code
 pub mod Device
 pub mod Layout
 pub mod Load
 pub mod LookUps
 pub mod Meaning
-pub mod Named
 pub mod Names
 pub mod Nodes
+pub mod Report
 pub mod Scans
-pub mod Slots
 pub mod StateView
-pub mod Straight

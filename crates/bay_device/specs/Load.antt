@@ -1,25 +1,49 @@
--- The device that a bay file and a program load to, or why they are refused.
-use Rattle.std.specs.Prelude.{ℕ, false, map, Option, None, Some, Result, Ok, Err}
+-- The device that a bay file and a program or an image load to, or why they are refused.
+use Rattle.std.specs.Prelude.{◌≡◌, ℕ, Bool, true, false, find, List, [], ◌∷◌, map, option_map, Option, None, Some, Result, Ok, Err, if◌then◌else◌}
+use Rattle.std.specs.Bool.{beq}
+use Rattle.std.specs.List.{cons_option}
 use Rattle.bay_config.specs.Code as bay_code
 use Rattle.bay_config.specs.declared.bay.Bay.{Bay}
+use Rattle.bay_config.specs.declared.bay.Origin.{Origin}
+use Rattle.bay_config.specs.declared.bay.Point.{Point}
 use Rattle.bay_config.specs.declared.fault.BayFault.{BayFault}
-use Rattle.il_check.specs.Code as check_code
-use Rattle.bay_device.specs.Named.{items_named, names_of}
-use Rattle.bay_device.specs.Straight.{StraightProgram, first_outside, straight_of}
-use Rattle.il_check.specs.Checking.{checked_of}
-use Rattle.il_check.specs.Program.{Checked}
-use Rattle.il_check.specs.declared.fault.CheckFault.{CheckFault}
 use Rattle.il_text.specs.Code as text_code
 use Rattle.il_text.specs.Listing.{PlainProgram}
 use Rattle.il_text.specs.declared.fault.TextFault.{TextFault}
+use Rattle.il_check.specs.Code as check_code
+use Rattle.il_check.specs.Checking.{checked_of}
+use Rattle.il_check.specs.Program.{Checked}
+use Rattle.il_check.specs.declared.fault.CheckFault.{CheckFault}
+use Rattle.il_image.specs.Codes as image_code
+use Rattle.il_image.specs.Images.{Image}
+use Rattle.il_image.specs.declared.fault.ImageFault.{ImageFault}
+use Rattle.il_image.specs.declared.image.ImagePoint.{ImagePoint}
+use Rattle.il_compile.specs.Compiled.{compiled_of}
+use Rattle.il_compile.specs.Faults as compile_code
+use Rattle.il_compile.specs.declared.fault.CompileFault.{CompileFault}
+use Rattle.il_verify.specs.Binding.{is_point}
+use Rattle.il_verify.specs.Codes as verify_code
+use Rattle.il_verify.specs.Refusals.{IsRefusal}
+use Rattle.il_verify.specs.Verdicts.{IsVerified}
+use Rattle.il_verify.specs.declared.fault.VerifyFault.{VerifyFault}
+use Rattle.il_scan.specs.Scans.{held_first}
 use Rattle.bay_device.specs.Device.{State}
-use Rattle.bay_device.specs.Slots.{declared_of, origins_of, variables_of}
 use Rattle.bay_device.specs.declared.fault.LoadFault.{LoadFault}
 use Rattle.bay_device.specs.declared.fault.LoadFault.TheVariants.{Refused, OutOfMemory}
 
+-- what an image's point stands for: the bay's point of its name, its type and its writability
+abbrev pub origin_of : List Point → ImagePoint → Option Origin
+origin_of bay p = option_map (λ b. b.origin) (find (is_point p) bay)
+
+-- what those of an image's points stand for that may be written, or those that may not
+abbrev pub origins_of : Bool → List Point → List ImagePoint → List Origin
+origins_of writable bay [] = []
+origins_of writable bay (p ∷ points) =
+    if beq p.writable writable then cons_option (origin_of bay p) (origins_of writable bay points) else origins_of writable bay points
+
 -- a device before its first event
-abbrev pub initial_device : Bay → StraightProgram → State
-initial_device bay program = record {
+abbrev pub initial_device : Bay → Image → State
+initial_device bay image = record {
   domain = bay.domain;
   vendor = bay.vendor;
   model = bay.model;
@@ -29,10 +53,10 @@ initial_device bay program = record {
   inputs = bay.inputs;
   input_values = map (λ _. false) bay.inputs;
   meters = bay.meters;
-  declared = declared_of (names_of program.variables) (origins_of program.variables);
-  items = items_named (names_of program.variables) program.instructions;
+  reads = origins_of false bay.points image.points;
+  writes = origins_of true bay.points image.points;
+  machine = held_first image;
   rows = bay.rows;
-  variables = variables_of (names_of program.variables) (map (λ v. v.initial) program.variables);
   moment = 0;
   last_scan = None;
   is_stale = false;
@@ -43,7 +67,7 @@ abbrev pub fault_of : Option ℕ → ℕ → LoadFault
 fault_of (Some code) line = Refused code line
 fault_of None line = OutOfMemory
 
--- why a bay file, a program's text and a program are refused
+-- why a bay file, a program's text, a program and an image are refused
 abbrev pub bay_refusal : BayFault → LoadFault
 bay_refusal fault = fault_of (bay_code.code_of fault) 0
 
@@ -53,21 +77,52 @@ text_refusal fault = fault_of (text_code.code_of fault) (text_code.line_of fault
 abbrev pub check_refusal : CheckFault → LoadFault
 check_refusal fault = fault_of (check_code.code_of fault) (check_code.line_of fault)
 
--- a program that passed, unless a line of it is outside of what runs
-abbrev pub of_straight : Bay → Option ℕ → Checked → Result State LoadFault
-of_straight bay (Some line) checked = Err (Refused 61 line)
-of_straight bay None checked = Ok (initial_device bay (straight_of checked))
+abbrev pub compile_refusal : CompileFault → LoadFault
+compile_refusal fault = fault_of (compile_code.code_of fault) 0
+
+abbrev pub image_refusal : ImageFault → LoadFault
+image_refusal fault = fault_of (image_code.code_of fault) 0
+
+abbrev pub verify_refusal : VerifyFault → LoadFault
+verify_refusal fault = fault_of (verify_code.code_of fault) 0
+
+-- the device of a bay and what the compiler made of its program
+abbrev pub of_compiled : Bay → Result Image CompileFault → Result State LoadFault
+of_compiled bay (Ok image) = Ok (initial_device bay image)
+of_compiled bay (Err fault) = Err (compile_refusal fault)
 
 -- the device of a bay and what the checks made of its program
-abbrev pub of_checked : Bay → PlainProgram → Result Checked CheckFault → Result State LoadFault
-of_checked bay program (Ok checked) = of_straight bay (first_outside program) checked
-of_checked bay program (Err fault) = Err (check_refusal fault)
+abbrev pub of_checked : Bay → Result Checked CheckFault → Result State LoadFault
+of_checked bay (Ok checked) = of_compiled bay (compiled_of checked)
+of_checked bay (Err fault) = Err (check_refusal fault)
 
 abbrev pub of_program : Bay → Result PlainProgram TextFault → Result State LoadFault
-of_program bay (Ok program) = of_checked bay program (checked_of bay.points program)
+of_program bay (Ok program) = of_checked bay (checked_of bay.points program)
 of_program bay (Err fault) = Err (text_refusal fault)
 
--- the device of a bay file and a program: a fault of the bay file comes before one of the program's text, and that before one of its checks
+-- the device of a bay file and a program: a fault of the bay file comes before one of the program's text, that before one of
+-- its checks, and that before the refusal of an image that would be too long
 abbrev pub of_bay : Result Bay BayFault → Result PlainProgram TextFault → Result State LoadFault
 of_bay (Ok bay) program = of_program bay program
 of_bay (Err fault) program = Err (bay_refusal fault)
+
+-- the program that a bay file and a text come to, if they are not refused before it is compiled
+abbrev pub checked_in : Result Bay BayFault → Result PlainProgram TextFault → Result Checked LoadFault
+checked_in (Ok bay) (Ok program) = elim (checked_of bay.points program) [ Ok c ↦ Ok c | Err fault ↦ Err (check_refusal fault) ]
+checked_in (Ok bay) (Err fault) = Err (text_refusal fault)
+checked_in (Err fault) program = Err (bay_refusal fault)
+
+-- The image of a bay is loaded, if it is verified for the bay's points, or refused for its first fault.
+abbrev pub LoadsImage : Bay → Image → Result State LoadFault → Type 0
+LoadsImage bay image (Ok device) = IsVerified bay.points image × (device ≡ initial_device bay image)
+LoadsImage bay image (Err refusal) = (fault : VerifyFault) × (place : ℕ) × IsRefusal bay.points image fault place × (refusal ≡ verify_refusal fault)
+
+abbrev pub LoadsRead : Bay → Result Image ImageFault → Result State LoadFault → Type 0
+LoadsRead bay (Ok image) result = LoadsImage bay image result
+LoadsRead bay (Err fault) result = result ≡ Err (image_refusal fault)
+
+-- A bay file and the octets of an image are loaded, or refused: a fault of the bay file comes before one of the octets, and that
+-- before one of the image.
+abbrev pub Loads : Result Bay BayFault → Result Image ImageFault → Result State LoadFault → Type 0
+Loads (Ok bay) image result = LoadsRead bay image result
+Loads (Err fault) image result = result ≡ Err (bay_refusal fault)

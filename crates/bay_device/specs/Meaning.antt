@@ -1,65 +1,99 @@
--- What instructions mean (IEC 61131-3:2003, 3.2.2 and table 52), on a current result and a map of names.
-use Rattle.std.specs.Prelude.{ℕ, Bool, not, ◌&&◌, ◌||◌, if◌then◌else◌, List, [], ◌∷◌, Option, Some, None}
-use Rattle.bay_base.specs.Names.{upper, same_name}
-use Rattle.bay_device.specs.Straight.{Source, constant, variable, Action, load, store, combine}
-use Rattle.bay_device.specs.declared.straight.Connective.{Connective}
-use Rattle.bay_device.specs.declared.straight.Connective.TheVariants.{And, Or}
+-- What the events of a device come to that was loaded from the text of a program: each scan leaves what the text means.
+use Rattle.std.specs.Prelude.{ℕ, ◌≡◌, ◌≤◌, Bool, true, false, nat_lt, ◌||◌, not, List, [], ◌∷◌, length, map, take, drop, Some, MatchBool}
+use Rattle.bay_base.specs.declared.types.ElementaryType.{ElementaryType}
+use Rattle.bay_base.specs.declared.types.ElementaryType.TheVariants as elementary
+use Rattle.bay_config.specs.declared.bay.Origin.{Origin}
+use Rattle.bay_config.specs.declared.bay.Origin.TheVariants as origin
+use Rattle.bay_config.specs.declared.bay.SwitchPoint.{SwitchPoint}
+use Rattle.bay_config.specs.declared.bay.SwitchPoint.TheVariants.{Position, Open, Closed, EnableOpen, EnableClose}
+use Rattle.il_image.specs.Machine.{Halted}
+use Rattle.il_image.specs.declared.timer.Timer.{Timer}
+use Rattle.il_image.specs.declared.value.Value.{Value}
+use Rattle.il_check.specs.Program.{Checked}
+use Rattle.il_compile.specs.Compiled.{point_of}
+use Rattle.il_compile.specs.Correct.{DoesTheText, HasTypes}
+use Rattle.il_compile.specs.Meaning.{Memory, mean}
+use Rattle.il_verify.specs.Verdicts.{IsBudget}
+use Rattle.il_scan.specs.Scans.{outputs_of, read_only, started, type_of_point}
+use Rattle.bay_device.specs.Device.{State, ending_at, inputs_of, last_moment, outcome, scanned, with_outputs}
+use Rattle.bay_device.specs.declared.event.Event.{Event}
+use Rattle.bay_device.specs.declared.event.Event.TheVariants.{Contact, Input, Measure, Scan}
 
--- a value of an elementary type
-pub data Value : Type 0 where
-  truth : Bool → Value
+-- ---- no trap, and the budget
 
--- the values of variables, by their names in upper case
-abbrev pub Variables : Type 0
-Variables = List (List ℕ × Value)
+-- The run of a scan ends at HALT, without a trap, within the budget of the code.
+pub record Halts (now : ℕ) (s : State) : Type 0 where
+  pub slots : List Value
+  pub timers : List Timer
+  pub steps : ℕ
+  pub halts : ending_at now s ≡ Halted slots timers steps
+  pub within : (budget : ℕ) → IsBudget s.machine.image.code budget → steps ≤ budget
 
--- the value of a variable, if there is one
-abbrev pub value_of : List ℕ → Variables → Option Value
-value_of name [] = None
-value_of name (v ∷ vs) = if same_name v.0 name then Some v.1 else value_of name vs
+-- So it is, if the event is a scan.
+abbrev pub HaltsAt : ℕ → Event → State → Type 0
+HaltsAt now Scan s = Halts now s
+HaltsAt now (Contact k position) s = Unit {0}
+HaltsAt now (Input k value) s = Unit {0}
+HaltsAt now (Measure k field value) s = Unit {0}
 
--- the variables with this value for the name, and all others as they were
-abbrev pub with_value : List ℕ → Value → Variables → Variables
-with_value name value [] = (upper name, value) ∷ []
-with_value name value (v ∷ vs) = if same_name v.0 name then (v.0, value) ∷ vs else v ∷ with_value name value vs
+-- the moment refuses an event
+abbrev pub is_refused : ℕ → State → Bool
+is_refused now s = nat_lt last_moment now || nat_lt now s.moment
 
--- the current result, where it is set, and the variables
-pub record State : Type 0 where
-  pub result : Option Value
-  pub variables : Variables
+-- Each scan of a list of events that its moment does not refuse halts so.
+abbrev pub AllHalt : List (ℕ × Event) → State → Type 0
+AllHalt [] s = Unit {0}
+AllHalt (e ∷ es) s = (is_refused e.0 s ≡ false → HaltsAt e.0 e.1 s) × AllHalt es (outcome e.0 e.1 s).after
 
-abbrev pub read : Source → Variables → Option Value
-read (constant b) vs = Some (truth b)
-read (variable name) vs = value_of name vs
+-- ---- what the text means
 
-abbrev pub negated : Option Value → Option Value
-negated None = None
-negated (Some (truth b)) = Some (truth (not b))
+-- the values of a program's externals, variables and timers, where slots and timers hold them
+abbrev pub memory_of : Checked → List Value → List Timer → Memory
+memory_of c slots timers = record { externals = take (length c.externals) slots; variables = drop (length c.externals) slots; timers = timers }
 
-abbrev pub applied : Connective → Value → Value → Value
-applied And (truth a) (truth b) = truth (a && b)
-applied Or (truth a) (truth b) = truth (a || b)
+-- those that a scan begins with: what the device keeps, with the values of the points that are only read
+abbrev pub memory_before : Checked → State → Memory
+memory_before c s = let start = started s.machine (inputs_of s) in memory_of c start.slots start.timers
 
--- an operator on the result and an operand; of a value that is not there nothing comes
-abbrev pub combined : Connective → Option Value → Option Value → Option Value
-combined connective None operand = None
-combined connective (Some a) None = None
-combined connective (Some a) (Some b) = Some (applied connective a b)
+-- The scan does what the text means: what the program means on these values is what the device keeps, and the interlocking values
+-- in the tree are those of its externals.
+pub record Means (c : Checked) (now : ℕ) (s : State) : Type 0 where
+  pub after : Memory
+  pub is : mean now c.items (memory_before c s) ≡ Some after
+  pub keeps : memory_of c (scanned now s).machine.slots (scanned now s).machine.timers ≡ after
+  pub rows : (scanned now s).rows ≡ with_outputs s.switches s.writes (outputs_of (map point_of c.externals) after.externals) now 0 s.switches s.rows
 
-abbrev pub stored : List ℕ → Option Value → Variables → Variables
-stored name None vs = vs
-stored name (Some value) vs = with_value name value vs
+-- So it is, if the event is a scan.
+abbrev pub MeansAt : Checked → ℕ → Event → State → Type 0
+MeansAt c now Scan s = Means c now s
+MeansAt c now (Contact k position) s = Unit {0}
+MeansAt c now (Input k value) s = Unit {0}
+MeansAt c now (Measure k field value) s = Unit {0}
 
-abbrev pub acted : Action → State → State
-acted (load inverted source) s =
-    record { result = if inverted then negated (read source s.variables) else read source s.variables; variables = s.variables }
-acted (store name) s = record { result = s.result; variables = stored name s.result s.variables }
-acted (combine connective source) s = record { result = combined connective s.result (read source s.variables); variables = s.variables }
+-- Each scan of a list of events does so.
+abbrev pub AllMean : Checked → List (ℕ × Event) → State → Type 0
+AllMean c [] s = Unit {0}
+AllMean c (e ∷ es) s = MeansAt c e.0 e.1 s × AllMean c es (outcome e.0 e.1 s).after
 
--- instructions one after the other
-abbrev pub mean_from : List Action → State → State
-mean_from [] s = s
-mean_from (a ∷ rest) s = mean_from rest (acted a s)
+-- ---- which device runs a text
 
-abbrev pub mean : List Action → Option Value → Variables → State
-mean actions result variables = mean_from actions (record { result = result; variables = variables })
+-- the type of what a point stands for
+abbrev pub type_of_switch_point : SwitchPoint → ElementaryType
+type_of_switch_point Position = elementary.Int
+type_of_switch_point Open = elementary.Bool
+type_of_switch_point Closed = elementary.Bool
+type_of_switch_point EnableOpen = elementary.Bool
+type_of_switch_point EnableClose = elementary.Bool
+
+abbrev pub type_of_origin : Origin → ElementaryType
+type_of_origin (origin.Switch k point) = type_of_switch_point point
+type_of_origin (origin.Input k) = elementary.Bool
+type_of_origin (origin.Meter k field) = elementary.Dint
+
+-- The device runs the program: its image has the program's externals as points and code that does what the text means, its slots
+-- and timers hold values of the program's types, and the points that it only reads have their types.
+pub record Runs (c : Checked) (s : State) : Type 0 where
+  pub points : s.machine.image.points ≡ map point_of c.externals
+  pub does : DoesTheText c s.machine.image.code
+  pub types : HasTypes c (memory_of c s.machine.slots s.machine.timers)
+  pub reads : map type_of_origin s.reads ≡ map type_of_point (read_only s.machine.image.points)

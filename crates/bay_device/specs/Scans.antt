@@ -1,35 +1,40 @@
--- What a scan reads into slots and writes from them, switch by switch.
-use Rattle.std.specs.Prelude.{ℕ, Bool, List, [], ◌∷◌, slice_get, unwrap_or, Option, Some, None}
+-- What a scan reads and writes, where switches and meters stand in the tree.
+use Rattle.std.specs.Prelude.{ℕ, Bool, false, List, [], ◌∷◌, map, slice_get, unwrap_or, Option, Some, None}
 use Rattle.bay_tree.specs.Rows.{leaf_of}
+use Rattle.bay_tree.specs.declared.leaf.Leaf.{Leaf}
 use Rattle.bay_tree.specs.declared.row.Row.{Row}
-use Rattle.bay_device.specs.Device.{input_of, with_output}
-use Rattle.bay_device.specs.Layout.{Layout, layout_of, name_in, switch_in}
-use Rattle.bay_device.specs.Slots.{slot_value}
+use Rattle.bay_config.specs.declared.bay.MeterField.{MeterField}
 use Rattle.bay_config.specs.declared.bay.Origin.{Origin}
 use Rattle.bay_config.specs.declared.bay.Origin.TheVariants as origin
 use Rattle.bay_config.specs.declared.bay.SwitchPoint.{SwitchPoint}
+use Rattle.il_image.specs.declared.value.Value.{Value}
+use Rattle.il_image.specs.declared.value.Value.TheVariants.{Truth, Long}
+use Rattle.bay_device.specs.Device.{is_true, number_of_leaf, output_at, position_value, with_output}
+use Rattle.bay_device.specs.Layout.{Layout, field_rows, layout_of, name_in, switch_in}
+use Rattle.bay_device.specs.declared.meter.BoundMeter.{BoundMeter}
 use Rattle.bay_device.specs.declared.switch.BoundSwitch.{BoundSwitch}
 
-abbrev pub switch_input : List Row → SwitchPoint → Option BoundSwitch → Option Bool
-switch_input rows point None = None
-switch_input rows point (Some b) = input_of point (leaf_of (name_in (layout_of rows) b.rows.position.value) rows)
+-- the value at a handle
+abbrev pub leaf_at : List Row → ℕ → Option Leaf
+leaf_at rows handle = leaf_of (name_in (layout_of rows) handle) rows
 
--- what the contacts and the inputs give a slot
-abbrev pub slot_input : List Row → List BoundSwitch → List Bool → Option Origin → Option Bool
-slot_input rows bound inputs None = None
-slot_input rows bound inputs (Some (origin.Switch k point)) = switch_input rows point (slice_get bound k)
-slot_input rows bound inputs (Some (origin.Input k)) = slice_get inputs k
-slot_input rows bound inputs (Some (origin.Meter k field)) = None
+abbrev pub switch_value : List Row → SwitchPoint → Option BoundSwitch → Value
+switch_value rows point None = position_value point None
+switch_value rows point (Some b) = position_value point (leaf_at rows b.rows.position.value)
 
--- the slots of points that are read take their values
-abbrev pub inputs_put : List Row → List BoundSwitch → List Bool → List (Option Origin) → List Bool → List Bool
-inputs_put rows bound inputs [] vs = vs
-inputs_put rows bound inputs (slot ∷ slots) [] = []
-inputs_put rows bound inputs (slot ∷ slots) (v ∷ vs) = unwrap_or (slot_input rows bound inputs slot) v ∷ inputs_put rows bound inputs slots vs
+abbrev pub meter_value : List Row → MeterField → Option BoundMeter → Value
+meter_value rows field None = Long (number_of_leaf None)
+meter_value rows field (Some m) = Long (number_of_leaf (leaf_at rows (field_rows m.rows field).value))
 
--- the interlocking values of the switches take their slots' values
-abbrev pub outputs_put : Layout → List BoundSwitch → List Bool → ℕ → List Row → List Row
-outputs_put layout [] values now rows = rows
-outputs_put layout (b ∷ bs) values now rows =
-    outputs_put layout bs values now
-    (with_output (switch_in layout b.rows) (slot_value b.outputs.ena_opn values) (slot_value b.outputs.ena_cls values) now rows)
+-- what the contacts, the inputs and the measures give a point
+abbrev pub bound_value : List Row → List BoundSwitch → List Bool → List BoundMeter → Origin → Value
+bound_value rows switches inputs meters (origin.Switch k point) = switch_value rows point (slice_get switches k)
+bound_value rows switches inputs meters (origin.Input k) = Truth (unwrap_or (slice_get inputs k) false)
+bound_value rows switches inputs meters (origin.Meter k field) = meter_value rows field (slice_get meters k)
+
+-- the interlocking values of the switches take their points' values
+abbrev pub outputs_put : Layout → List BoundSwitch → List Value → ℕ → List Row → List Row
+outputs_put layout [] outputs now rows = rows
+outputs_put layout (b ∷ bs) outputs now rows =
+    outputs_put layout bs outputs now
+    (with_output (switch_in layout b.rows) (is_true (output_at b.outputs.ena_opn outputs)) (is_true (output_at b.outputs.ena_cls outputs)) now rows)

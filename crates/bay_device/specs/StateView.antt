@@ -1,8 +1,6 @@
 -- The device that a state of the code stands for.
-use Rattle.bay_device.specs.Named.{items_named, names_of}
 use Rattle.bay_device.specs.Device.{State}
 use Rattle.bay_device.specs.Layout.{switches_of, meters_of}
-use Rattle.bay_device.specs.Slots.{declared_of, origins_of, variables_of}
 use Rattle.bay_device.specs.declared.state.DeviceState.{DeviceState}
 
 abbrev pub state_view : DeviceState → State
@@ -16,10 +14,10 @@ state_view d = record {
   inputs = d.inputs;
   input_values = d.input_values;
   meters = meters_of d.meters;
-  declared = declared_of (names_of d.program.variables) (origins_of d.program.variables);
-  items = items_named (names_of d.program.variables) d.program.instructions;
+  reads = d.reads;
+  writes = d.writes;
+  machine = d.machine;
   rows = d.tree;
-  variables = variables_of (names_of d.program.variables) d.values;
   moment = d.moment;
   last_scan = d.last_scan;
   is_stale = d.is_stale;

@@ -1,22 +1,55 @@
-// A checked program on the points of a bay's switches.
-ghost use Rattle.std.specs.Prelude.{◌≡◌, false, length, map, position, IfOk};
-ghost use Rattle.il_check.specs.ProgramViews.{checked_view};
-ghost use Rattle.bay_device.specs.Straight.{straight_of};
-ghost use Rattle.bay_device.specs.Bound.{IsProgram, bound_from};
+// The points of a verified image on those of a bay.
+ghost use Rattle.std.specs.Prelude.{◌≡◌, false, length, map, option_map, position, find, IfOk};
+ghost use Rattle.il_verify.specs.Binding.{is_point as is_image_point};
 ghost use Rattle.bay_device.specs.Device.{same_point, is_point};
-ghost use Rattle.bay_device.specs.Slots.{outputs_at, origins_of};
+ghost use Rattle.bay_device.specs.Layout.{bound_from, outputs_at};
+ghost use Rattle.bay_device.specs.Load.{origin_of, origins_of};
 
-use crate::counts::Counts;
-use crate::program::{BoundProgram, SwitchOutputs};
 use crate::rows::SwitchRows;
-use crate::straight::{Variable, all_variables};
-use crate::switch::BoundSwitch;
-use crate::values::Values;
-use bay_base::listing::Listing;
+use crate::switch::{BoundSwitch, SwitchOutputs};
+use crate::values::{Inputs, Truths};
 use bay_base::text::Text;
-use bay_config::bay::{Origin, Switch, SwitchPoint};
-use il_check::program::{Parts, Typed};
+use bay_config::bay::{Origin, Point, Switch, SwitchPoint};
+use il_image::image::ImagePoint;
+use il_image::value::Value;
 use std::alloc::{AllocError, Global};
+
+/// Whether an image's point is this point of the bay.
+fn is_same(point: &ImagePoint, other: &Point) -> bool
+    ensures { result ≡ is_image_point point.now other.now }
+{
+    point.name.as_str() == other.name.as_str()
+        && point.elementary == other.kind
+        && point.writable == other.writable
+}
+
+/// What an image's point stands for in the bay, if it is one of the bay's.
+fn origin_of(bay: &[Point], point: &ImagePoint) -> Option<Origin>
+    ensures { result ≡ origin_of bay.now point.now }
+{
+    let found = bay.iter().find(|other| is_same(point, other))?;
+    Some(found.origin)
+}
+
+/// What those of an image's points stand for that may be written, or those that may not, in their order.
+pub fn origins_of(
+    alloc: Global,
+    writable: bool,
+    bay: &[Point],
+    points: &[ImagePoint],
+) -> Result<Vec<Origin>, AllocError>
+    ensures { IfOk result (λ origins. origins.items ≡ origins_of writable bay.now points.now) }
+{
+    let mut origins = Vec::new(alloc);
+    for point in points {
+        if point.writable == writable {
+            if let Some(origin) = origin_of(bay, point) {
+                origins.push(origin)?;
+            }
+        }
+    }
+    Ok(origins)
+}
 
 fn same_point(first: SwitchPoint, second: SwitchPoint) -> bool
     ensures { result ≡ same_point first second }
@@ -24,49 +57,47 @@ fn same_point(first: SwitchPoint, second: SwitchPoint) -> bool
     first == second
 }
 
-/// Whether a slot stands for this point of the switch at a place.
-fn is_point(slot: Option<Origin>, switch: usize, point: SwitchPoint) -> bool
-    ensures { result ≡ is_point switch point slot }
+/// Whether this is a point of the switch at a place.
+fn is_point(origin: Origin, switch: usize, point: SwitchPoint) -> bool
+    ensures { result ≡ is_point switch point origin }
 {
-    match slot {
-        Some(
-            Origin::Switch {
-                switch: at,
-                point: which,
-            },
-        ) => at == switch && same_point(which, point),
-        Some(Origin::Input { .. } | Origin::Meter { .. }) | None => false,
+    match origin {
+        Origin::Switch {
+            switch: at,
+            point: which,
+        } => at == switch && same_point(which, point),
+        Origin::Input { .. } | Origin::Meter { .. } => false,
     }
 }
 
-/// The slot of a point of the switch at a place, if the program names it.
-fn output_slot(variables: &[Variable], switch: usize, point: SwitchPoint) -> Option<usize>
-    ensures { result ≡ position (λ v. is_point switch point v.origin) variables.now }
+/// The place of a point of the switch at a place, if it is among these.
+fn output_place(writes: &[Origin], switch: usize, point: SwitchPoint) -> Option<usize>
+    ensures { result ≡ position (is_point switch point) writes.now }
 {
-    variables
+    writes
         .iter()
-        .position(|variable| is_point(variable.origin, switch, point))
+        .position(|origin| is_point(*origin, switch, point))
 }
 
-/// The slots of the interlocking values of the switch at a place.
-fn outputs_at(variables: &[Variable], switch: usize) -> SwitchOutputs
-    ensures { result ≡ outputs_at (origins_of variables.now) switch }
+/// The places of the interlocking values of the switch at a place, among the points that may be written.
+fn outputs_at(writes: &[Origin], switch: usize) -> SwitchOutputs
+    ensures { result ≡ outputs_at writes.now switch }
 {
     SwitchOutputs {
-        ena_opn: output_slot(variables, switch, SwitchPoint::EnableOpen),
-        ena_cls: output_slot(variables, switch, SwitchPoint::EnableClose),
+        ena_opn: output_place(writes, switch, SwitchPoint::EnableOpen),
+        ena_cls: output_place(writes, switch, SwitchPoint::EnableClose),
     }
 }
 
-/// The switches of a bay with their rows, and the slots of their interlocking values.
+/// The switches of a bay with their rows, and the places of their interlocking values.
 pub fn bind_switches(
     alloc: Global,
     switches: Vec<Switch>,
     rows: &[SwitchRows],
-    variables: &[Variable],
+    writes: &[Origin],
 ) -> Result<Vec<BoundSwitch>, AllocError>
     requires { length rows.now ≡ length switches.items }
-    ensures { IfOk result (λ bound. bound.items ≡ bound_from (origins_of variables.now) 0 switches.items rows.now) }
+    ensures { IfOk result (λ bound. bound.items ≡ bound_from writes.now 0 switches.items rows.now) }
 {
     let mut bound = Vec::new(alloc);
     for switch in switches {
@@ -74,63 +105,30 @@ pub fn bind_switches(
         bound.push(BoundSwitch {
             switch,
             rows: rows[k],
-            outputs: outputs_at(variables, k),
+            outputs: outputs_at(writes, k),
         })?;
     }
     Ok(bound)
 }
 
-/// The values that variables begin with.
-fn initial_values(alloc: Global, variables: &[Variable]) -> Result<Values, AllocError>
-    ensures { IfOk result (λ values. values ≡ map (λ v. v.initial) variables.now) }
-{
-    let mut values = Vec::new(alloc);
-    for variable in variables {
-        values.push(variable.initial)?;
-    }
-    Ok(Values::new(values))
-}
-
 /// The value FALSE for each input.
-pub fn falses(alloc: Global, inputs: &[Text]) -> Result<Values, AllocError>
+pub fn falses(alloc: Global, inputs: &[Text]) -> Result<Truths, AllocError>
     ensures { IfOk result (λ values. values ≡ map (λ _. false) inputs.now) }
 {
     let mut values = Vec::new(alloc);
     for _input in inputs {
         values.push(false)?;
     }
-    Ok(Values::new(values))
+    Ok(Truths::new(values))
 }
 
-/// A checked program on its slots.
-fn bound_program(alloc: Global, typed: Typed) -> Result<BoundProgram, AllocError>
-    ensures variables { IfOk result (λ p. p.variables ≡ (straight_of (checked_view typed)).variables) }
-    ensures instructions { IfOk result (λ p. p.instructions ≡ (straight_of (checked_view typed)).instructions) }
+/// Room for a value of each point that is read.
+pub fn room_for(alloc: Global, reads: &[Origin]) -> Result<Inputs, AllocError>
+    ensures { IfOk result (λ inputs. length inputs ≡ length reads.now) }
 {
-    let Parts {
-        externals,
-        variables,
-        items,
-        ..
-    } = typed.into_parts();
-    let (external_count, own_count) = (externals.len(), variables.len());
-    let variables = all_variables(alloc, externals, variables)?;
-    let counts = Counts {
-        externals: external_count,
-        variables: own_count,
-    };
-    let instructions = counts.instructions(alloc, items.as_slice())?;
-    Ok(BoundProgram {
-        variables: Listing::new(variables),
-        instructions: Listing::new(instructions),
-    })
-}
-
-/// A checked program on the points of a bay, and the values that its slots begin with.
-pub fn bind_program(alloc: Global, typed: Typed) -> Result<(BoundProgram, Values), AllocError>
-    ensures { IfOk result (λ bound. IsProgram (straight_of (checked_view typed)) bound.0 bound.1) }
-{
-    let program = bound_program(alloc, typed)?;
-    let values = initial_values(alloc, program.variables.as_slice())?;
-    Ok((program, values))
+    let mut values = Vec::new(alloc);
+    for _read in reads {
+        values.push(Value::Truth(false))?;
+    }
+    Ok(Inputs::new(values))
 }

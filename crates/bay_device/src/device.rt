@@ -1,18 +1,25 @@
 // The device that is handed out: one bay, stepped by events.
-ghost use Rattle.std.specs.Prelude.{◌≡◌, length, slice_get, option_map, IfOk, OnOk, OnErr};
+ghost use Rattle.std.specs.Prelude.{◌≡◌, false, length, slice_get, option_map, IfOk, OnOk, OnErr};
+ghost use Rattle.il_check.specs.Program.{Checked};
+ghost use Rattle.il_image.specs.Images.{encoded};
+ghost use Rattle.il_image.specs.declared.opcode.Version.TheVariants.{Two};
 ghost use Rattle.bay_device.specs.Device.{outcome, outcomes};
 ghost use Rattle.bay_device.specs.LookUps.{switch_place, input_place, meter_place, enabled_of};
+ghost use Rattle.bay_device.specs.Meaning.{AllHalt, AllMean, HaltsAt, MeansAt, Runs, is_refused};
+ghost use Rattle.bay_device.specs.Report.{IsReport};
 ghost use Rattle.bay_device.specs.StateView.{state_view};
 
 use crate::event::{Event, Step};
 use crate::fault::StepFault;
+use crate::report::Report;
 use crate::state::DeviceState;
 use bay_tree::tree::Tree;
+use il_image::encode::encode;
 use std::alloc::{AllocError, Global};
 use std::marker::Model;
 
-/// A device, which contracts see as its state: what the bay file says, the rows of its tree, the values of its inputs, its program with
-/// the values of the variables, and the moments of the last event and the last scan.
+/// A device, which contracts see as its state: what the bay file says, the rows of its tree, the values of its inputs, the machine with
+/// its program, and the moments of the last event and the last scan.
 #[derive(Drop)]
 pub struct Device {
     alloc: Global,
@@ -39,10 +46,28 @@ impl Device {
         Device { alloc, state }
     }
 
+    /// What load found of the program: its size, and what a scan takes at most.
+    pub fn report(&self) -> Report
+        ensures { IsReport self.now.machine.image result }
+    {
+        self.state.report
+    }
+
+    /// The octets of the program's image, in version 2 of the format.
+    pub fn image(&self) -> Result<Vec<u8>, AllocError>
+        ensures { IfOk result (λ octets. octets.items ≡ encoded Two self.now.machine.image) }
+    {
+        encode(self.alloc, self.state.machine.verified().image())
+    }
+
     /// Does one event, at a moment in milliseconds since 1970. A refused event changes nothing.
     pub fn step(&mut self, now: u64, event: Event) -> Result<Step, StepFault>
         ensures answer { result ≡ (outcome now event self.old).answer }
         ensures after { self.new ≡ (outcome now event self.old).after }
+        // A scan halts without a trap within the budget,
+        ensures halts { is_refused now self.old ≡ false → HaltsAt now event self.old }
+        // and on a device that runs a text it does what the text means.
+        ensures means { (c : Checked) → Runs c self.old → MeansAt c now event self.old × Runs c self.new }
     {
         self.state.step(now, event)
     }
@@ -56,6 +81,10 @@ impl Device {
         ensures answers { IfOk result (λ answers. answers.items ≡ (outcomes events.now self.old).answers) }
         ensures after { OnOk result (self.new ≡ (outcomes events.now self.old).after) }
         ensures err { OnErr result (self.new ≡ self.old) }
+        // Each scan halts without a trap within the budget,
+        ensures halts { OnOk result (AllHalt events.now self.old) }
+        // and on a device that runs a text the tree then holds what the text means.
+        ensures means { (c : Checked) → Runs c self.old → AllMean c events.now self.old × Runs c self.new }
     {
         let mut answers = Vec::with_capacity(self.alloc, events.len())?;
         for (now, event) in events {

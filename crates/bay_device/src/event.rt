@@ -32,6 +32,6 @@ pub enum Event {
 /// What an accepted event did.
 #[derive(Clone, Copy, Debug, PartialEq, Eq)]
 pub struct Step {
-    /// Whether the program ran.
-    pub scanned: bool,
+    /// For a scan, the number of instructions that the program's run executed, HALT among them.
+    pub scan: Option<u32>,
 }

@@ -1,16 +1,19 @@
-// Why texts are not loaded, and why an event is refused.
+// Why texts and images are not loaded, and why an event is refused.
 ghost use Rattle.std.specs.Prelude.{◌≡◌};
 ghost use Rattle.bay_device.specs.Code.{step_code_of};
-ghost use Rattle.bay_device.specs.Load.{bay_refusal, text_refusal, check_refusal};
+ghost use Rattle.bay_device.specs.Load.{bay_refusal, text_refusal, check_refusal, compile_refusal, image_refusal, verify_refusal};
 ghost use Rattle.bay_device.specs.declared.fault.LoadFault.TheVariants.{OutOfMemory};
 
 use bay_config::fault::BayFault;
 use il_check::fault::CheckFault;
+use il_compile::fault::CompileFault;
+use il_image::fault::ImageFault;
 use il_text::fault::TextFault;
+use il_verify::fault::VerifyFault;
 use std::alloc::{AllocError, AllocFailed};
 use thiserror::Error;
 
-/// Why a bay and a program are not loaded.
+/// Why a bay and a program or an image are not loaded.
 #[derive(Clone, Copy, Debug, PartialEq, Eq, Error)]
 pub enum LoadFault {
     /// The number of the fault, and for a fault of the program (60 to 79) its line, counted from 1; else 0.
@@ -55,6 +58,39 @@ impl From<CheckFault> for LoadFault {
                 code,
                 line: fault.line(),
             },
+            None => LoadFault::OutOfMemory,
+        }
+    }
+}
+
+impl From<CompileFault> for LoadFault {
+    ghost from_gives = { λ fault e. e ≡ compile_refusal fault };
+
+    fn from(fault: CompileFault) -> LoadFault {
+        match fault.code() {
+            Some(code) => LoadFault::Refused { code, line: 0 },
+            None => LoadFault::OutOfMemory,
+        }
+    }
+}
+
+impl From<ImageFault> for LoadFault {
+    ghost from_gives = { λ fault e. e ≡ image_refusal fault };
+
+    fn from(fault: ImageFault) -> LoadFault {
+        match fault.code() {
+            Some(code) => LoadFault::Refused { code, line: 0 },
+            None => LoadFault::OutOfMemory,
+        }
+    }
+}
+
+impl From<VerifyFault> for LoadFault {
+    ghost from_gives = { λ fault e. e ≡ verify_refusal fault };
+
+    fn from(fault: VerifyFault) -> LoadFault {
+        match fault.code() {
+            Some(code) => LoadFault::Refused { code, line: 0 },
             None => LoadFault::OutOfMemory,
         }
     }

@@ -1,43 +1,73 @@
-// A device from the texts of a bay file and a program.
+// A device from the text of a bay file and the text of a program, or the octets of an image.
 ghost use Rattle.std.specs.Prelude.{◌≡◌, ◌≢◌, Ok, Err, IfOk, IfErr};
 ghost use Rattle.bay_base.specs.Exact.{Gives};
 ghost use Rattle.bay_config.specs.Bay.{bay_of};
 ghost use Rattle.bay_config.specs.Laws.{IsBay};
-ghost use Rattle.il_check.specs.Checking.{checked_of};
-ghost use Rattle.il_check.specs.ProgramViews.{checked_view};
-ghost use Rattle.bay_device.specs.Straight.{straight_of};
+ghost use Rattle.il_text.specs.Listing.{PlainProgram};
 ghost use Rattle.il_text.specs.Reading.{program_of};
 ghost use Rattle.il_text.specs.Views.{plain_program};
 ghost use Rattle.il_text.specs.declared.fault.TextFault.TheVariants as text_fault;
+ghost use Rattle.il_check.specs.Checking.{checked_of};
+ghost use Rattle.il_check.specs.Program.{Checked};
+ghost use Rattle.il_check.specs.ProgramViews.{checked_view};
+ghost use Rattle.il_image.specs.Decoding.{decoded};
+ghost use Rattle.il_compile.specs.Compiled.{compiled_of};
+ghost use Rattle.il_verify.specs.Refusals.{IsRefusal};
+ghost use Rattle.il_verify.specs.Verdicts.{IsVerified};
+ghost use Rattle.il_verify.specs.declared.fault.VerifyFault.{VerifyFault};
+ghost use Rattle.il_scan.specs.Scans.{held_first};
+ghost use Rattle.bay_device.specs.Load.{initial_device, checked_in, of_compiled, of_checked, of_program, of_bay, verify_refusal, Loads, LoadsImage, LoadsRead};
+ghost use Rattle.bay_device.specs.Meaning.{Runs};
 ghost use Rattle.bay_device.specs.StateView.{state_view};
-ghost use Rattle.bay_device.specs.Load.{initial_device, of_checked, of_program, of_bay};
+ghost use Rattle.bay_device.specs.declared.fault.LoadFault.TheVariants.{OutOfMemory};
 
-use crate::bind::{bind_program, bind_switches, falses};
+use crate::bind::{bind_switches, falses, origins_of, room_for};
 use crate::device::Device;
 use crate::fault::LoadFault;
 use crate::meters::{all_meter_nodes, bind_meters};
 use crate::nodes::{all_nodes, all_switch_rows};
-use crate::outside::first_outside;
+use crate::report::report_of;
 use crate::state::DeviceState;
 use bay_base::listing::Listing;
-use bay_config::bay::Bay;
+use bay_config::bay::{Bay, Point};
 use bay_config::read::read_bay;
 use bay_tree::tree::Tree;
 use il_check::check::check;
 use il_check::program::Typed;
+use il_compile::compile::compile;
+use il_image::decode::decode;
+use il_image::image::Image;
+use il_scan::machine::Machine;
 use il_text::fault::TextFault;
 use il_text::program::Program;
 use il_text::read::read_program;
+use il_verify::verify::{Verified, verify};
 use std::alloc::{AllocError, Global};
 
-/// The state of a device of a bay and a checked program, before its first event.
-fn state_of(alloc: Global, bay: Bay, typed: Typed) -> Result<DeviceState, AllocError>
-    requires { IsBay bay }
-    ensures { IfOk result (λ state. state_view state ≡ initial_device bay (straight_of (checked_view typed))) }
+/// A machine with a verified image, before its first scan.
+fn machine_of(alloc: Global, verified: Verified) -> Result<Machine, AllocError>
+    ensures { IfOk result (λ machine. machine ≡ held_first verified) }
+{
+    match Machine::new(alloc, verified) {
+        Ok(machine) => Ok(machine),
+        Err(_) => Err(AllocError),
+    }
+}
+
+/// The state of a device of a bay and a verified image, before its first event.
+fn state_of(alloc: Global, bay: Bay, verified: Verified) -> Result<DeviceState, AllocError>
+    requires bay { IsBay bay }
+    requires verified { IsVerified bay.points verified }
+    ensures { IfOk result (λ state. state_view state ≡ initial_device bay verified) }
 {
     let nodes = all_nodes(alloc, &bay)?;
     let meter_nodes = all_meter_nodes(alloc, &bay)?;
-    let (program, values) = bind_program(alloc, typed)?;
+    let report = report_of(&verified);
+    let points = verified.image().points();
+    let reads = origins_of(alloc, false, bay.points.as_slice(), points)?;
+    let writes = origins_of(alloc, true, bay.points.as_slice(), points)?;
+    let machine = machine_of(alloc, verified)?;
+    let room = room_for(alloc, reads.as_slice())?;
     let Bay {
         domain,
         vendor,
@@ -56,7 +86,7 @@ fn state_of(alloc: Global, bay: Bay, typed: Typed) -> Result<DeviceState, AllocE
         alloc,
         switches.into_vec(),
         rows.as_slice(),
-        program.variables.as_slice(),
+        writes.as_slice(),
     )?;
     let meters = bind_meters(alloc, &tree, meters.as_slice(), meter_nodes.as_slice())?;
     let input_values = falses(alloc, inputs.as_slice())?;
@@ -71,25 +101,61 @@ fn state_of(alloc: Global, bay: Bay, typed: Typed) -> Result<DeviceState, AllocE
         inputs,
         input_values,
         meters: Listing::new(meters),
-        program,
-        values,
+        reads: Listing::new(reads),
+        writes: Listing::new(writes),
+        room,
+        machine,
+        report,
         moment: 0,
         last_scan: None,
         is_stale: false,
     })
 }
 
+/// The device of a bay and a verified image.
+fn device_of(alloc: Global, bay: Bay, verified: Verified) -> Result<Device, AllocError>
+    requires bay { IsBay bay }
+    requires verified { IsVerified bay.points verified }
+    ensures { IfOk result (λ device. device ≡ initial_device bay verified) }
+{
+    let state = state_of(alloc, bay, verified)?;
+    Ok(Device::of_state(alloc, state))
+}
+
+/// The image, verified for these points.
+fn verified_for(alloc: Global, image: Image, points: &[Point]) -> Result<Verified, LoadFault>
+    ensures same { IfOk result (λ verified. verified ≡ image) }
+    ensures accepted { IfOk result (λ verified. IsVerified points.now image) }
+    ensures refused { IfErr result (λ e. e ≢ OutOfMemory → (fault : VerifyFault) × (place : ℕ) × IsRefusal points.now image fault place × (e ≡ verify_refusal fault)) }
+    ensures exact { IfErr result (λ e. e ≢ OutOfMemory → IsVerified points.now image → ⊥) }
+{
+    match verify(alloc, image, points) {
+        Ok(verified) => Ok(verified),
+        Err(refused) => Err(LoadFault::from(refused.fault)),
+    }
+}
+
+/// The device of a bay and a checked program.
+fn load_checked(alloc: Global, bay: Bay, typed: Typed) -> Result<Device, LoadFault>
+    requires bay { IsBay bay }
+    requires checked { (program : PlainProgram) × (checked_of bay.points program ≡ Ok (checked_view typed)) }
+    ensures device { Gives OutOfMemory (λ device. device) result (of_compiled bay (compiled_of (checked_view typed))) }
+    ensures runs { IfOk result (Runs (checked_view typed)) }
+{
+    let image = compile(alloc, &typed)?;
+    let verified = verified_for(alloc, image, bay.points.as_slice())?;
+    let device = device_of(alloc, bay, verified)?;
+    Ok(device)
+}
+
 /// The device of a bay and a program.
 fn load_program(alloc: Global, bay: Bay, program: &Program<'_>) -> Result<Device, LoadFault>
     requires { IsBay bay }
-    ensures { Gives LoadFault.OutOfMemory (λ device. device) result (of_checked bay (plain_program program.now) (checked_of bay.points (plain_program program.now))) }
+    ensures device { Gives OutOfMemory (λ device. device) result (of_checked bay (checked_of bay.points (plain_program program.now))) }
+    ensures runs { IfOk result (λ device. (c : Checked) × (checked_of bay.points (plain_program program.now) ≡ Ok c) × Runs c device) }
 {
     let typed = check(alloc, program, bay.points.as_slice())?;
-    if let Some(line) = first_outside(program) {
-        return Err(LoadFault::Refused { code: 61, line });
-    }
-    let state = state_of(alloc, bay, typed)?;
-    Ok(Device::of_state(alloc, state))
+    load_checked(alloc, bay, typed)
 }
 
 /// The program of a text; what a text reads as is one program, or one fault.
@@ -104,17 +170,52 @@ fn program_in<'a>(alloc: Global, logic: &'a str) -> Result<Program<'a>, TextFaul
 /// The device of a bay and the text of a program.
 fn load_text(alloc: Global, bay: Bay, logic: &str) -> Result<Device, LoadFault>
     requires { IsBay bay }
-    ensures { Gives LoadFault.OutOfMemory (λ device. device) result (of_program bay (program_of logic.now)) }
+    ensures device { Gives OutOfMemory (λ device. device) result (of_program bay (program_of logic.now)) }
+    ensures runs { IfOk result (λ device. (c : Checked) × (checked_in (Ok bay) (program_of logic.now) ≡ Ok c) × Runs c device) }
 {
     let program = program_in(alloc, logic)?;
     load_program(alloc, bay, &program)
 }
 
 /// The device of a bay file and a program, before its first event. A fault of the bay file (50 to 55) comes
-/// before one of the program's text (60 to 64), and that before one of its checks (70 to 79).
+/// before one of the program's text (60 to 64), that before one of its checks (70 to 79), and that before 85, where the
+/// program's image would be too long.
 pub fn load(alloc: Global, bay: &str, logic: &str) -> Result<Device, LoadFault>
-    ensures { Gives LoadFault.OutOfMemory (λ device. device) result (of_bay (bay_of bay.now) (program_of logic.now)) }
+    ensures device { Gives OutOfMemory (λ device. device) result (of_bay (bay_of bay.now) (program_of logic.now)) }
+    // The device runs the program that the text comes to.
+    ensures runs { IfOk result (λ device. (c : Checked) × (checked_in (bay_of bay.now) (program_of logic.now) ≡ Ok c) × Runs c device) }
 {
     let bay = read_bay(alloc, bay)?;
     load_text(alloc, bay, logic)
+}
+
+/// The device of a bay and an image.
+fn load_decoded(alloc: Global, bay: Bay, image: Image) -> Result<Device, LoadFault>
+    requires { IsBay bay }
+    ensures ok { IfOk result (λ device. LoadsImage bay image (Ok device)) }
+    ensures refused { IfErr result (λ e. e ≢ OutOfMemory → LoadsImage bay image (Err e)) }
+{
+    let verified = verified_for(alloc, image, bay.points.as_slice())?;
+    let device = device_of(alloc, bay, verified)?;
+    Ok(device)
+}
+
+/// The device of a bay and the octets of an image.
+fn load_octets(alloc: Global, bay: Bay, image: &[u8]) -> Result<Device, LoadFault>
+    requires { IsBay bay }
+    ensures ok { IfOk result (λ device. LoadsRead bay (decoded image.now) (Ok device)) }
+    ensures refused { IfErr result (λ e. e ≢ OutOfMemory → LoadsRead bay (decoded image.now) (Err e)) }
+{
+    let image = decode(alloc, image)?;
+    load_decoded(alloc, bay, image)
+}
+
+/// The device of a bay file and the octets of an image, before its first event. A fault of the bay file (50 to 55) comes before
+/// one of the octets (80 to 83), and that before one of the image (90 to 100).
+pub fn load_image(alloc: Global, bay: &str, image: &[u8]) -> Result<Device, LoadFault>
+    ensures ok { IfOk result (λ device. Loads (bay_of bay.now) (decoded image.now) (Ok device)) }
+    ensures refused { IfErr result (λ e. e ≢ OutOfMemory → Loads (bay_of bay.now) (decoded image.now) (Err e)) }
+{
+    let bay = read_bay(alloc, bay)?;
+    load_octets(alloc, bay, image)
 }

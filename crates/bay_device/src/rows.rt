@@ -68,7 +68,8 @@ fn same_quality(first: Quality, second: Quality) -> bool
     first == second
 }
 
-fn position_at(tree: &Tree, handle: Handle) -> Dbpos
+/// The position that stands there.
+pub fn position_at(tree: &Tree, handle: Handle) -> Dbpos
     requires { HasKind (layout_of tree.now) handle kind.Dbpos }
     ensures { leaf_of (name_in (layout_of tree.now) handle) tree.now ≡ Some (leaves.Dbpos result) }
 {

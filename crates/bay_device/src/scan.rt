@@ -1,22 +1,131 @@
 // What a scan reads, and what it writes (IEC 61850-7-4, CILO: EnaOpn and EnaCls).
-ghost use Rattle.std.specs.Prelude.{◌≡◌, ℕ, List, length, None};
-ghost use Rattle.bay_device.specs.Meaning.{mean};
-ghost use Rattle.bay_device.specs.Named.{AreApart, items_named};
+ghost use Rattle.std.specs.Prelude.{◌≡◌, [], length, map, slice_get, Some, None};
 ghost use Rattle.bay_tree.specs.declared.leaf.Kind.TheVariants as kind;
-ghost use Rattle.bay_tree.specs.Rows.{leaf_of};
-ghost use Rattle.bay_device.specs.Device.{input_of, with_enabled, with_output};
-ghost use Rattle.bay_device.specs.Layout.{layout_of, name_in, status_in, switch_in, AreStatusRows, AreSwitchRows, AreKinded};
-ghost use Rattle.bay_device.specs.Scans.{slot_input, inputs_put, outputs_put};
-ghost use Rattle.bay_device.specs.Slots.{slot_value, origins_of, variables_of};
+ghost use Rattle.bay_tree.specs.declared.leaf.Leaf.TheVariants as leaves;
+ghost use Rattle.il_image.specs.Images.{IsValue};
+ghost use Rattle.il_image.specs.Values.{type_of};
+ghost use Rattle.il_image.specs.declared.value.Value.TheVariants.{Long};
+ghost use Rattle.il_scan.specs.Words.{AreTyped};
+ghost use Rattle.bay_device.specs.Device.{is_true, number_of_position, output_at, position_value, with_enabled, with_output};
+ghost use Rattle.bay_device.specs.Layout.{layout_of, status_in, switch_in, AreStatusRows, AreSwitchRows, AreKinded, AreMeterKinded};
+ghost use Rattle.bay_device.specs.Meaning.{type_of_origin, type_of_switch_point};
+ghost use Rattle.bay_device.specs.Scans.{bound_value, leaf_at, meter_value, outputs_put, switch_value};
 
-use crate::program::{BoundProgram, run_instructions};
-use crate::rows::{StatusRows, SwitchRows, is_position, is_quality, is_truth, put_status};
-use crate::straight::Variable;
+use crate::meter::BoundMeter;
+use crate::rows::{
+    StatusRows, SwitchRows, count_at, is_position, is_quality, is_truth, position_at, put_status,
+};
 use crate::switch::BoundSwitch;
-use crate::values::Values;
-use bay_config::bay::{Origin, SwitchPoint};
+use crate::values::{Inputs, Truths};
+use bay_config::bay::{MeterField, Origin, SwitchPoint};
 use bay_tree::leaf::{Dbpos, Leaf, Quality};
 use bay_tree::tree::Tree;
+use il_image::value::Value;
+
+/// The number of a position (IEC 61850-8-1, Dbpos): 0 intermediate, 1 off, 2 on, 3 bad.
+fn number_of_position(position: Dbpos) -> i16
+    ensures { result ≡ number_of_position (Some (leaves.Dbpos position)) }
+{
+    match position {
+        Dbpos::Intermediate => 0,
+        Dbpos::Off => 1,
+        Dbpos::On => 2,
+        Dbpos::Bad => 3,
+    }
+}
+
+/// What a point of a switch says of its position.
+fn position_value(tree: &Tree, rows: StatusRows, point: SwitchPoint) -> Value
+    requires { AreStatusRows (layout_of tree.now) kind.Dbpos rows }
+    ensures value { result ≡ position_value point (leaf_at tree.now rows.value) }
+    ensures typed { type_of result ≡ type_of_switch_point point }
+    ensures is_value { IsValue result }
+{
+    match point {
+        SwitchPoint::Position => Value::Short(number_of_position(position_at(tree, rows.value))),
+        SwitchPoint::Open => Value::Truth(is_position(tree, rows.value, Dbpos::Off)),
+        SwitchPoint::Closed => Value::Truth(is_position(tree, rows.value, Dbpos::On)),
+        SwitchPoint::EnableOpen | SwitchPoint::EnableClose => Value::Truth(false),
+    }
+}
+
+/// What a point says of a switch that is not there.
+fn no_position(point: SwitchPoint) -> Value
+    ensures value { result ≡ switch_value [] point None }
+    ensures typed { type_of result ≡ type_of_switch_point point }
+    ensures is_value { IsValue result }
+{
+    match point {
+        SwitchPoint::Position => Value::Short(0),
+        _ => Value::Truth(false),
+    }
+}
+
+/// The value that the contacts give a point of the switch at a place.
+fn switch_value(tree: &Tree, switches: &[BoundSwitch], switch: usize, point: SwitchPoint) -> Value
+    requires { AreKinded (layout_of tree.now) switches.now }
+    ensures value { result ≡ switch_value tree.now point (slice_get switches.now switch) }
+    ensures typed { type_of result ≡ type_of_switch_point point }
+    ensures is_value { IsValue result }
+{
+    match switches.get(switch) {
+        Some(bound) => position_value(tree, bound.rows.position, point),
+        None => no_position(point),
+    }
+}
+
+/// The measured value of a field of the meter at a place.
+fn meter_value(tree: &Tree, meters: &[BoundMeter], meter: usize, field: MeterField) -> i32
+    requires { AreMeterKinded (layout_of tree.now) meters.now }
+    ensures { Long result ≡ meter_value tree.now field (slice_get meters.now meter) }
+{
+    match meters.get(meter) {
+        Some(bound) => count_at(tree, bound.rows.field(field).value),
+        None => 0,
+    }
+}
+
+/// The value that the contacts, the inputs and the measures give a point.
+fn point_value(
+    tree: &Tree,
+    switches: &[BoundSwitch],
+    inputs: &Truths,
+    meters: &[BoundMeter],
+    origin: Origin,
+) -> Value
+    requires switches { AreKinded (layout_of tree.now) switches.now }
+    requires meters { AreMeterKinded (layout_of tree.now) meters.now }
+    ensures value { result ≡ bound_value tree.now switches.now inputs.now meters.now origin }
+    ensures typed { type_of result ≡ type_of_origin origin }
+    ensures is_value { IsValue result }
+{
+    match origin {
+        Origin::Switch { switch, point } => switch_value(tree, switches, switch, point),
+        Origin::Input { input } => Value::Truth(inputs.get(input).unwrap_or(false)),
+        Origin::Meter { meter, field } => Value::Long(meter_value(tree, meters, meter, field)),
+    }
+}
+
+/// Gives each point that is read the value of the contacts, the inputs and the measures.
+pub fn read_points(
+    tree: &Tree,
+    switches: &[BoundSwitch],
+    inputs: &Truths,
+    meters: &[BoundMeter],
+    reads: &[Origin],
+    room: &mut Inputs,
+)
+    requires switches { AreKinded (layout_of tree.now) switches.now }
+    requires meters { AreMeterKinded (layout_of tree.now) meters.now }
+    requires sized { length room.old ≡ length reads.now }
+    ensures read { room.new ≡ map (bound_value tree.now switches.now inputs.now meters.now) reads.now }
+    ensures typed { AreTyped (map type_of_origin reads.now) room.new }
+{
+    for i in 0..reads.len() {
+        let value = point_value(tree, switches, inputs, meters, reads[i]);
+        room.set(i, value);
+    }
+}
 
 /// Gives an interlocking value the value of its point.
 fn set_enabled(tree: &mut Tree, rows: StatusRows, value: bool, now: u64)
@@ -32,87 +141,15 @@ fn set_enabled(tree: &mut Tree, rows: StatusRows, value: bool, now: u64)
     put_status(tree, rows, Leaf::Truth(value), Quality::Good, now)
 }
 
-/// What a point says of the position of a switch.
-fn point_input(tree: &Tree, rows: StatusRows, point: SwitchPoint) -> Option<bool>
-    requires { AreStatusRows (layout_of tree.now) kind.Dbpos rows }
-    ensures { result ≡ input_of point (leaf_of (name_in (layout_of tree.now) rows.value) tree.now) }
+/// The value of an output: FALSE where the program does not name its point.
+fn output(outputs: &[Value], place: Option<usize>) -> bool
+    ensures { result ≡ is_true (output_at place outputs.now) }
 {
-    match point {
-        SwitchPoint::Open => Some(is_position(tree, rows.value, Dbpos::Off)),
-        SwitchPoint::Closed => Some(is_position(tree, rows.value, Dbpos::On)),
-        SwitchPoint::Position | SwitchPoint::EnableOpen | SwitchPoint::EnableClose => None,
-    }
-}
-
-/// The value of a slot that the contacts of a switch or an input give.
-fn slot_input(
-    tree: &Tree,
-    switches: &[BoundSwitch],
-    inputs: &Values,
-    slot: Option<Origin>,
-) -> Option<bool>
-    requires { AreKinded (layout_of tree.now) switches.now }
-    ensures { result ≡ slot_input tree.now switches.now inputs.now slot }
-{
-    match slot {
-        Some(Origin::Switch { switch, point }) => match switches.get(switch) {
-            Some(bound) => point_input(tree, bound.rows.position, point),
-            None => None,
+    match place {
+        Some(place) => match outputs.get(place) {
+            Some(Value::Truth(value)) => *value,
+            _ => false,
         },
-        Some(Origin::Input { input }) => inputs.get(input),
-        Some(Origin::Meter { .. }) | None => None,
-    }
-}
-
-/// Gives the slots of read-only points the values of the contacts and the inputs.
-fn read_inputs(
-    tree: &Tree,
-    switches: &[BoundSwitch],
-    inputs: &Values,
-    variables: &[Variable],
-    values: &mut Values,
-)
-    requires kinds { AreKinded (layout_of tree.now) switches.now }
-    requires sized { length variables.now ≡ length values.old }
-    ensures sized { length values.new ≡ length values.old }
-    ensures read { values.new ≡ inputs_put tree.now switches.now inputs.now (origins_of variables.now) values.old }
-{
-    for i in 0..variables.len() {
-        match slot_input(tree, switches, inputs, variables[i].origin) {
-            Some(value) => values.set(i, value),
-            None => {}
-        }
-    }
-}
-
-/// Reads the points, and runs the program once.
-pub fn run_on_inputs(
-    tree: &Tree,
-    switches: &[BoundSwitch],
-    inputs: &Values,
-    program: &BoundProgram,
-    values: &mut Values,
-)
-    requires kinds { AreKinded (layout_of tree.now) switches.now }
-    requires sized { length program.now.variables ≡ length values.old }
-    ensures sized { length values.new ≡ length values.old }
-    // Whatever the slots are called, their values are then what the program means on what was read.
-    ensures meant { (names : List (List ℕ)) → AreApart names → length names ≡ length values.old →
-        variables_of names values.new
-        ≡ (mean (items_named names program.now.instructions) None
-        (variables_of names (inputs_put tree.now switches.now inputs.now (origins_of program.now.variables) values.old))).variables }
-{
-    let variables = program.variables.as_slice();
-    read_inputs(tree, switches, inputs, variables, values);
-    run_instructions(program.instructions.as_slice(), values);
-}
-
-/// The value of an output: its slot's, or FALSE where the program does not name its point.
-fn slot_value(slot: Option<usize>, values: &Values) -> bool
-    ensures { result ≡ slot_value slot values.now }
-{
-    match slot {
-        Some(slot) => values.get(slot).unwrap_or(false),
         None => false,
     }
 }
@@ -128,14 +165,14 @@ fn write_output(tree: &mut Tree, rows: SwitchRows, may_open: bool, may_close: bo
 }
 
 /// Gives each switch's interlocking values the values of their points.
-pub fn write_outputs(tree: &mut Tree, switches: &[BoundSwitch], values: &Values, now: u64)
+pub fn write_outputs(tree: &mut Tree, switches: &[BoundSwitch], outputs: &[Value], now: u64)
     requires { AreKinded (layout_of tree.old) switches.now }
-    ensures rows { tree.new ≡ outputs_put (layout_of tree.old) switches.now values.now now tree.old }
+    ensures rows { tree.new ≡ outputs_put (layout_of tree.old) switches.now outputs.now now tree.old }
     ensures layout { layout_of tree.new ≡ layout_of tree.old }
 {
     for bound in switches {
-        let may_open = slot_value(bound.outputs.ena_opn, values);
-        let may_close = slot_value(bound.outputs.ena_cls, values);
+        let may_open = output(outputs, bound.outputs.ena_opn);
+        let may_close = output(outputs, bound.outputs.ena_cls);
         write_output(tree, bound.rows, may_open, may_close, now);
     }
 }

@@ -1,15 +1,19 @@
 // The state of a device, which can take no memory.
-ghost use Rattle.std.specs.Prelude.{◌≡◌, length};
+ghost use Rattle.std.specs.Prelude.{◌≡◌, length, map};
+ghost use Rattle.il_scan.specs.Scans.{read_only, type_of_point};
 ghost use Rattle.bay_device.specs.Layout.{layout_of, AreBound, AreMetersBound};
-ghost use Rattle.bay_device.specs.Slots.{origins_of};
+ghost use Rattle.bay_device.specs.Meaning.{type_of_origin};
+ghost use Rattle.bay_device.specs.Report.{IsReport};
 
 use crate::meter::BoundMeter;
-use crate::program::BoundProgram;
+use crate::report::Report;
 use crate::switch::BoundSwitch;
-use crate::values::Values;
+use crate::values::{Inputs, Truths};
 use bay_base::listing::Listing;
 use bay_base::text::Text;
+use bay_config::bay::Origin;
 use bay_tree::tree::Tree;
+use il_scan::machine::Machine;
 
 /// A device, as load makes it and steps change it. No part of it hands out an allocator or can grow, so a
 /// step takes no memory.
@@ -27,19 +31,25 @@ pub struct DeviceState {
     pub switches: Listing<BoundSwitch>,
     /// The names of the inputs, in the order of the bay file, and their values.
     pub inputs: Listing<Text>,
-    pub input_values: Values,
+    pub input_values: Truths,
     /// The meters, in the order of the bay file.
     pub meters: Listing<BoundMeter>,
-    pub program: BoundProgram,
-    /// The value of each slot of the program.
-    pub values: Values,
+    /// What the points stand for that the program only reads, and those that it may write, in the order of its points.
+    pub reads: Listing<Origin>,
+    pub writes: Listing<Origin>,
+    /// Room for the values of the points that are read.
+    pub room: Inputs,
+    pub machine: Machine,
+    pub report: Report,
     /// The moment of the last accepted event, in milliseconds since 1970.
     pub moment: u64,
     /// The moment of the last scan.
     pub last_scan: Option<u64>,
     /// Whether a value or a quality of a contact, an input or a measure has changed since the last scan.
     pub is_stale: bool,
-    ghost bound: { AreBound (layout_of tree) (origins_of program.variables) switches },
+    ghost bound: { AreBound (layout_of tree) writes switches },
     ghost metered: { AreMetersBound (layout_of tree) meters },
-    ghost sized: { length values ≡ length program.variables },
+    ghost typed: { map type_of_origin reads ≡ map type_of_point (read_only machine.image.points) },
+    ghost sized: { length room ≡ length reads },
+    ghost reported: { IsReport machine.image report },
 }

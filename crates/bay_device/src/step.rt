@@ -1,6 +1,7 @@
 // What an event does to a device's state.
-ghost use Rattle.std.specs.Prelude.{◌≡◌};
-ghost use Rattle.bay_device.specs.Device.{event_outcome, scanned, outcome};
+ghost use Rattle.std.specs.Prelude.{◌≡◌, false};
+ghost use Rattle.bay_device.specs.Device.{event_outcome, outcome, ran_at, scanned};
+ghost use Rattle.bay_device.specs.Meaning.{Halts, HaltsAt, is_refused};
 ghost use Rattle.bay_device.specs.declared.event.Event.TheVariants.{Contact, Input, Measure};
 ghost use Rattle.bay_device.specs.StateView.{state_view};
 
@@ -8,7 +9,7 @@ use crate::contact::take_position;
 use crate::event::{Event, LAST_MOMENT, Step};
 use crate::fault::StepFault;
 use crate::meter::take_measure;
-use crate::scan::{run_on_inputs, write_outputs};
+use crate::scan::{read_points, write_outputs};
 use crate::state::DeviceState;
 use crate::values::same_truth;
 use bay_config::bay::MeterField;
@@ -27,7 +28,7 @@ impl DeviceState {
         let changed = take_position(&mut self.tree, rows, position, now);
         self.is_stale |= changed;
         self.moment = now;
-        Ok(Step { scanned: false })
+        Ok(Step { scan: None })
     }
 
     /// Takes the value of the input at a place.
@@ -43,7 +44,7 @@ impl DeviceState {
         self.input_values.set(input, value);
         self.is_stale |= changed;
         self.moment = now;
-        Ok(Step { scanned: false })
+        Ok(Step { scan: None })
     }
 
     /// Takes a measured value of the meter at a place.
@@ -64,30 +65,37 @@ impl DeviceState {
         let changed = take_measure(&mut self.tree, rows, value, now);
         self.is_stale |= changed;
         self.moment = now;
-        Ok(Step { scanned: false })
+        Ok(Step { scan: None })
     }
 
-    /// Runs the program once on the positions and the inputs as they stand.
-    fn scan(&mut self, now: u64)
-        ensures { state_view self.new ≡ scanned now (state_view self.old) }
+    /// Runs the program once on the positions, the inputs and the measures as they stand, and counts its steps.
+    fn scan(&mut self, now: u64) -> u32
+        ensures after { state_view self.new ≡ scanned now (state_view self.old) }
+        ensures steps { result ≡ (ran_at now (state_view self.old)).steps }
+        ensures halts { Halts now (state_view self.old) }
     {
-        run_on_inputs(
+        read_points(
             &self.tree,
             self.switches.as_slice(),
             &self.input_values,
-            &self.program,
-            &mut self.values,
+            self.meters.as_slice(),
+            self.reads.as_slice(),
+            &mut self.room,
         );
-        write_outputs(&mut self.tree, self.switches.as_slice(), &self.values, now);
+        let scan = self.machine.scan(self.room.as_slice(), now);
+        let steps = scan.steps;
+        write_outputs(&mut self.tree, self.switches.as_slice(), scan.outputs, now);
         self.last_scan = Some(now);
         self.is_stale = false;
         self.moment = now;
+        steps
     }
 
     /// Does one event, at a moment in milliseconds since 1970. A refused event changes nothing.
     pub fn step(&mut self, now: u64, event: Event) -> Result<Step, StepFault>
         ensures answer { result ≡ (outcome now event (state_view self.old)).answer }
         ensures after { state_view self.new ≡ (outcome now event (state_view self.old)).after }
+        ensures halts { is_refused now (state_view self.old) ≡ false → HaltsAt now event (state_view self.old) }
     {
         if now > LAST_MOMENT {
             return Err(StepFault::MomentTooLarge);
@@ -104,8 +112,8 @@ impl DeviceState {
                 value,
             } => self.measure(now, meter, field, value),
             Event::Scan => {
-                self.scan(now);
-                Ok(Step { scanned: true })
+                let steps = self.scan(now);
+                Ok(Step { scan: Some(steps) })
             }
         }
     }

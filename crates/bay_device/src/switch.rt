@@ -1,9 +1,15 @@
 // A switch of the bay, with what a step needs of it.
-use crate::program::SwitchOutputs;
 use crate::rows::SwitchRows;
 use bay_config::bay::Switch;
 
-/// A switch, where its values stand in the tree, and where the program leaves its interlocking values.
+/// Where the interlocking values of a switch stand among the outputs of a scan, if the program names their points.
+#[derive(Clone, Copy, Debug)]
+pub struct SwitchOutputs {
+    pub ena_opn: Option<usize>,
+    pub ena_cls: Option<usize>,
+}
+
+/// A switch, where its values stand in the tree, and where a scan leaves its interlocking values.
 #[derive(Drop)]
 pub struct BoundSwitch {
     pub switch: Switch,

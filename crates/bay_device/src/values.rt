@@ -1,16 +1,17 @@
-// The values of a program's slots, and of inputs.
-ghost use Rattle.std.specs.Prelude.{◌≡◌, ◌<◌, length, slice_get, slice_set, Some};
+// Values that are never more or fewer than there were at first.
+ghost use Rattle.std.specs.Prelude.{◌≡◌, ◌<◌, length, slice_get, slice_set};
 ghost use Rattle.bay_device.specs.Device.{same_truth};
 
+use il_image::value::Value;
 use std::marker::Model;
 
-/// The values of slots, which are never more or fewer than there were at first.
+/// The values of the inputs.
 #[derive(Drop)]
-pub struct Values {
+pub struct Truths {
     values: Vec<bool>,
 }
 
-impl Model for Values {
+impl Model for Truths {
     ghost use Rattle.std.specs.Prelude.{List, Bool};
 
     ghost Value = { List Bool };
@@ -18,12 +19,12 @@ impl Model for Values {
     ghost view = { λ v. v.values.items };
 }
 
-impl Values {
-    /// The values that slots begin with. It takes no memory.
+impl Truths {
+    /// These values. It takes no memory.
     pub fn new(values: Vec<bool>) -> Self
         ensures { result ≡ values.items }
     {
-        Values { values }
+        Truths { values }
     }
 
     /// How many there are.
@@ -33,27 +34,58 @@ impl Values {
         self.values.len()
     }
 
-    /// The value of a slot, if there is one.
-    pub fn get(&self, slot: usize) -> Option<bool>
-        ensures { result ≡ slice_get self.now slot }
+    /// The value at a place, if there is one.
+    pub fn get(&self, place: usize) -> Option<bool>
+        ensures { result ≡ slice_get self.now place }
     {
-        self.values.as_slice().get(slot).copied()
+        self.values.as_slice().get(place).copied()
     }
 
-    /// The value of a slot that is there.
-    pub fn at(&self, slot: usize) -> bool
-        requires { slot < length self.now }
-        ensures { slice_get self.now slot ≡ Some result }
+    /// Gives a place a new value.
+    pub fn set(&mut self, place: usize, value: bool)
+        requires { place < length self.old }
+        ensures { self.new ≡ slice_set self.old place value }
     {
-        self.values[slot]
+        self.values[place] = value;
+    }
+}
+
+/// Room for what a scan reads: a value for each point that the program only reads.
+#[derive(Drop)]
+pub struct Inputs {
+    values: Vec<Value>,
+}
+
+impl Model for Inputs {
+    ghost use Rattle.std.specs.Prelude.{List};
+    ghost use Rattle.il_image.specs.declared.value.Value.{Value};
+
+    ghost Value = { List Value };
+
+    ghost view = { λ v. v.values.items };
+}
+
+impl Inputs {
+    /// These values. It takes no memory.
+    pub fn new(values: Vec<Value>) -> Self
+        ensures { result ≡ values.items }
+    {
+        Inputs { values }
     }
 
-    /// Gives a slot a new value.
-    pub fn set(&mut self, slot: usize, value: bool)
-        requires { slot < length self.old }
-        ensures { self.new ≡ slice_set self.old slot value }
+    /// The values.
+    pub fn as_slice(&self) -> &[Value]
+        ensures { result.now ≡ self.now }
     {
-        self.values[slot] = value;
+        self.values.as_slice()
+    }
+
+    /// Gives a place a new value.
+    pub fn set(&mut self, place: usize, value: Value)
+        requires { place < length self.old }
+        ensures { self.new ≡ slice_set self.old place value }
+    {
+        self.values[place] = value;
     }
 }
 

@@ -145,10 +145,9 @@ module _ (image : Image) (now : ℕ) (first : State) (place steps : ℕ) (w : Wo
     pub few_steps : (budget : ℕ) → IsBudget image.code budget → steps + 1 ≤ budget
     few_steps budget b = b.most (steps + 1) (place, ends.0, ends.1)
 
-    pub halts_so : (budget : ℕ) → IsBudget image.code budget → run image.code now budget first 0 ≡ Halted c.state.slots c.state.timers (steps + 1)
-    halts_so budget b =
-        let least : steps + 1 ≤ budget = few_steps budget b in
-        run_enough image.code now (length image.code) budget first 0 c.state.slots c.state.timers (steps + 1) (so_far ∙ run_halts image.code now (length image.code - (steps + 1)) c.state steps t.0) (omega arith)
+    pub halts_so : (most : ℕ) → steps + 1 ≤ most → run image.code now most first 0 ≡ Halted c.state.slots c.state.timers (steps + 1)
+    halts_so most least =
+        run_enough image.code now (length image.code) most first 0 c.state.slots c.state.timers (steps + 1) (so_far ∙ run_halts image.code now (length image.code - (steps + 1)) c.state steps t.0) (omega arith)
 
     slots_are : after.slots ≡ words_of c.state.slots
     slots_are = ap (λ (m : Words). m.slots) t.1
@@ -169,9 +168,10 @@ run_ends image now slots timers place steps w c within safe held after t =
     let values = values_are image now first place steps w c within after t in
     let times = timers_are image now first place steps w c within after t in
     record {
-      halts = λ budget b. halts_so image now first place steps w c within after t budget b
+      halts = λ most least. halts_so image now first place steps w c within after t most least
           ∙ ap (λ (v : List Value). Halted v c.state.timers (steps + 1)) (sym values) ∙ ap (λ (x : List Timer). Halted (values_of (slot_types image) after.slots) x (steps + 1)) (sym times);
       within = λ budget b. few_steps image now first place steps w c within after t budget b;
+      few = (let few : steps ≤ place = c.few in omega arith);
       depth = λ most count d. never_deeper image now c.octets most d count first (start_standing image slots timers safe held);
       keeps = λ n only. ap (λ (m : Words). slice_get m.slots n) t.1 ∙ ap (λ (m : Words). slice_get m.slots n) c.stands.are ∙ c.kept n only ∙ ap (λ (v : List ℤ). slice_get v n) (sym held.stand.are);
       held = typed image now first place steps w c within after t;

@@ -41,8 +41,9 @@ module _ (image : Image) (points : List ImagePoint) (is : points ≡ image.point
         → Scans (held image slots timers) inputs now (held image new_slots new_timers) steps outputs
     scanned new_slots new_timers steps outputs r given = record {
       image = refl;
-      halts = λ budget b. ap (λ (s : State). run image.code now budget s 0) (sym first_is) ∙ r.halts budget b;
+      halts = λ most least. ap (λ (s : State). run image.code now most s 0) (sym first_is) ∙ r.halts most least;
       within = r.within;
+      few = r.few;
       depth = λ most count d. subst (IsWithin image.code now most count) first_is (r.depth most count d);
       keeps = λ n p get only. same_slot (slot_types image) new_slots taken n (r.keeps n (only_read image n p get only)) ∙ ap (λ (v : List Value). slice_get v n) values_taken;
       given = given ∙ ap (λ (ps : List ImagePoint). given_by ps new_slots) is ∙ outputs_are image.points (map type_of image.variables) new_slots;

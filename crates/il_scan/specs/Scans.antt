@@ -105,9 +105,11 @@ IsWithin code now depth (suc most) s = (length s.cells ≤ depth) × ((next : St
 pub record Scans (old : Held) (inputs : List Value) (now : ℕ) (new : Held) (steps : ℕ) (outputs : List Value) : Type 0 where
   -- the image stays
   pub image : new.image ≡ old.image
-  -- the run is over at HALT within the budget, and no step of it is a trap
-  pub halts : (budget : ℕ) → IsBudget old.image.code budget → run old.image.code now budget (started old inputs) 0 ≡ Halted new.slots new.timers steps
+  -- the run is over at HALT, given as many steps as it takes, and no step of it is a trap
+  pub halts : (most : ℕ) → steps ≤ most → run old.image.code now most (started old inputs) 0 ≡ Halted new.slots new.timers steps
+  -- it takes no more steps than the budget, nor than the code has octets
   pub within : (budget : ℕ) → IsBudget old.image.code budget → steps ≤ budget
+  pub few : steps ≤ length old.image.code
   -- the stack is never deeper than the image's depth
   pub depth : (most : ℕ) (steps : ℕ) → IsDepth old.image most → IsWithin old.image.code now most steps (started old inputs)
   -- a point that may only be read keeps its input

@@ -77,8 +77,9 @@ first_state image slots timers = start (values_of (slot_types image) slots) time
 
 -- The run of the image's code from these slots and timers ends with the others, after so many steps.
 pub record RunsTo (image : Image) (now : ℕ) (slots : List ℤ) (timers : List Timer) (new_slots : List ℤ) (new_timers : List Timer) (steps : ℕ) : Type 0 where
-  pub halts : (budget : ℕ) → IsBudget image.code budget → run image.code now budget (first_state image slots timers) 0 ≡ Halted (values_of (slot_types image) new_slots) new_timers steps
+  pub halts : (most : ℕ) → steps ≤ most → run image.code now most (first_state image slots timers) 0 ≡ Halted (values_of (slot_types image) new_slots) new_timers steps
   pub within : (budget : ℕ) → IsBudget image.code budget → steps ≤ budget
+  pub few : steps ≤ length image.code
   pub depth : (most : ℕ) (count : ℕ) → IsDepth image most → IsWithin image.code now most count (first_state image slots timers)
   pub keeps : (n : ℕ) → is_read_only (slots_of image) n ≡ true → slice_get new_slots n ≡ slice_get slots n
   pub held : IsHeld image new_slots new_timers

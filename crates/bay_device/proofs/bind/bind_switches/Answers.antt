@@ -1,7 +1,6 @@
 use Rattle.std.proofs.Common.{◌≡◌, ◌+◌, ◌<◌, ◌∷◌, ◌++◌, length, length-append, append_assoc, append-nil, List, [], ap, sym, ◌∙◌, refl, rules, arith}
 use Rattle.bay_config.specs.declared.bay.Switch.{Switch}
-use Rattle.bay_device.specs.Bound.{bound_from}
-use Rattle.bay_device.specs.Slots.{outputs_at, origins_of}
+use Rattle.bay_device.specs.Layout.{bound_from, outputs_at}
 use Rattle.bay_device.specs.declared.switch.BoundSwitch.{BoundSwitch}
 use Rattle.bay_device.proofs.ListLemmas.{length-none, length-snoc}
 use Rattle.bay_device.proofs.LoadLemmas.{bound-snoc}
@@ -28,9 +27,9 @@ loop-switch-preserved c =
           ∙ sym (append_assoc yielded (c.in-Some.switch ∷ []) c.next.new.self.rest.items);
       done =
           rw (c.in_ok-push.ensures.items, c.outputs_at.ensures)
-          (ap (λ (bs : List BoundSwitch). bs ++ record { switch = c.in-Some.switch; rows = c.index-rows-k.result; outputs = outputs_at (origins_of c.args.variables.now) c.len-k.result } ∷ []) c.loop-switch.invariant.done
-          ∙ ap (λ m. bound_from (origins_of c.args.variables.now) 0 yielded c.args.rows.now ++ record { switch = c.in-Some.switch; rows = c.index-rows-k.result; outputs = outputs_at (origins_of c.args.variables.now) m } ∷ []) (sym none)
-          ∙ sym (bound-snoc (origins_of c.args.variables.now) 0 yielded c.args.rows.now c.in-Some.switch c.index-rows-k.result c.len-k.result n bounds c.index-rows-k.is));
+          (ap (λ (bs : List BoundSwitch). bs ++ record { switch = c.in-Some.switch; rows = c.index-rows-k.result; outputs = outputs_at c.args.writes.now c.len-k.result } ∷ []) c.loop-switch.invariant.done
+          ∙ ap (λ m. bound_from c.args.writes.now 0 yielded c.args.rows.now ++ record { switch = c.in-Some.switch; rows = c.index-rows-k.result; outputs = outputs_at c.args.writes.now m } ∷ []) (sym none)
+          ∙ sym (bound-snoc c.args.writes.now 0 yielded c.args.rows.now c.in-Some.switch c.index-rows-k.result c.len-k.result n bounds c.index-rows-k.is));
     }
 
 pub returns : goal.returns

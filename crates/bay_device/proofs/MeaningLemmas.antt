@@ -1,0 +1,1 @@
+-- What a scan makes of a device.

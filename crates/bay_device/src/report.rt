@@ -1,0 +1,43 @@
+// What a device reports of the program that it runs.
+ghost use Rattle.std.specs.Prelude.{◌≡◌};
+ghost use Rattle.il_image.specs.Images.{IsCode};
+ghost use Rattle.bay_device.specs.Report.{IsCount, IsReport};
+
+use il_image::read::instr_at;
+use il_verify::verify::Verified;
+
+/// The size of a program's code, and what a scan of it takes at most.
+#[derive(Clone, Copy, Debug, PartialEq, Eq)]
+pub struct Report {
+    /// The number of the code's instructions.
+    pub instructions: u32,
+    /// The most values that lie on the stack before an instruction: 0 to 32.
+    pub depth: u32,
+    /// The most instructions that a scan executes, HALT among them.
+    pub budget: u32,
+}
+
+/// The number of instructions in code.
+fn instruction_count(code: &[u8]) -> u32
+    requires { IsCode code.now }
+    ensures { IsCount code.now result }
+{
+    let mut count = 0;
+    let mut place = 0;
+    while let Some((_, next)) = instr_at(code, place) {
+        count += 1;
+        place = next;
+    }
+    count
+}
+
+/// The report of a verified image.
+pub fn report_of(verified: &Verified) -> Report
+    ensures { IsReport verified.now result }
+{
+    Report {
+        instructions: instruction_count(verified.image().code()),
+        depth: verified.depth(),
+        budget: verified.budget(),
+    }
+}
