@@ -1,3 +1,5 @@
+pub mod CheckLemmas
+pub mod JobLemmas
 pub mod PieceLemmas
 pub mod ReportLemmas
 pub mod WordLemmas

@@ -5,7 +5,8 @@ use Rattle.std.proofs.lemmas.Option.{get_or_from_slice_get}
 use Rattle.std.specs.Io.KnownBytes.{Appends}
 use Rattle.bay_config.specs.declared.bay.Switch.{Switch}
 use Rattle.bay_device.specs.Device.{State}
-use Rattle.bay_main.specs.Report.{switch_part, switches_text, LineAnswer, line_answer, TraceReport, DeviceReport, Reports, ReportsPart, Prints}
+use Rattle.bay_main.specs.LineAnswers.{switch_part, switches_text, LineAnswer, line_answer}
+use Rattle.bay_main.specs.Report.{TraceReport, HeadReport, Reports, ReportsPart, Prints}
 use Rattle.bay_main.specs.Scenario.{content, lines_of, CutsLine}
 use Rattle.bay_io.specs.Sent.{Sends, SendsPart}
 use Rattle.bay_main.specs.Trace.{trace_line_of}
@@ -34,8 +35,8 @@ pub record Progress (May : List ℕ → ℕ → Type 0) (s : State) (k : ℕ) (r
   pub continues : (text : List ℕ) (status : ℕ) → TraceReport s k rest text status → May (printed ++ text) status
   pub sent : Sends old new printed pending
 
-pub Progress-start : (s : State) (lines : List (List ℕ)) (old new : Option (List ℕ)) (last : List ℕ) → Sends old new (codes "loaded\n") last → Progress (DeviceReport s lines) s 1 lines old new last
-Progress-start s lines old new last sent = record { printed = codes "loaded\n"; continues = λ text status told. (text, refl, told); sent = sent }
+pub Progress-start : (head : List ℕ) (s : State) (lines : List (List ℕ)) (old new : Option (List ℕ)) (last : List ℕ) → Sends old new head last → Progress (HeadReport head s lines) s 1 lines old new last
+Progress-start head s lines old new last sent = record { printed = head; continues = λ text status told. (text, refl, told); sent = sent }
 
 ran : (s : State) (k : ℕ) (rest : List (List ℕ)) → TraceReport s k rest (codes "fault memory\n") 3
 ran s k [] = inr (refl, refl)
@@ -127,13 +128,13 @@ pub nil_from_length : (xs : List ℕ) → length xs ≡ 0 → xs ≡ []
 nil_from_length [] e = refl
 nil_from_length (x ∷ xs) e = absurd (omega arith)
 
-pub Progress-load_cut : (s : State) (lines : List (List ℕ)) (old new : Option (List ℕ)) (pending : List ℕ) → pending ≡ [] → SendsPart old new (pending ++ codes "loaded\n") → ReportsPart (DeviceReport s lines) old new
-Progress-load_cut s lines old new pending e w =
+pub Progress-load_cut : (head : List ℕ) (s : State) (lines : List (List ℕ)) (old new : Option (List ℕ)) (pending : List ℕ) → pending ≡ [] → SendsPart old new (pending ++ head) → ReportsPart (HeadReport head s lines) old new
+Progress-load_cut head s lines old new pending e w =
     record {
-      text = codes "loaded\n" ++ codes "fault memory\n";
+      text = head ++ codes "fault memory\n";
       status = 3;
       told = (codes "fault memory\n", refl, ran s 1 lines);
-      part = SendsPart-more old new (pending ++ codes "loaded\n") (codes "fault memory\n") _ w (ap (λ p. (p ++ codes "loaded\n") ++ codes "fault memory\n") (sym e));
+      part = SendsPart-more old new (pending ++ head) (codes "fault memory\n") _ w (ap (λ p. (p ++ head) ++ codes "fault memory\n") (sym e));
     }
 
 -- what becomes of a text that may be printed, said of an answer

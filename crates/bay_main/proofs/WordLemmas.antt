@@ -10,7 +10,7 @@ use Rattle.std.specs.Str.Parse.{digits_value}
 use Rattle.std.specs.Str.{bytes_eq, is_utf8, IsUtf8}
 use Rattle.std.proofs.lemmas.Str.{IsUtf8-from_is_utf8, is_utf8-from_IsUtf8}
 use Rattle.std.proofs.Common.{codes}
-use Rattle.bay_main.specs.Trace.{is_space, read_number, contact_of, input_of, told_of, event_of, words_line, trace_line_of}
+use Rattle.bay_main.specs.Trace.{is_space, only_word, read_number, read_integer, words_line, trace_line_of}
 
 not_space : (b : ℕ) → b ≢ 32 → is_space b ≡ false
 not_space b h = grind (arith, nat_tests)
@@ -51,22 +51,9 @@ some_word : (bs : List ℕ) → HasFirst (slice_split is_space bs)
 some_word [] = ([], [], refl)
 some_word (b ∷ bs) = some_first b (slice_split is_space bs) (is_space b)
 
--- more words than an id and a position
-pub contact_of-more : (id position bs : List ℕ) (m : ℕ) → contact_of (id ∷ position ∷ slice_split is_space bs) m ≡ None
-contact_of-more id position bs m = let h = some_word bs in ap (λ ws. contact_of (id ∷ position ∷ ws) m) h.2
-
-pub event_of-more : (word bs : List ℕ) (m : ℕ) → event_of word (slice_split is_space bs) m ≡ told_of word (slice_split is_space bs) m
-event_of-more word bs m =
-    let h = some_word bs in
-    ap (λ ws. event_of word ws m) h.2 ∙ ap (λ ws. told_of word ws m) (sym h.2)
-
--- more words than a name and a value
-input_of-more : (name value bs : List ℕ) (m : ℕ) → input_of (name ∷ value ∷ slice_split is_space bs) m ≡ None
-input_of-more name value bs m = let h = some_word bs in ap (λ ws. input_of (name ∷ value ∷ ws) m) h.2
-
-pub input_of-extra : (text name next digit more : List ℕ) (m : ℕ) → slice_split is_space text ≡ name ∷ slice_split is_space next → slice_split is_space next ≡ digit ∷ slice_split is_space more
-    → input_of (slice_split is_space text) m ≡ None
-input_of-extra text name next digit more m e f = ap (λ ws. input_of ws m) (e ∙ ap (λ ws. name ∷ ws) f) ∙ input_of-more name digit more m
+-- a word with others behind it stands not alone
+pub only_word-more : (word bs : List ℕ) → only_word (word ∷ slice_split is_space bs) ≡ None
+only_word-more word bs = let h = some_word bs in ap (λ ws. only_word (word ∷ ws)) h.2
 
 pub is_utf8_false : (bs : List ℕ) → ¬ (IsUtf8 bs) → is_utf8 bs ≡ false
 is_utf8_false bs bad = by_test (is_utf8 bs) refl
@@ -83,6 +70,11 @@ pub trace_line_of-no_text : (bs : List ℕ) → eqb (length bs) 0 ≡ false → 
 trace_line_of-no_text [] e bad = absurd (grind (arith, nat_tests))
 trace_line_of-no_text (b ∷ bs) e bad = ap (λ v. cond v (words_line (slice_split is_space (b ∷ bs))) None) (is_utf8_false (b ∷ bs) bad)
 
-pub contact_of-extra : (text id next digit more : List ℕ) (m : ℕ) → slice_split is_space text ≡ id ∷ slice_split is_space next → slice_split is_space next ≡ digit ∷ slice_split is_space more
-    → contact_of (slice_split is_space text) m ≡ None
-contact_of-extra text id next digit more m e f = ap (λ ws. contact_of ws m) (e ∙ ap (λ ws. id ∷ ws) f) ∙ contact_of-more id digit more m
+-- what doesn't begin with `-` and is no number is no integer
+pub read_integer-none : (bs : List ℕ) → ((rest : List ℕ) → bs ≢ 45 ∷ rest) → read_number bs ≡ None → read_integer bs ≡ None
+read_integer-none [] h none = refl
+read_integer-none (b ∷ bs) h none = by_test (eqb b 45) refl
+  where
+    by_test : (v : Bool) → eqb b 45 ≡ v → read_integer (b ∷ bs) ≡ None
+    by_test true e = absurd (h bs (grind (arith, nat_tests)))
+    by_test false e = rw (e, none)

@@ -1,7 +1,11 @@
+pub mod Compiled
+pub mod Ending
+pub mod Jobs
+pub mod JobView
+pub mod LineAnswers
 pub mod Load
 pub mod Report
 pub mod Scenario
 pub mod ScenarioView
 pub mod Trace
 pub mod TraceView
-pub mod Ending

@@ -1,5 +1,5 @@
--- The device that the octets of a bay file and of a program load to, or why they are refused.
-use Rattle.std.specs.Prelude.{ℕ, List, Result, Err, if◌then◌else◌}
+-- The device that the octets of a bay file and of a program or an image load to, or why they are refused.
+use Rattle.std.specs.Prelude.{◌≡◌, ℕ, List, Result, Err, if◌then◌else◌}
 use Rattle.std.specs.Str.{is_utf8}
 use Rattle.bay_config.specs.Bay.{bay_of}
 use Rattle.bay_config.specs.declared.bay.Bay.{Bay}
@@ -9,9 +9,12 @@ use Rattle.il_text.specs.Listing.{PlainProgram}
 use Rattle.il_text.specs.Reading.{program_of}
 use Rattle.il_text.specs.declared.fault.TextFault.{TextFault}
 use Rattle.il_text.specs.declared.fault.TextFault.TheVariants.{BadToken}
+use Rattle.il_image.specs.Decoding.{decoded}
 use Rattle.bay_device.specs.Device.{State}
-use Rattle.bay_device.specs.Load.{of_bay}
+use Rattle.bay_device.specs.Load.{of_bay, Loads}
 use Rattle.bay_device.specs.declared.fault.LoadFault.{LoadFault}
+use Rattle.bay_main.specs.declared.load.ProgramFile.{ProgramFile}
+use Rattle.bay_main.specs.declared.load.ProgramFile.TheVariants.{Logic, Image}
 
 -- a program that is not in UTF-8 is a bad token at its first line
 abbrev pub text_of : List ℕ → Result PlainProgram TextFault
@@ -24,3 +27,8 @@ file_of bay = if is_utf8 bay then bay_of bay else Err BadToml
 -- the device of the octets of a bay file and of a program, or their first refusal
 abbrev pub load_of : List ℕ → List ℕ → Result State LoadFault
 load_of bay logic = of_bay (file_of bay) (text_of logic)
+
+-- the octets of a bay file and of a program or an image load to this device, or are refused so
+abbrev pub LoadsTo : List ℕ → ProgramFile → Result State LoadFault → Type 0
+LoadsTo bay (Logic logic) loaded = load_of bay logic.now ≡ loaded
+LoadsTo bay (Image image) loaded = Loads (file_of bay) (decoded image.now) loaded

@@ -1,23 +1,20 @@
 -- What is printed for a scenario, and with which status.
-use Rattle.std.specs.Prelude.{◌≡◌, ℕ, ◌+◌, ◌==◌, ◌≤◌, ◌<◌, Bool, true, false, List, [], ◌∷◌, ◌++◌, length, position, codes, unwrap_or, Option, None, Some, IfSome, Result, Ok, Err, ◌⊎◌, MatchBool, if◌then◌else◌}
+use Rattle.std.specs.Prelude.{◌≡◌, ℕ, ◌+◌, ◌==◌, ◌≤◌, ◌<◌, Bool, true, false, List, [], ◌∷◌, ◌++◌, length, codes, Option, None, Some, IfSome, Result, Ok, Err, ◌⊎◌, MatchBool, if◌then◌else◌}
 use Rattle.std.specs.Fmt.{decimal}
 use Rattle.std.specs.Io.KnownBytes.{Appends}
-use Rattle.bay_config.specs.declared.bay.Switch.{Switch}
-use Rattle.bay_device.specs.Code.{step_code_of}
-use Rattle.bay_device.specs.Device.{State, outcome}
-use Rattle.bay_device.specs.LookUps.{switch_place, input_place, may_open, may_close}
-use Rattle.bay_main.specs.Load.{load_of}
+use Rattle.bay_device.specs.Device.{State}
+use Rattle.bay_device.specs.Report.{IsReport as IsReportOf}
+use Rattle.bay_device.specs.declared.report.Report.{Report}
+use Rattle.bay_main.specs.LineAnswers.{line_answer}
+use Rattle.bay_main.specs.Load.{load_of, LoadsTo}
+use Rattle.bay_main.specs.declared.load.ProgramFile.{ProgramFile}
 use Rattle.bay_main.specs.Scenario.{ScenarioParts, scenario_of, lines_of}
 use Rattle.bay_io.specs.Sent.{SendsPart}
 use Rattle.bay_io.specs.Watched.{Writing}
 use Rattle.bay_io.specs.declared.outbox.WriteFault.{WriteFault}
-use Rattle.bay_main.specs.Trace.{LineData, blank, contact, input_told, scan, trace_line_of}
-use Rattle.bay_device.specs.declared.event.Event.{Event}
-use Rattle.bay_device.specs.declared.event.Event.TheVariants.{Contact, Input, Scan}
-use Rattle.bay_device.specs.declared.event.Step.{Step}
+use Rattle.bay_main.specs.Trace.{trace_line_of}
 use Rattle.bay_device.specs.declared.fault.LoadFault.{LoadFault}
 use Rattle.bay_device.specs.declared.fault.LoadFault.TheVariants.{Refused, OutOfMemory}
-use Rattle.bay_device.specs.declared.fault.StepFault.{StepFault}
 use Rattle.bay_main.specs.Scenario.{scenario_limit}
 
 -- a refusal at a line of the program, or one that has none
@@ -31,66 +28,11 @@ abbrev pub refusal_of : LoadFault → List ℕ
 refusal_of OutOfMemory = codes "load refused memory\n"
 refusal_of (Refused code line) = numbered_refusal code line
 
--- TRUE is 1
-abbrev pub digit_of : Bool → List ℕ
-digit_of b = if b then codes "1" else codes "0"
-
--- a switch's id, and whether it may be opened and closed
-abbrev pub switch_text : List ℕ → Bool → Bool → List ℕ
-switch_text id opens closes = codes " " ++ (id ++ (codes "=" ++ (digit_of opens ++ digit_of closes)))
-
--- the part of a scan's line on the switch at a place, if there is one
-abbrev pub switch_part : State → ℕ → Option Switch → List ℕ
-switch_part s k None = []
-switch_part s k (Some switch) = switch_text switch.id (may_open s k) (may_close s k)
-
--- the parts on switches, from place k on
-abbrev pub switches_text : State → ℕ → List Switch → List ℕ
-switches_text s k [] = []
-switches_text s k (switch ∷ switches) = switch_part s k (Some switch) ++ switches_text s (k + 1) switches
-
--- the line of a scan
-abbrev pub scan_text : ℕ → State → List ℕ
-scan_text now s = (decimal now ++ codes " scan") ++ (switches_text s 0 s.switches ++ codes "\n")
-
--- the line of a refused event
-abbrev pub refused_text : ℕ → StepFault → List ℕ
-refused_text now fault = decimal now ++ (codes " refused " ++ (decimal (step_code_of fault) ++ codes "\n"))
-
--- the line of an event, by its answer and the device after it
-abbrev pub step_text : ℕ → Result Step StepFault → State → List ℕ
-step_text now (Err fault) s = refused_text now fault
-step_text now (Ok step) s = if step.scanned then scan_text now s else []
-
--- what is printed for a line of the trace, whether the replay ends there, and the device after it
-pub record LineAnswer : Type 0 where
-  pub text : List ℕ
-  pub is_last : Bool
-  pub after : State
-
-abbrev pub event_answer : ℕ → Event → State → LineAnswer
-event_answer now event s =
-    let done = outcome now event s in
-    record { text = step_text now done.answer done.after; is_last = false; after = done.after }
-
--- the place of the switch with an id, or a place at which there is none
-abbrev pub event_place : State → List ℕ → ℕ
-event_place s id = unwrap_or (switch_place s id) (length s.switches)
-
--- the place of the input with a name, or a place at which there is none
-abbrev pub event_input : State → List ℕ → ℕ
-event_input s name = unwrap_or (input_place s name) (length s.input_values)
-
-abbrev pub unreadable_text : ℕ → List ℕ
-unreadable_text k = codes "fault 120 line " ++ (decimal k ++ codes "\n")
-
--- the answer to a line, which is line k of the trace
-abbrev pub line_answer : ℕ → Option LineData → State → LineAnswer
-line_answer k None s = record { text = unreadable_text k; is_last = true; after = s }
-line_answer k (Some blank) s = record { text = []; is_last = false; after = s }
-line_answer k (Some (contact moment id position)) s = event_answer moment (Contact (event_place s id) position) s
-line_answer k (Some (input_told moment name value)) s = event_answer moment (Input (event_input s name) value) s
-line_answer k (Some (scan moment)) s = event_answer moment Scan s
+-- the line of a load: how many instructions the program has, how many values lie on its stack at most, and how many instructions a
+-- scan executes at most
+abbrev pub report_text : Report → List ℕ
+report_text report =
+    codes "instructions=" ++ (decimal report.instructions ++ (codes " depth=" ++ (decimal report.depth ++ (codes " budget=" ++ (decimal report.budget ++ codes "\n")))))
 
 abbrev pub ran_out : List ℕ → ℕ → Type 0
 ran_out text status = (text ≡ codes "fault memory\n") × (status ≡ 3)
@@ -104,9 +46,13 @@ TraceReport s k (line ∷ lines) text status =
     MatchBool answer.is_last ((text ≡ answer.text) × (status ≡ 3)) ((rest : List ℕ) × (text ≡ answer.text ++ rest) × TraceReport answer.after (k + 1) lines rest status)
     ⊎ ran_out text status
 
--- the text and the status of a device's trace
+-- a line, and behind it the text and the status of a device's trace
+abbrev pub HeadReport : List ℕ → State → List (List ℕ) → List ℕ → ℕ → Type 0
+HeadReport head s lines text status = (rest : List ℕ) × (text ≡ head ++ rest) × TraceReport s 1 lines rest status
+
+-- the text and the status of a device and its trace
 abbrev pub DeviceReport : State → List (List ℕ) → List ℕ → ℕ → Type 0
-DeviceReport s lines text status = (rest : List ℕ) × (text ≡ codes "loaded\n" ++ rest) × TraceReport s 1 lines rest status
+DeviceReport s lines text status = (report : Report) × IsReportOf s.machine.image report × HeadReport (report_text report) s lines text status
 
 -- the text and the status of a refused load
 abbrev pub Refuses : LoadFault → List ℕ → ℕ → Type 0
@@ -116,6 +62,10 @@ Refuses fault text status = (text ≡ refusal_of fault) × (status ≡ 1)
 abbrev pub MayRefuse : LoadFault → List ℕ → ℕ → Type 0
 MayRefuse fault text status = Refuses fault text status ⊎ Refuses OutOfMemory text status
 
+-- the text and the status of a device and its trace; the line of the load may want memory
+abbrev pub MayReport : State → List (List ℕ) → List ℕ → ℕ → Type 0
+MayReport s lines text status = DeviceReport s lines text status ⊎ Refuses OutOfMemory text status
+
 -- the text and the status after a load
 abbrev pub LoadReport : Result State LoadFault → List ℕ → List ℕ → ℕ → Type 0
 LoadReport (Err fault) trace text status = Refuses fault text status
@@ -124,6 +74,24 @@ LoadReport (Ok device) trace text status = DeviceReport device (lines_of trace) 
 -- the text and the status of a bay file, a program and a trace; their load may want memory
 abbrev pub LoadsReport : ScenarioParts → List ℕ → ℕ → Type 0
 LoadsReport parts text status = LoadReport (load_of parts.bay parts.logic) parts.trace text status ⊎ Refuses OutOfMemory text status
+
+-- the text and the status of a report; its line may want memory
+abbrev pub MayTell : Report → List ℕ → ℕ → Type 0
+MayTell report text status = ((text ≡ report_text report) × (status ≡ 0)) ⊎ Refuses OutOfMemory text status
+
+-- the text and the status of a device alone
+abbrev pub Accepts : State → List ℕ → ℕ → Type 0
+Accepts s text status = (report : Report) × IsReportOf s.machine.image report × (text ≡ report_text report) × (status ≡ 0)
+
+-- the text and the status of a load alone
+abbrev pub LoadedReport : Result State LoadFault → List ℕ → ℕ → Type 0
+LoadedReport (Err fault) text status = Refuses fault text status
+LoadedReport (Ok device) text status = Accepts device text status
+
+-- the text and the status of a bay file and a program or an image; their load may want memory
+abbrev pub CheckReport : List ℕ → ProgramFile → List ℕ → ℕ → Type 0
+CheckReport bay program text status =
+    ((loaded : Result State LoadFault) × LoadsTo bay program loaded × LoadedReport loaded text status) ⊎ Refuses OutOfMemory text status
 
 -- the text and the status of a scenario's parts
 abbrev pub PartsReport : Option ScenarioParts → List ℕ → ℕ → Type 0

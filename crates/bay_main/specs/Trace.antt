@@ -1,17 +1,24 @@
 -- What a line of the trace says: words parted by one space.
-use Rattle.std.specs.Prelude.{ℕ, ◌==◌, ◌&&◌, ◌^◌, Bool, true, false, nat_lt, List, [], ◌∷◌, length, codes, Option, None, Some, option_map, option_and_then, if◌then◌else◌}
+use Rattle.std.specs.Prelude.{ℕ, ℤ, pos, neg_ℤ, ◌==◌, ◌&&◌, ◌^◌, Bool, true, false, nat_lt, nat_le, List, [], ◌∷◌, length, codes, Option, None, Some, option_map, option_and_then, if◌then◌else◌}
 use Rattle.std.specs.List.{slice_split}
 use Rattle.std.specs.Str.{all_ascii_digits, bytes_eq, is_utf8}
 use Rattle.std.specs.Str.Parse.{digits_value}
+use Rattle.bay_config.specs.declared.bay.MeterField.{MeterField}
+use Rattle.bay_config.specs.declared.bay.MeterField.TheVariants.{TotW, TotVAr, Hz, PhaseA, PhaseB, PhaseC}
 use Rattle.bay_tree.specs.declared.leaf.Dbpos.{Dbpos}
 use Rattle.bay_tree.specs.declared.leaf.Dbpos.TheVariants.{Intermediate, Off, On, Bad}
+
+-- what happens at a moment: a switch's position, an input's value or a field of a meter is told, or the program runs
+pub data NamedData : Type 0 where
+  contact : List ℕ → Dbpos → NamedData
+  input : List ℕ → Bool → NamedData
+  measure : List ℕ → MeterField → ℤ → NamedData
+  scan : NamedData
 
 -- a line that can be read
 pub data LineData : Type 0 where
   blank : LineData
-  contact : ℕ → List ℕ → Dbpos → LineData
-  input_told : ℕ → List ℕ → Bool → LineData
-  scan : ℕ → LineData
+  at_moment : ℕ → NamedData → LineData
 
 abbrev pub is_space : ℕ → Bool
 is_space b = b == 32
@@ -21,74 +28,79 @@ abbrev pub rest_words : Option (List ℕ) → List (List ℕ)
 rest_words None = []
 rest_words (Some rest) = slice_split is_space rest
 
+-- the word that stands alone
+abbrev pub only_word : List (List ℕ) → Option (List ℕ)
+only_word [] = None
+only_word (word ∷ []) = Some word
+only_word (word ∷ next ∷ others) = None
+
 -- the number that decimal digits write, below 2 ^ 64
 abbrev pub read_number : List ℕ → Option ℕ
 read_number digits =
     if all_ascii_digits digits && nat_lt 0 (length digits) && nat_lt (digits_value 10 digits) (2 ^ 64) then Some (digits_value 10 digits) else None
 
+-- a number and its opposite, from -(2 ^ 31) to 2 ^ 31 - 1
+abbrev pub positive_of : ℕ → Option ℤ
+positive_of n = if nat_lt n (2 ^ 31) then Some (pos n) else None
+
+abbrev pub negative_of : ℕ → Option ℤ
+negative_of n = if nat_le n (2 ^ 31) then Some (neg_ℤ (pos n)) else None
+
+-- the number that decimal digits write, before which a `-` may stand
+abbrev pub read_integer : List ℕ → Option ℤ
+read_integer [] = None
+read_integer (b ∷ bs) = if b == 45 then option_and_then negative_of (read_number bs) else option_and_then positive_of (read_number (b ∷ bs))
+
 -- 0 intermediate, 1 off, 2 on, 3 bad
-abbrev pub position_of_digit : ℕ → Option Dbpos
-position_of_digit d =
-    if d == 48 then Some Intermediate
-    else if d == 49 then Some Off
-    else if d == 50 then Some On
-    else if d == 51 then Some Bad
-    else None
-
 abbrev pub position_of : List ℕ → Option Dbpos
-position_of [] = None
-position_of (d ∷ []) = position_of_digit d
-position_of (d ∷ e ∷ ds) = None
-
-abbrev pub contact_at : List ℕ → List ℕ → ℕ → Option LineData
-contact_at id position moment = if nat_lt 0 (length id) then option_map (contact moment id) (position_of position) else None
-
--- a switch's id and its position
-abbrev pub contact_of : List (List ℕ) → ℕ → Option LineData
-contact_of [] moment = None
-contact_of (id ∷ []) moment = None
-contact_of (id ∷ position ∷ []) moment = contact_at id position moment
-contact_of (id ∷ position ∷ more ∷ others) moment = None
+position_of word =
+    if bytes_eq word (codes "0") then Some Intermediate
+    else if bytes_eq word (codes "1") then Some Off
+    else if bytes_eq word (codes "2") then Some On
+    else if bytes_eq word (codes "3") then Some Bad
+    else None
 
 -- 0 FALSE, 1 TRUE
-abbrev pub truth_of_digit : ℕ → Option Bool
-truth_of_digit d =
-    if d == 48 then Some false
-    else if d == 49 then Some true
-    else None
-
 abbrev pub truth_of : List ℕ → Option Bool
-truth_of [] = None
-truth_of (d ∷ []) = truth_of_digit d
-truth_of (d ∷ e ∷ ds) = None
-
-abbrev pub input_at : List ℕ → List ℕ → ℕ → Option LineData
-input_at name value moment = if nat_lt 0 (length name) then option_map (input_told moment name) (truth_of value) else None
-
--- an input's name and its value
-abbrev pub input_of : List (List ℕ) → ℕ → Option LineData
-input_of [] moment = None
-input_of (name ∷ []) moment = None
-input_of (name ∷ value ∷ []) moment = input_at name value moment
-input_of (name ∷ value ∷ more ∷ others) moment = None
-
--- a line of more words than `scan` alone, by its first
-abbrev pub told_of : List ℕ → List (List ℕ) → ℕ → Option LineData
-told_of word rest moment =
-    if bytes_eq word (codes "contact") then contact_of rest moment
-    else if bytes_eq word (codes "input") then input_of rest moment
+truth_of word =
+    if bytes_eq word (codes "0") then Some false
+    else if bytes_eq word (codes "1") then Some true
     else None
 
--- `scan` stands alone, `contact` before an id and a position, and `input` before a name and a value
-abbrev pub event_of : List ℕ → List (List ℕ) → ℕ → Option LineData
-event_of word [] moment = if bytes_eq word (codes "scan") then Some (scan moment) else None
-event_of word (next ∷ others) moment = told_of word (next ∷ others) moment
+abbrev pub field_of : List ℕ → Option MeterField
+field_of word =
+    if bytes_eq word (codes "TOTW") then Some TotW
+    else if bytes_eq word (codes "TOTVAR") then Some TotVAr
+    else if bytes_eq word (codes "HZ") then Some Hz
+    else if bytes_eq word (codes "AA") then Some PhaseA
+    else if bytes_eq word (codes "AB") then Some PhaseB
+    else if bytes_eq word (codes "AC") then Some PhaseC
+    else None
+
+-- a field and its value
+abbrev pub measure_of : List ℕ → List (List ℕ) → Option NamedData
+measure_of id [] = None
+measure_of id (field ∷ value) =
+    option_and_then (λ f. option_map (measure id f) (option_and_then read_integer (only_word value))) (field_of field)
+
+-- what is told of what has this name: `contact` a position, `input` a truth value, `measure` a field and its value
+abbrev pub named_of : List ℕ → List ℕ → List (List ℕ) → Option NamedData
+named_of verb name values =
+    if bytes_eq verb (codes "contact") then option_map (contact name) (option_and_then position_of (only_word values))
+    else if bytes_eq verb (codes "input") then option_map (input name) (option_and_then truth_of (only_word values))
+    else if bytes_eq verb (codes "measure") then measure_of name values
+    else None
+
+-- `scan` stands alone; the other verbs stand before a name, which is not empty, and what is told
+abbrev pub event_of : List (List ℕ) → Option NamedData
+event_of [] = None
+event_of (verb ∷ []) = if bytes_eq verb (codes "scan") then Some scan else None
+event_of (verb ∷ name ∷ values) = if nat_lt 0 (length name) then named_of verb name values else None
 
 -- a moment, and what happens then
 abbrev pub words_line : List (List ℕ) → Option LineData
 words_line [] = None
-words_line (first ∷ []) = None
-words_line (first ∷ word ∷ others) = option_and_then (event_of word others) (read_number first)
+words_line (first ∷ words) = option_and_then (λ moment. option_map (at_moment moment) (event_of words)) (read_number first)
 
 -- an empty line says nothing, and what is no text can't be read
 abbrev pub trace_line_of : List ℕ → Option LineData

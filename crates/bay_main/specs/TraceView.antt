@@ -1,10 +1,16 @@
 -- A line of the trace without its place in memory.
+use Rattle.bay_main.specs.declared.trace.NamedEvent.{NamedEvent}
+use Rattle.bay_main.specs.declared.trace.NamedEvent.TheVariants.{Contact, Input, Measure, Scan}
 use Rattle.bay_main.specs.declared.trace.TraceLine.{TraceLine}
-use Rattle.bay_main.specs.declared.trace.TraceLine.TheVariants.{Blank, Contact, Input, Scan}
-use Rattle.bay_main.specs.Trace.{LineData, blank, contact, input_told, scan}
+use Rattle.bay_main.specs.declared.trace.TraceLine.TheVariants.{Blank, At}
+use Rattle.bay_main.specs.Trace.{NamedData, LineData, contact, input, measure, scan, blank, at_moment}
+
+abbrev pub named_view : NamedEvent → NamedData
+named_view (Contact id position) = contact id.now position
+named_view (Input name value) = input name.now value
+named_view (Measure id field value) = measure id.now field value
+named_view Scan = scan
 
 abbrev pub line_view : TraceLine → LineData
 line_view Blank = blank
-line_view (Contact moment id position) = contact moment id.now position
-line_view (Input moment name value) = input_told moment name.now value
-line_view (Scan moment) = scan moment
+line_view (At moment event) = at_moment moment (named_view event)

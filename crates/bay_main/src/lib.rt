@@ -1,14 +1,20 @@
-// The bay controller's main part: it reads a scenario (a bay file, an Instruction List program and a
-// trace of contact changes and scans), steps the device through the trace, and writes a report.
+// The bay controller's main part: what its program does. It checks a bay file with a program, compiles the program, or
+// reads a scenario (a bay file, an Instruction List program and a trace of contacts, inputs, measures and scans), steps
+// the device through the trace, and writes a report.
 //
-// The way of the data: `scenario` (the three parts of what is read, and their lines), `load` (a device from the octets of
-// the first two), `trace` (what a line says), `report` (what is printed for it), `replay` (all of it), `program` (a
-// program's way in and out).
+// The way of the data: `words` (what a command line asks for), `scenario` (the three parts of what is read, and their
+// lines), `load` (a device from the octets of the first two, or of an image), `trace` (what a line says), `report` (what is
+// printed for a load), `answer` (what is printed for a line), `replay` (all of a scenario), `check` (a load alone, and what
+// it compiled), `output` (what is written at once), `program` (a program's way in and out).
 #![tactic(auto)]
 
-mod load;
+mod answer;
+pub mod check;
+pub mod load;
+mod output;
 pub mod program;
 pub mod replay;
 mod report;
 mod scenario;
 mod trace;
+pub mod words;

@@ -1,18 +1,29 @@
-// A device from the octets of a bay file and a program.
-ghost use Rattle.std.specs.Prelude.{Err};
+// A device from the octets of a bay file and of a program or an image.
+ghost use Rattle.std.specs.Prelude.{◌≡◌, ◌≢◌, Ok, Err, IfOk, IfErr};
 ghost use Rattle.bay_base.specs.Exact.{Gives};
 ghost use Rattle.bay_config.specs.Bay.{bay_of};
-ghost use Rattle.bay_device.specs.Load.{of_bay};
-ghost use Rattle.bay_main.specs.Load.{text_of, load_of};
+ghost use Rattle.il_image.specs.Decoding.{decoded};
+ghost use Rattle.bay_device.specs.Load.{of_bay, Loads};
+ghost use Rattle.bay_device.specs.declared.fault.LoadFault.TheVariants.{OutOfMemory};
+ghost use Rattle.bay_main.specs.Load.{file_of, text_of, load_of, LoadsTo};
 ghost use Rattle.il_text.specs.declared.fault.TextFault.TheVariants.{BadToken};
 
 use bay_config::fault::BayFault;
 use bay_config::read::read_bay;
 use bay_device::device::Device;
 use bay_device::fault::LoadFault;
-use bay_device::load::load;
+use bay_device::load::{load, load_image};
 use il_text::fault::TextFault;
 use std::alloc::Global;
+
+/// The octets of a program, or of what was compiled of one.
+#[derive(Clone, Copy)]
+pub enum ProgramFile<'a> {
+    /// A program in Instruction List.
+    Logic(&'a [u8]),
+    /// An image.
+    Image(&'a [u8]),
+}
 
 /// The refusal of a bay file, or else of a program that is not in UTF-8: a bad token at its first line.
 fn refuse_logic(alloc: Global, bay: &str) -> Result<Device, LoadFault>
@@ -39,5 +50,31 @@ pub fn load_octets(alloc: Global, bay: &[u8], logic: &[u8]) -> Result<Device, Lo
     match std::str::from_utf8(bay) {
         Ok(bay) => load_logic(alloc, bay, logic),
         Err(_) => Err(LoadFault::from(BayFault::BadToml)),
+    }
+}
+
+/// The device of the octets of a bay file and of an image.
+fn load_image_octets(alloc: Global, bay: &[u8], image: &[u8]) -> Result<Device, LoadFault>
+    ensures ok { IfOk result (λ device. Loads (file_of bay.now) (decoded image.now) (Ok device)) }
+    ensures refused { IfErr result (λ e. e ≢ OutOfMemory → Loads (file_of bay.now) (decoded image.now) (Err e)) }
+{
+    match std::str::from_utf8(bay) {
+        Ok(bay) => load_image(alloc, bay, image),
+        Err(_) => Err(LoadFault::from(BayFault::BadToml)),
+    }
+}
+
+/// The device of the octets of a bay file and of a program or an image, before its first event.
+pub fn load_program(
+    alloc: Global,
+    bay: &[u8],
+    program: ProgramFile<'_>,
+) -> Result<Device, LoadFault>
+    ensures ok { IfOk result (λ device. LoadsTo bay.now program.entry (Ok device)) }
+    ensures refused { IfErr result (λ e. e ≢ OutOfMemory → LoadsTo bay.now program.entry (Err e)) }
+{
+    match program {
+        ProgramFile::Logic(logic) => load_octets(alloc, bay, logic),
+        ProgramFile::Image(image) => load_image_octets(alloc, bay, image),
     }
 }

@@ -1,17 +1,18 @@
 // Reads a scenario, replays it, and writes its report.
 ghost use Rattle.std.specs.Prelude.{◌≡◌, ◌+◌, ◌≤◌, length, true, OnOk, is_err};
 ghost use Rattle.bay_main.specs.Ending.{ending_of};
-ghost use Rattle.bay_main.specs.Report.{DeviceReport, IsLast, MayRefuse, LoadsReport, IsReport, IsReplay, Prints};
+ghost use Rattle.bay_main.specs.Report.{HeadReport, DeviceReport, MayReport, IsLast, MayRefuse, LoadsReport, IsReport, IsReplay, Prints};
 ghost use Rattle.bay_main.specs.Scenario.{scenario_limit, lines_of};
 ghost use Rattle.bay_main.specs.ScenarioView.{scenario_view};
 
+use crate::answer::answer_line;
 use crate::load::load_octets;
-use crate::report::{answer_line, refusal_text};
+use crate::output::{CLEAN, FAULT, OUT_OF_MEMORY, REFUSED, write_refusal, write_text};
+use crate::report::report_text;
 use crate::scenario::{Scenario, cut_line, cut_scenario};
 use bay_device::device::Device;
-use bay_device::fault::LoadFault;
 use bay_io::input::{ReadFault, read_all};
-use bay_io::outbox::{Outbox, WriteFault, write_last};
+use bay_io::outbox::{Outbox, WriteFault};
 use bay_io::reader::WatchedReader;
 use bay_io::writer::WatchedWriter;
 use std::alloc::Global;
@@ -20,52 +21,33 @@ use std::io::{Read, Write};
 /// The most octets that a scenario may have.
 const SCENARIO_LIMIT: usize = 16_777_216;
 
-/// The status of a replay that met no fault.
-const CLEAN: u8 = 0;
-
-/// The status where the load is refused.
-const REFUSED: u8 = 1;
-
-/// The status of a fault in the trace, in reading or in writing, and of want of memory after the load.
-const FAULT: u8 = 3;
-
-/// Writes a text that is all that is written, with the status that it stands for.
-fn write_text<W: Write>(
-    writer: &mut WatchedWriter<W>,
-    text: &[u8],
-    status: u8,
-) -> Result<u8, WriteFault>
-    ensures { Prints W.contents (IsLast text.now status) writer.old writer.new result }
-{
-    write_last(writer, text)?;
-    Ok(status)
-}
-
-/// Replays a trace line by line, and writes as it goes.
+/// Writes a line, replays a trace line by line, and writes as it goes.
 fn replay_trace<W: Write>(
     alloc: Global,
     device: &mut Device,
+    head: &[u8],
     trace: &[u8],
     writer: &mut WatchedWriter<W>,
 ) -> Result<u8, WriteFault>
     requires { length trace.now ≤ scenario_limit }
-    ensures { Prints W.contents (DeviceReport device.old (lines_of trace.now)) writer.old writer.new result }
+    ensures { Prints W.contents (HeadReport head.now device.old (lines_of trace.now)) writer.old writer.new result }
 {
     let mut outbox = Outbox::new(alloc);
-    outbox.put(writer, b"loaded\n")?;
+    outbox.put(writer, head)?;
+    let mut text = String::new(alloc);
     let mut rest = trace;
     let mut number = 1usize;
     while !rest.is_empty() {
         let (line, after) = cut_line(rest);
-        let Ok(answer) = answer_line(alloc, device, number, line) else {
+        let Ok(is_last) = answer_line(&mut text, device, number, line) else {
             outbox.finish(writer, b"fault memory\n")?;
             return Ok(FAULT);
         };
-        if answer.is_last {
-            outbox.finish(writer, answer.text.as_bytes())?;
+        if is_last {
+            outbox.finish(writer, text.as_bytes())?;
             return Ok(FAULT);
         }
-        outbox.put(writer, answer.text.as_bytes())?;
+        outbox.put(writer, text.as_bytes())?;
         number += 1;
         rest = after;
     }
@@ -73,17 +55,19 @@ fn replay_trace<W: Write>(
     Ok(CLEAN)
 }
 
-/// Writes the line of a refused load.
-fn write_refusal<W: Write>(
+/// Replays a trace on a device, after the line of its load.
+fn replay_device<W: Write>(
     alloc: Global,
-    fault: LoadFault,
+    device: &mut Device,
+    trace: &[u8],
     writer: &mut WatchedWriter<W>,
 ) -> Result<u8, WriteFault>
-    ensures { Prints W.contents (MayRefuse fault) writer.old writer.new result }
+    requires { length trace.now ≤ scenario_limit }
+    ensures { Prints W.contents (MayReport device.old (lines_of trace.now)) writer.old writer.new result }
 {
-    match refusal_text(alloc, fault) {
-        Ok(line) => write_text(writer, line.as_bytes(), REFUSED),
-        Err(_) => write_text(writer, b"load refused memory\n", REFUSED),
+    match report_text(alloc, device.report()) {
+        Ok(head) => replay_trace(alloc, device, head.as_bytes(), trace, writer),
+        Err(_) => write_text(writer, OUT_OF_MEMORY, REFUSED),
     }
 }
 
@@ -97,7 +81,7 @@ fn replay_parts<W: Write>(
     ensures { Prints W.contents (LoadsReport (scenario_view scenario.entry)) writer.old writer.new result }
 {
     match load_octets(alloc, scenario.bay, scenario.logic) {
-        Ok(mut device) => replay_trace(alloc, &mut device, scenario.trace, writer),
+        Ok(mut device) => replay_device(alloc, &mut device, scenario.trace, writer),
         Err(fault) => write_refusal(alloc, fault, writer),
     }
 }

@@ -1,33 +1,43 @@
 // What a line of the trace says.
-ghost use Rattle.std.specs.Prelude.{◌≡◌, ◌∷◌, ℕ, option_map};
+ghost use Rattle.std.specs.Prelude.{◌≡◌, ◌∷◌, ◌≤◌, ◌^◌, ℕ, option_map, Some, neg_ℤ, pos};
 ghost use Rattle.std.specs.List.{slice_split};
 ghost use Rattle.std.specs.Str.{all_ascii_digits};
-ghost use Rattle.bay_main.specs.Trace.{is_space, rest_words, read_number, position_of, contact_at, contact_of, truth_of, input_at, input_of, told_of, event_of, words_line, trace_line_of};
-ghost use Rattle.bay_main.specs.TraceView.{line_view};
+ghost use Rattle.bay_main.specs.Trace.{is_space, rest_words, only_word, read_number, positive_of, negative_of, read_integer, position_of, truth_of, field_of, measure_of, named_of, event_of, words_line, trace_line_of};
+ghost use Rattle.bay_main.specs.TraceView.{named_view, line_view};
 
+use bay_config::bay::MeterField;
 use bay_tree::leaf::Dbpos;
+
+/// What happens at a moment.
+#[derive(Clone, Copy)]
+pub enum NamedEvent<'a> {
+    /// The switch with this id takes this position.
+    Contact {
+        id: &'a str,
+        position: Dbpos,
+    },
+    /// The input with this name has this value.
+    Input {
+        name: &'a str,
+        value: bool,
+    },
+    /// This field of the meter with this id has this value.
+    Measure {
+        id: &'a str,
+        field: MeterField,
+        value: i32,
+    },
+    /// The program runs once.
+    Scan,
+}
 
 /// A line of the trace.
 #[derive(Clone, Copy)]
 pub enum TraceLine<'a> {
     /// An empty line.
     Blank,
-    /// At this moment the switch with this id takes this position.
-    Contact {
-        moment: u64,
-        id: &'a str,
-        position: Dbpos,
-    },
-    /// At this moment the input with this name has this value.
-    Input {
-        moment: u64,
-        name: &'a str,
-        value: bool,
-    },
-    /// At this moment the program runs once.
-    Scan {
-        moment: u64,
-    },
+    /// At this moment, in milliseconds since 1970, something happens.
+    At { moment: u64, event: NamedEvent<'a> },
 }
 
 /// The first word of a text, and what follows the space after it.
@@ -37,6 +47,16 @@ fn cut_word(text: &str) -> (&str, Option<&str>)
     match text.split_once(' ') {
         Some((word, rest)) => (word, Some(rest)),
         None => (text, None),
+    }
+}
+
+/// The text, if it is one word.
+fn only_word(text: &str) -> Option<&str>
+    ensures { option_map (λ word. word.now) result ≡ only_word (slice_split is_space text.now) }
+{
+    match cut_word(text) {
+        (word, None) => Some(word),
+        (_, Some(_)) => None,
     }
 }
 
@@ -59,43 +79,48 @@ fn number(word: &str) -> Option<u64>
     }
 }
 
+/// The number as a value, if it is below 2^31.
+fn positive(number: u64) -> Option<i32>
+    ensures { result ≡ positive_of number }
+{
+    if number < 2_147_483_648 {
+        Some(number as i32)
+    } else {
+        None
+    }
+}
+
+/// The opposite of the number as a value, if it is not below -2^31.
+fn negative(number: u64) -> Option<i32>
+    ensures { result ≡ negative_of number }
+{
+    if number <= 2_147_483_648 {
+        Some((-(number as i64)) as i32)
+    } else {
+        None
+    }
+}
+
+/// The value that decimal digits write, before which a `-` may stand.
+fn integer(word: &str) -> Option<i32>
+    ensures { result ≡ read_integer word.now }
+{
+    match word.strip_prefix('-') {
+        Some(digits) => negative(number(digits)?),
+        None => positive(number(word)?),
+    }
+}
+
 /// The position that a digit stands for.
 fn position(word: &str) -> Option<Dbpos>
     ensures { result ≡ position_of word.now }
 {
-    match word.as_bytes() {
-        [b'0'] => Some(Dbpos::Intermediate),
-        [b'1'] => Some(Dbpos::Off),
-        [b'2'] => Some(Dbpos::On),
-        [b'3'] => Some(Dbpos::Bad),
+    match word {
+        "0" => Some(Dbpos::Intermediate),
+        "1" => Some(Dbpos::Off),
+        "2" => Some(Dbpos::On),
+        "3" => Some(Dbpos::Bad),
         _ => None,
-    }
-}
-
-/// A switch's id, which is not empty, and the digit of its position.
-fn contact<'a>(moment: u64, id: &'a str, digit: &str) -> Option<TraceLine<'a>>
-    ensures { option_map line_view result ≡ contact_at id.entry.now digit.now moment }
-{
-    if id.is_empty() {
-        return None;
-    }
-    let position = position(digit)?;
-    Some(TraceLine::Contact {
-        moment,
-        id,
-        position,
-    })
-}
-
-/// A switch's id and its position.
-fn contact_line(moment: u64, rest: &str) -> Option<TraceLine<'_>>
-    ensures { option_map line_view result ≡ contact_of (slice_split is_space rest.now) moment }
-{
-    let (id, rest) = cut_word(rest);
-    let (digit, more) = cut_word(rest?);
-    match more {
-        None => contact(moment, id, digit),
-        Some(_) => None,
     }
 }
 
@@ -103,66 +128,75 @@ fn contact_line(moment: u64, rest: &str) -> Option<TraceLine<'_>>
 fn truth(word: &str) -> Option<bool>
     ensures { result ≡ truth_of word.now }
 {
-    match word.as_bytes() {
-        [b'0'] => Some(false),
-        [b'1'] => Some(true),
+    match word {
+        "0" => Some(false),
+        "1" => Some(true),
         _ => None,
     }
 }
 
-/// An input's name, which is not empty, and the digit of its value.
-fn input<'a>(moment: u64, name: &'a str, digit: &str) -> Option<TraceLine<'a>>
-    ensures { option_map line_view result ≡ input_at name.entry.now digit.now moment }
+/// The field of a meter with this name.
+fn field(word: &str) -> Option<MeterField>
+    ensures { result ≡ field_of word.now }
 {
+    match word {
+        "TOTW" => Some(MeterField::TotW),
+        "TOTVAR" => Some(MeterField::TotVAr),
+        "HZ" => Some(MeterField::Hz),
+        "AA" => Some(MeterField::PhaseA),
+        "AB" => Some(MeterField::PhaseB),
+        "AC" => Some(MeterField::PhaseC),
+        _ => None,
+    }
+}
+
+/// What is told of a meter: a field and its value.
+fn measure<'a>(id: &'a str, text: &str) -> Option<NamedEvent<'a>>
+    ensures { option_map named_view result ≡ measure_of id.entry.now (slice_split is_space text.now) }
+{
+    let (name, rest) = cut_word(text);
+    let field = field(name)?;
+    let value = integer(only_word(rest?)?)?;
+    Some(NamedEvent::Measure { id, field, value })
+}
+
+/// What is told of the switch, input or meter with this name, by the verb before it.
+fn named<'a>(verb: &str, name: &'a str, values: &str) -> Option<NamedEvent<'a>>
+    ensures { option_map named_view result ≡ named_of verb.now name.entry.now (slice_split is_space values.now) }
+{
+    match verb {
+        "contact" => {
+            let position = position(only_word(values)?)?;
+            Some(NamedEvent::Contact { id: name, position })
+        }
+        "input" => {
+            let value = truth(only_word(values)?)?;
+            Some(NamedEvent::Input { name, value })
+        }
+        "measure" => measure(name, values),
+        _ => None,
+    }
+}
+
+/// What a verb says that has a name behind it, which is not empty.
+fn verb_event<'a>(verb: &str, text: &'a str) -> Option<NamedEvent<'a>>
+    ensures { option_map named_view result ≡ event_of (verb.now ∷ slice_split is_space text.entry.now) }
+{
+    let (name, values) = cut_word(text);
     if name.is_empty() {
         return None;
     }
-    let value = truth(digit)?;
-    Some(TraceLine::Input {
-        moment,
-        name,
-        value,
-    })
+    named(verb, name, values?)
 }
 
-/// An input's name and its value.
-fn input_line(moment: u64, rest: &str) -> Option<TraceLine<'_>>
-    ensures { option_map line_view result ≡ input_of (slice_split is_space rest.now) moment }
+/// What happens, by the words after the moment.
+fn event(text: &str) -> Option<NamedEvent<'_>>
+    ensures { option_map named_view result ≡ event_of (slice_split is_space text.now) }
 {
-    let (name, rest) = cut_word(rest);
-    let (digit, more) = cut_word(rest?);
-    match more {
-        None => input(moment, name, digit),
-        Some(_) => None,
-    }
-}
-
-/// What happens at the moment, by a word that has others behind it.
-fn told_line<'a>(moment: u64, word: &str, rest: &'a str) -> Option<TraceLine<'a>>
-    ensures { option_map line_view result ≡ told_of word.now (slice_split is_space rest.entry.now) moment }
-{
-    if word == "contact" {
-        return contact_line(moment, rest);
-    }
-    if word == "input" {
-        return input_line(moment, rest);
-    }
-    None
-}
-
-/// What happens at the moment: a word, and what follows it.
-fn event_line<'a>(moment: u64, word: &str, rest: Option<&'a str>) -> Option<TraceLine<'a>>
-    ensures { option_map line_view result ≡ event_of word.now (rest_words (option_map (λ r. r.now) rest.entry)) moment }
-{
-    match rest {
-        None => {
-            if word == "scan" {
-                Some(TraceLine::Scan { moment })
-            } else {
-                None
-            }
-        }
-        Some(rest) => told_line(moment, word, rest),
+    match cut_word(text) {
+        (verb, Some(rest)) => verb_event(verb, rest),
+        ("scan", None) => Some(NamedEvent::Scan),
+        (_, None) => None,
     }
 }
 
@@ -171,9 +205,9 @@ fn moment_line(text: &str) -> Option<TraceLine<'_>>
     ensures { option_map line_view result ≡ words_line (slice_split is_space text.now) }
 {
     let (first, rest) = cut_word(text);
-    let (word, rest) = cut_word(rest?);
     let moment = number(first)?;
-    event_line(moment, word, rest)
+    let event = event(rest?)?;
+    Some(TraceLine::At { moment, event })
 }
 
 /// What a line says, or None where it can't be read.

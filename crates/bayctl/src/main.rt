@@ -1,9 +1,9 @@
-// Replays a scenario from standard input, and writes its report to standard output.
+// The controller of one bay: checks and compiles its program, and replays scenarios.
 #![tactic(auto)]
 
 use bay_main::program;
 use std::process::ExitCode;
 
 fn main(rt: HostRuntime) -> ExitCode {
-    program::replay(&rt)
+    program::run(&rt)
 }

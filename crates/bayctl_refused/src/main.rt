@@ -5,5 +5,5 @@ use bay_main::program;
 use std::process::ExitCode;
 
 fn main(rt: HostRuntime) -> ExitCode {
-    program::replay(&rt)
+    program::run(&rt)
 }

@@ -1,12 +1,12 @@
 use Rattle.std.proofs.Common.{◌+◌, ◌≤◌, length}
-use Rattle.bay_main.specs.Report.{DeviceReport}
+use Rattle.bay_main.specs.Report.{HeadReport}
 use Rattle.bay_main.specs.Scenario.{lines_of}
 use Rattle.bay_main.proofs.ReportLemmas.{Progress}
 use Rattle.bay_main.proofs.replay.replay_trace.Given as goal
 
 abbrev pub invariant-loop-rest : goal.invariant-loop-rest
 invariant-loop-rest g l = record {
-  progress : Progress (DeviceReport l.initial.device (lines_of l.trace)) l.device l.number (lines_of l.rest) (g.W.Write.contents l.fn.writer.inner) (g.W.Write.contents l.writer.inner) l.outbox;
+  progress : Progress (HeadReport l.head l.initial.device (lines_of l.trace)) l.device l.number (lines_of l.rest) (g.W.Write.contents l.fn.writer.inner) (g.W.Write.contents l.writer.inner) l.outbox;
   bound : l.number + length l.rest ≤ length l.trace + 1;
 }
 

@@ -1,6 +1,6 @@
 use Rattle.std.proofs.Common.{◌<◌, length, arith}
 use Rattle.bay_main.proofs.ReportLemmas.{switches-turn}
-use Rattle.bay_main.proofs.report.push_switches.Goals as goal
+use Rattle.bay_main.proofs.answer.push_switches.Goals as goal
 
 pub loop-place-preserved : goal.loop-place-preserved
 loop-place-preserved c =

@@ -1,7 +1,7 @@
 use Rattle.std.proofs.Common.{refl, sym}
 use Rattle.bay_main.specs.Report.{IsLast}
 use Rattle.bay_main.proofs.ReportLemmas.{Prints-err}
-use Rattle.bay_main.proofs.replay.write_text.Goals as goal
+use Rattle.bay_main.proofs.output.write_text.Goals as goal
 
 pub returns-in_err-write_last : goal.returns-in_err-write_last
 returns-in_err-write_last g c =

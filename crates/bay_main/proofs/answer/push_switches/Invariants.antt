@@ -1,6 +1,6 @@
 use Rattle.std.proofs.Common.{◌≡◌, ◌++◌, drop, string_bytes}
-use Rattle.bay_main.specs.Report.{switches_text}
-use Rattle.bay_main.proofs.report.push_switches.Given as goal
+use Rattle.bay_main.specs.LineAnswers.{switches_text}
+use Rattle.bay_main.proofs.answer.push_switches.Given as goal
 
 abbrev pub invariant-loop-place : goal.invariant-loop-place
 invariant-loop-place l =

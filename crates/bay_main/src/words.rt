@@ -1,0 +1,267 @@
+// What the words of a command line ask for.
+ghost use Rattle.std.specs.Prelude.{◌≡◌, ◌⊎◌, map, true, false, Some, None, IfOk, IfErr, IfSome, option_map, string_bytes};
+ghost use Rattle.clap.specs.Words.{app_of, first_of, rows_of, found_of, with_rule, kind_of, subcommand_rows_of};
+ghost use Rattle.clap.specs.declared.builder.command.Command.TheViews.{out-Command as fields_of};
+ghost use Rattle.bay_main.specs.Jobs.{file_rule, needed_rule, check_app, replay_app, compile_app, program_app, job_app, is_either, has_files, is_whole, whole_job, verb_of, with_options, named_job, entered_job, job_in};
+ghost use Rattle.bay_main.specs.JobView.{job_view};
+
+use clap::error::ErrorKind;
+use clap::{Arg, ArgAction, ArgMatches, Command, Error};
+use std::alloc::{AllocError, Global};
+
+/// What the program does.
+#[derive(Clone, Copy, Debug, PartialEq, Eq)]
+pub enum Verb {
+    /// Loads a bay with a program or an image, and tells what came of it.
+    Check,
+    /// Replays a scenario.
+    Replay,
+    /// Compiles a program to an image.
+    Compile,
+}
+
+/// What a command line asks for: what is to be done, and the names of the files that were given.
+#[derive(Debug, Drop)]
+pub struct Job {
+    pub verb: Verb,
+    /// The bay file.
+    pub bay: Option<String>,
+    /// The program in Instruction List.
+    pub logic: Option<String>,
+    /// The compiled program, in place of the program.
+    pub image: Option<String>,
+    /// Where the compiled program is written.
+    pub out: Option<String>,
+}
+
+/// Why words ask for nothing that is done.
+#[derive(Debug, Drop)]
+pub enum WordsFault {
+    /// The text says what is wrong with them, or is the help that they ask for.
+    Refused(String),
+    OutOfMemory,
+}
+
+/// The command with one more option, `--ID F`.
+fn with_file<'a>(
+    alloc: Global,
+    command: Command<'a>,
+    id: &'a str,
+    help: &'a str,
+) -> Result<Command<'a>, AllocError>
+    ensures app { IfOk result (λ c. app_of c ≡ with_rule (app_of command.entry) (file_rule id.entry.now)) }
+    ensures globals { IfOk result (λ c. (fields_of c).has_globals ≡ (fields_of command.entry).has_globals) }
+{
+    let file = Arg::new(alloc, id)
+        .long(id)
+        .value_name("F")
+        .help(help)
+        .action(ArgAction::Set);
+    let command = command.arg(file)?;
+    Ok(command)
+}
+
+/// The command with one more option, `--ID F`, which has to be there.
+fn with_needed_file<'a>(
+    alloc: Global,
+    command: Command<'a>,
+    id: &'a str,
+    help: &'a str,
+) -> Result<Command<'a>, AllocError>
+    ensures app { IfOk result (λ c. app_of c ≡ with_rule (app_of command.entry) (needed_rule id.entry.now)) }
+    ensures globals { IfOk result (λ c. (fields_of c).has_globals ≡ (fields_of command.entry).has_globals) }
+{
+    let file = Arg::new(alloc, id)
+        .long(id)
+        .value_name("F")
+        .help(help)
+        .required(true)
+        .action(ArgAction::Set);
+    let command = command.arg(file)?;
+    Ok(command)
+}
+
+fn check_command<'a>(alloc: Global) -> Result<Command<'a>, AllocError>
+    ensures app { IfOk result (λ c. app_of c ≡ check_app) }
+    ensures local { IfOk result (λ c. (fields_of c).has_globals ≡ false) }
+{
+    let about = "Loads a bay with a program, and tells what came of it";
+    let command = Command::new(alloc, "check").about(about);
+    let command = with_needed_file(alloc, command, "bay", "The bay file")?;
+    let command = with_file(alloc, command, "logic", "The program in Instruction List")?;
+    let image = "The compiled program, in place of --logic";
+    let command = with_file(alloc, command, "image", image)?;
+    Ok(command)
+}
+
+fn compile_command<'a>(alloc: Global) -> Result<Command<'a>, AllocError>
+    ensures app { IfOk result (λ c. app_of c ≡ compile_app) }
+    ensures local { IfOk result (λ c. (fields_of c).has_globals ≡ false) }
+{
+    let command = Command::new(alloc, "compile").about("Compiles a program for a bay");
+    let command = with_needed_file(alloc, command, "bay", "The bay file")?;
+    let command = with_needed_file(alloc, command, "logic", "The program in Instruction List")?;
+    let out = "Where the compiled program is written";
+    let command = with_needed_file(alloc, command, "out", out)?;
+    Ok(command)
+}
+
+fn replay_command<'a>(alloc: Global) -> Command<'a>
+    ensures app { app_of result ≡ replay_app }
+    ensures local { (fields_of result).has_globals ≡ false }
+{
+    Command::new(alloc, "replay").about("Replays the scenario on standard input")
+}
+
+fn program_command<'a>(alloc: Global) -> Command<'a>
+    ensures { app_of result ≡ program_app }
+{
+    Command::new(alloc, "bayctl")
+        .about("The controller of one bay")
+        .no_binary_name(true)
+        .subcommand_required(true)
+        .arg_required_else_help(true)
+}
+
+fn job_command<'a>(alloc: Global) -> Result<Command<'a>, AllocError>
+    ensures { IfOk result (λ c. app_of c ≡ job_app) }
+{
+    let check = check_command(alloc)?;
+    let compile = compile_command(alloc)?;
+    let command = program_command(alloc)
+        .subcommand(check)?
+        .subcommand(replay_command(alloc))?
+        .subcommand(compile)?;
+    Ok(command)
+}
+
+/// The verb of a subcommand.
+fn verb_of(name: &str) -> Option<Verb>
+    ensures { result ≡ verb_of name.now }
+{
+    match name {
+        "check" => Some(Verb::Check),
+        "replay" => Some(Verb::Replay),
+        "compile" => Some(Verb::Compile),
+        _ => None,
+    }
+}
+
+/// The first value of an option.
+fn value_of<'a>(found: &ArgMatches<'a>, id: &str) -> Option<&'a str>
+    ensures { option_map (λ s. s.now) result ≡ first_of id.now (rows_of (found_of found.now)) }
+{
+    found.get_str(id)
+}
+
+/// A copy of an option's value.
+fn option_of(alloc: Global, found: &ArgMatches<'_>, id: &str) -> Result<Option<String>, AllocError>
+    ensures { IfOk result (λ o. option_map string_bytes o ≡ first_of id.now (rows_of (found_of found.now))) }
+{
+    match value_of(found, id) {
+        Some(value) => {
+            let value = String::from_str(alloc, value)?;
+            Ok(Some(value))
+        }
+        None => Ok(None),
+    }
+}
+
+/// A verb with the values of its options.
+fn with_options(alloc: Global, found: &ArgMatches<'_>, verb: Verb) -> Result<Job, AllocError>
+    ensures { IfOk result (λ j. job_view j ≡ with_options (rows_of (found_of found.now)) verb) }
+{
+    let bay = option_of(alloc, found, "bay")?;
+    let logic = option_of(alloc, found, "logic")?;
+    let image = option_of(alloc, found, "image")?;
+    let out = option_of(alloc, found, "out")?;
+    Ok(Job {
+        verb,
+        bay,
+        logic,
+        image,
+        out,
+    })
+}
+
+/// Whether the files that the verb wants were named.
+fn is_whole(job: &Job) -> bool
+    ensures { result ≡ is_whole (job_view job.now) }
+{
+    match job.verb {
+        Verb::Check => job.bay.is_some() && job.logic.is_some() != job.image.is_some(),
+        Verb::Replay => true,
+        Verb::Compile => job.bay.is_some() && job.logic.is_some() && job.out.is_some(),
+    }
+}
+
+/// The job of a subcommand and its options.
+fn named_job(alloc: Global, name: &str, found: &ArgMatches<'_>) -> Result<Option<Job>, AllocError>
+    ensures job { IfOk result (λ j. option_map job_view j ≡ named_job name.now (rows_of (found_of found.now))) }
+    ensures whole { IfOk result (λ j. IfSome j (λ job. is_whole (job_view job) ≡ true)) }
+{
+    let Some(verb) = verb_of(name) else {
+        return Ok(None);
+    };
+    let job = with_options(alloc, found, verb)?;
+    if is_whole(&job) {
+        Ok(Some(job))
+    } else {
+        Ok(None)
+    }
+}
+
+/// The job that a parse found.
+fn job_from(alloc: Global, matches: &ArgMatches<'_>) -> Result<Option<Job>, AllocError>
+    ensures job { IfOk result (λ j. option_map job_view j ≡ entered_job (subcommand_rows_of matches.now)) }
+    ensures whole { IfOk result (λ j. IfSome j (λ job. is_whole (job_view job) ≡ true)) }
+{
+    match matches.subcommand() {
+        Some((name, found)) => named_job(alloc, name, found),
+        None => Ok(None),
+    }
+}
+
+/// The refusal of a check of both or neither of a program and an image.
+fn refused_files(alloc: Global) -> WordsFault {
+    let text =
+        "error: exactly one of --logic and --image is wanted\n\nUsage: bayctl check --bay <F> <--logic <F>|--image <F>>\n\nFor more information, try '--help'.\n";
+    match String::from_str(alloc, text) {
+        Ok(text) => WordsFault::Refused(text),
+        Err(_) => WordsFault::OutOfMemory,
+    }
+}
+
+/// The refusal of words, as `clap` says it.
+fn refused_by(alloc: Global, error: &Error) -> WordsFault
+    ensures { kind_of error.now ≡ ErrorKind.OutOfMemory → result ≡ WordsFault.OutOfMemory }
+{
+    if error.kind() == ErrorKind::OutOfMemory {
+        return WordsFault::OutOfMemory;
+    }
+    match format!(in alloc; "{error}") {
+        Ok(text) => WordsFault::Refused(text),
+        Err(_) => WordsFault::OutOfMemory,
+    }
+}
+
+/// What the words after the program's name ask for: `check` of a bay file and either a program or an image, `replay`, or
+/// `compile` of a bay file and a program to an image. Words that ask for help are refused with it.
+pub fn job_of<'a>(alloc: Global, words: &'a [&'a str]) -> Result<Job, WordsFault>
+    ensures ok { IfOk result (λ j. job_in (map (λ w. w.now) words.entry.now) ≡ Some (job_view j)) }
+    ensures whole { IfOk result (λ j. is_whole (job_view j) ≡ true) }
+    ensures refused { IfErr result (λ e. (e ≡ WordsFault.OutOfMemory) ⊎ (job_in (map (λ w. w.now) words.entry.now) ≡ None)) }
+{
+    let command = match job_command(alloc) {
+        Ok(command) => command,
+        Err(_) => return Err(WordsFault::OutOfMemory),
+    };
+    match command.try_get_matches_from(words) {
+        Ok(matches) => match job_from(alloc, &matches) {
+            Ok(Some(job)) => Ok(job),
+            Ok(None) => Err(refused_files(alloc)),
+            Err(_) => Err(WordsFault::OutOfMemory),
+        },
+        Err(error) => Err(refused_by(alloc, &error)),
+    }
+}
