@@ -1,1 +1,256 @@
--- What a scan makes of a device.
+-- A device that runs a text does what the text means.
+use Rattle.std.proofs.Common.{◌≡◌, ℕ, Bool, true, false, not, cond, nat_lt, List, [], ◌∷◌, ◌++◌, length, map, take, drop, slice_get, Option, Some, None, refl, sym, ap, ap₂, subst, ◌∙◌, arith}
+use Rattle.std.proofs.lemmas.List.{length-map, take-append-drop}
+use Rattle.std.proofs.Math.Seq.{drop-append_seam, take-append_seam}
+use Rattle.bay_base.specs.declared.types.ElementaryType.{ElementaryType}
+use Rattle.bay_base.specs.declared.types.ElementaryType.TheVariants as elementary
+use Rattle.bay_config.specs.Laws.{IsBay}
+use Rattle.bay_config.specs.declared.bay.Bay.{Bay}
+use Rattle.bay_config.specs.declared.bay.Point.{Point}
+use Rattle.bay_config.specs.declared.bay.MeterField.{MeterField}
+use Rattle.bay_config.specs.declared.bay.Origin.{Origin}
+use Rattle.bay_config.specs.declared.bay.Origin.TheVariants as origin
+use Rattle.bay_config.specs.declared.bay.Switch.{Switch}
+use Rattle.bay_config.specs.declared.bay.SwitchPoint.TheVariants.{Position, Open, Closed, EnableOpen, EnableClose}
+use Rattle.il_image.specs.Machine.{Halted, run, start}
+use Rattle.il_image.specs.Values.{type_of}
+use Rattle.il_image.specs.declared.image.ImagePoint.{ImagePoint}
+use Rattle.il_image.specs.declared.timer.Timer.{Timer}
+use Rattle.il_image.specs.declared.value.Value.{Value}
+use Rattle.il_check.specs.Program.{Checked}
+use Rattle.il_check.specs.declared.typed.External.{External}
+use Rattle.il_check.specs.declared.typed.Timer.{Timer as DeclaredTimer}
+use Rattle.il_check.specs.declared.typed.Variable.{Variable}
+use Rattle.il_image.specs.Images.{Each}
+use Rattle.il_image.specs.Timers.{first_state}
+use Rattle.il_image.specs.declared.timer.TimerKind.{TimerKind}
+use Rattle.il_verify.specs.Verdicts.{IsVerified}
+use Rattle.il_compile.specs.Compiled.{image_of, point_of}
+use Rattle.il_compile.specs.Correct.{DoesTheText, Follows, HasTypes}
+use Rattle.il_compile.specs.Senses.{timer_of}
+use Rattle.bay_device.specs.Load.{initial_device}
+use Rattle.bay_device.proofs.OriginLemmas.{IsTyped, bay-typed, points-fit, reads-typed}
+use Rattle.il_compile.specs.Meaning.{Memory}
+use Rattle.il_scan.specs.Scans.{first_input, first_slots, first_value, outputs_of, read_only, type_of_point, with_inputs}
+use Rattle.bay_device.specs.Device.{Outcome, State, Ran, contact_outcome, ending_at, event_outcome, input_outcome, inputs_of, last_moment, measure_outcome, outcome, outcomes, point_value, ran_at, ran_of, scanned, with_outputs}
+use Rattle.bay_device.specs.Meaning.{AllMean, Means, MeansAt, Runs, memory_before, memory_of, type_of_origin}
+use Rattle.bay_device.specs.declared.event.Event.{Event}
+use Rattle.bay_device.specs.declared.event.Event.TheVariants.{Contact, Input, Measure, Scan}
+
+first-of : (t : ElementaryType) → type_of (first_value t) ≡ t
+first-of elementary.Bool = refl
+first-of elementary.Int = refl
+first-of elementary.Dint = refl
+first-of elementary.Lint = refl
+first-of elementary.Time = refl
+
+-- ---- inputs have the types of what they stand for
+
+value-typed : (s : State) (o : Origin) → type_of (point_value s o) ≡ type_of_origin o
+value-typed s (origin.Switch k Position) = refl
+value-typed s (origin.Switch k Open) = refl
+value-typed s (origin.Switch k Closed) = refl
+value-typed s (origin.Switch k EnableOpen) = refl
+value-typed s (origin.Switch k EnableClose) = refl
+value-typed s (origin.Input k) = refl
+value-typed s (origin.Meter k field) = refl
+
+values-typed : (s : State) (os : List Origin) → map type_of (map (point_value s) os) ≡ map type_of_origin os
+values-typed s [] = refl
+values-typed s (o ∷ os) = ap₂ (λ (t : ElementaryType) (ts : List ElementaryType). t ∷ ts) (value-typed s o) (values-typed s os)
+
+-- ---- slots with inputs
+
+head-of : (a b : ElementaryType) (xs ys : List ElementaryType) → a ∷ xs ≡ b ∷ ys → a ≡ b
+head-of a b xs ys e = cc
+
+tail-of : (a b : ElementaryType) (xs ys : List ElementaryType) → a ∷ xs ≡ b ∷ ys → xs ≡ ys
+tail-of a b xs ys e = cc
+
+pub record Put (points : List ImagePoint) (inputs slots : List Value) : Type 0 where
+  pub front : map type_of (take (length points) (with_inputs points inputs slots)) ≡ map type_of_point points
+  pub back : drop (length points) (with_inputs points inputs slots) ≡ drop (length points) slots
+
+-- the slots of one point more
+abbrev slots_with : Bool → ImagePoint → List ImagePoint → List Value → Value → List Value → List Value
+slots_with w p points inputs slot slots = cond w slot (first_input inputs slot) ∷ with_inputs points (cond w inputs (drop 1 inputs)) slots
+
+put-more : (p : ImagePoint) (points : List ImagePoint) (slot : Value) (slots : List Value) → type_of slot ≡ p.elementary
+    → ((inputs : List Value) → map type_of inputs ≡ map type_of_point (read_only points) → Put points inputs slots)
+    → (w : Bool) (inputs : List Value) → p.writable ≡ w → map type_of inputs ≡ map type_of_point (cond (not w) (p ∷ read_only points) (read_only points)) → Put (p ∷ points) inputs (slot ∷ slots)
+put-more p points slot slots here rest true inputs w g =
+    let q = rest inputs g in
+    record {
+      front = ap (λ b. map type_of (take (length (p ∷ points)) (slots_with b p points inputs slot slots))) w ∙ ap₂ (λ (t : ElementaryType) (ts : List ElementaryType). t ∷ ts) here q.front;
+      back = ap (λ b. drop (length (p ∷ points)) (slots_with b p points inputs slot slots)) w ∙ q.back;
+    }
+put-more p points slot slots here rest false [] w g = absurd cc
+put-more p points slot slots here rest false (i ∷ inputs) w g =
+    let q = rest inputs (tail-of _ _ _ _ g) in
+    record {
+      front = ap (λ b. map type_of (take (length (p ∷ points)) (slots_with b p points (i ∷ inputs) slot slots))) w ∙ ap₂ (λ (t : ElementaryType) (ts : List ElementaryType). t ∷ ts) (head-of _ _ _ _ g) q.front;
+      back = ap (λ b. drop (length (p ∷ points)) (slots_with b p points (i ∷ inputs) slot slots)) w ∙ q.back;
+    }
+
+put : (points : List ImagePoint) (inputs slots : List Value) → map type_of (take (length points) slots) ≡ map type_of_point points → map type_of inputs ≡ map type_of_point (read_only points) → Put points inputs slots
+put [] inputs slots e f = record { front = refl; back = refl }
+put (p ∷ points) inputs [] e f = absurd cc
+put (p ∷ points) inputs (slot ∷ slots) e f =
+    put-more p points slot slots (head-of _ _ _ _ e) (λ others g. put points others slots (tail-of _ _ _ _ e) g) p.writable inputs refl f
+
+points-kinds : (es : List External) → map type_of_point (map point_of es) ≡ map (λ (e : External). e.kind) es
+points-kinds [] = refl
+points-kinds (e ∷ es) = ap (λ (ts : List ElementaryType). e.kind ∷ ts) (points-kinds es)
+
+-- the outputs are those of the points' slots
+outputs-front : (points : List ImagePoint) (xs ys : List Value) → length xs ≡ length points → outputs_of points (xs ++ ys) ≡ outputs_of points xs
+outputs-front [] xs ys e = refl
+outputs-front (p ∷ points) [] ys e = absurd (omega arith)
+outputs-front (p ∷ points) (x ∷ xs) ys e = ap (λ (os : List Value). cond p.writable (x ∷ os) os) (outputs-front points xs ys (omega arith))
+
+-- ---- a scan
+
+module _ (c : Checked) (s : State) (r : Runs c s) (now : ℕ) where
+  abbrev count : ℕ
+  count = length c.externals
+
+  abbrev points : List ImagePoint
+  points = s.machine.image.points
+
+  many : length points ≡ count
+  many = ap (λ (ps : List ImagePoint). length ps) r.points ∙ length-map c.externals point_of
+
+  kinds : map type_of_point points ≡ map (λ (e : External). e.kind) c.externals
+  kinds = ap (map type_of_point) r.points ∙ points-kinds c.externals
+
+  slots-put : Put points (inputs_of s) s.machine.slots
+  slots-put = put points (inputs_of s) s.machine.slots
+      (ap (λ n. map type_of (take n s.machine.slots)) many ∙ r.types.externals ∙ sym kinds)
+      (values-typed s s.reads ∙ r.reads)
+
+  abbrev before : Memory
+  before = memory_before c s
+
+  typed-before : HasTypes c before
+  typed-before = record {
+    externals = ap (λ n. map type_of (take n (with_inputs points (inputs_of s) s.machine.slots))) (sym many) ∙ slots-put.front ∙ kinds;
+    variables = ap (λ n. map type_of (drop n (with_inputs points (inputs_of s) s.machine.slots))) (sym many) ∙ ap (map type_of) slots-put.back ∙ ap (λ n. map type_of (drop n s.machine.slots)) many ∙ r.types.variables;
+    timers = r.types.timers;
+  }
+
+  follows : Follows c s.machine.image.code now before
+  follows = r.does now before typed-before
+
+  abbrev after : Memory
+  after = follows.means.after
+
+  ends : ending_at now s ≡ Halted (after.externals ++ after.variables) after.timers follows.steps
+  ends = ap (λ (slots : List Value). run s.machine.image.code now (length s.machine.image.code) (start slots s.machine.timers) 0) (sym (take-append-drop count (with_inputs points (inputs_of s) s.machine.slots))) ∙ follows.halts
+
+  ran : ran_at now s ≡ record { slots = after.externals ++ after.variables; timers = after.timers; steps = follows.steps }
+  ran = ap ran_of ends
+
+  sized : length after.externals ≡ count
+  sized = sym (length-map after.externals type_of) ∙ ap (λ (ts : List ElementaryType). length ts) follows.means.typed.externals ∙ length-map c.externals (λ (e : External). e.kind)
+
+  kept : memory_of c (after.externals ++ after.variables) after.timers ≡ after
+  kept =
+      let externals : take count (after.externals ++ after.variables) ≡ after.externals = ap (λ n. take n (after.externals ++ after.variables)) (sym sized) ∙ take-append_seam after.externals after.variables in
+      let variables : drop count (after.externals ++ after.variables) ≡ after.variables = ap (λ n. drop n (after.externals ++ after.variables)) (sym sized) ∙ drop-append_seam after.externals after.variables in
+      ap₂ (λ es vs. let m : Memory = record { externals = es; variables = vs; timers = after.timers } in m) externals variables
+
+  keeps : memory_of c (scanned now s).machine.slots (scanned now s).machine.timers ≡ after
+  keeps = ap (λ (x : Ran). memory_of c x.slots x.timers) ran ∙ kept
+
+  pub means-scan : Means c now s
+  means-scan = record {
+    after = after;
+    is = follows.means.is;
+    keeps = keeps;
+    rows =
+        ap (λ (x : Ran). with_outputs s.switches s.writes (outputs_of points x.slots) now 0 s.switches s.rows) ran
+        ∙ ap (λ os. with_outputs s.switches s.writes os now 0 s.switches s.rows)
+        (outputs-front points after.externals after.variables (sized ∙ sym many) ∙ ap (λ (ps : List ImagePoint). outputs_of ps after.externals) r.points);
+  }
+
+  pub runs-on : Runs c (scanned now s)
+  runs-on = record {
+    points = r.points;
+    does = r.does;
+    types = subst (HasTypes c) (sym keeps) follows.means.typed;
+    reads = r.reads;
+  }
+
+-- ---- an event
+
+module _ (c : Checked) (s : State) (r : Runs c s) (now : ℕ) where
+  runs-contact : (k : ℕ) (position : _) (o : Option Switch) → Runs c (contact_outcome now k position s o).after
+  runs-contact k position None = r
+  runs-contact k position (Some switch) = record { points = r.points; does = r.does; types = r.types; reads = r.reads }
+
+  runs-input : (k : ℕ) (value : Bool) (o : Option Bool) → Runs c (input_outcome now k value s o).after
+  runs-input k value None = r
+  runs-input k value (Some old) = record { points = r.points; does = r.does; types = r.types; reads = r.reads }
+
+  runs-measure : (k : ℕ) (field : MeterField) (value : _) (o : Option (List ℕ)) → Runs c (measure_outcome now k field value s o).after
+  runs-measure k field value None = r
+  runs-measure k field value (Some id) = record { points = r.points; does = r.does; types = r.types; reads = r.reads }
+
+  runs-event : (event : Event) → Runs c (event_outcome now event s).after
+  runs-event (Contact k position) = runs-contact k position (slice_get s.switches k)
+  runs-event (Input k value) = runs-input k value (slice_get s.input_values k)
+  runs-event (Measure k field value) = runs-measure k field value (slice_get s.meters k)
+  runs-event Scan = runs-on c s r now
+
+  runs-if : (b : Bool) (x y : Outcome) → Runs c x.after → Runs c y.after → Runs c (cond b x y).after
+  runs-if true x y h k = h
+  runs-if false x y h k = k
+
+  pub runs-still : (event : Event) → Runs c (outcome now event s).after
+  runs-still event = runs-if (nat_lt last_moment now) _ _ r (runs-if (nat_lt now s.moment) _ _ r (runs-event event))
+
+  pub means-event : (event : Event) → MeansAt c now event s
+  means-event Scan = means-scan c s r now
+  means-event (Contact k position) = tt
+  means-event (Input k value) = tt
+  means-event (Measure k field value) = tt
+
+-- ---- a list of events
+
+pub all-mean : (c : Checked) (events : List (ℕ × Event)) (s : State) → Runs c s → AllMean c events s
+all-mean c [] s r = tt
+all-mean c (e ∷ events) s r = (means-event c s r e.0 e.1, all-mean c events (outcome e.0 e.1 s).after (runs-still c s r e.0 e.1))
+
+pub all-run : (c : Checked) (events : List (ℕ × Event)) (s : State) → Runs c s → Runs c (outcomes events s).after
+all-run c [] s r = r
+all-run c (e ∷ events) s r = all-run c events (outcome e.0 e.1 s).after (runs-still c s r e.0 e.1)
+
+-- ---- before the first event
+
+first-typed : (es : List External) (vs : List Value) → map type_of (take (length es) (first_slots (map point_of es) vs)) ≡ map (λ (e : External). e.kind) es
+first-typed [] vs = refl
+first-typed (e ∷ es) vs = ap₂ (λ (t : ElementaryType) (ts : List ElementaryType). t ∷ ts) (first-of e.kind) (first-typed es vs)
+
+first-behind : (es : List External) (vs : List Value) → drop (length es) (first_slots (map point_of es) vs) ≡ vs
+first-behind [] vs = refl
+first-behind (e ∷ es) vs = first-behind es vs
+
+initial-types : (vs : List Variable) → map type_of (map (λ (v : Variable). v.initial) vs) ≡ map (λ (v : Variable). type_of v.initial) vs
+initial-types [] = refl
+initial-types (v ∷ vs) = ap (λ (ts : List ElementaryType). type_of v.initial ∷ ts) (initial-types vs)
+
+timers-first : (ts : List DeclaredTimer) → map (λ (t : Timer). t.kind) (map first_state (map (λ (t : DeclaredTimer). timer_of t.kind) ts)) ≡ map (λ (t : DeclaredTimer). timer_of t.kind) ts
+timers-first [] = refl
+timers-first (t ∷ ts) = ap (λ (ks : List TimerKind). timer_of t.kind ∷ ks) (timers-first ts)
+
+pub runs-first : (c : Checked) (bay : Bay) → IsBay bay → IsVerified bay.points (image_of c) → DoesTheText c (image_of c).code → Runs c (initial_device bay (image_of c))
+runs-first c bay is verified does = record {
+  points = refl;
+  does = does;
+  types = record {
+    externals = first-typed c.externals (map (λ (v : Variable). v.initial) c.variables);
+    variables = ap (map type_of) (first-behind c.externals (map (λ (v : Variable). v.initial) c.variables)) ∙ initial-types c.variables;
+    timers = timers-first c.timers;
+  };
+  reads = reads-typed bay.points (subst (λ (ps : List Point). Each IsTyped ps) (sym is.points) (bay-typed bay.switches bay.inputs bay.meters)) (image_of c).points (points-fit bay.points (image_of c) verified.fits);
+}

@@ -19,7 +19,7 @@ use Rattle.bay_config.specs.declared.bay.SwitchKind.TheVariants.{Breaker, Discon
 use Rattle.bay_config.specs.Laws.{IsBay, HasNode, HasPosition, HasControl, HasEnable, HasMeasured, HasMeter, NamesMeter}
 use Rattle.bay_config.specs.declared.bay.Bay.{Bay}
 use Rattle.bay_device.specs.Layout.{Layout, layout_of, name_in, status_in, HasKind, AreStatusRows, AreMetersBound, IsMeterBound}
-use Rattle.bay_device.specs.Names.{StatusNames, SwitchNames, names_by_nodes, measured_names, MeterNames, meter_names, meter_names_of}
+use Rattle.bay_device.specs.Names.{StatusNames, SwitchNames, names_by_nodes, measured_names, MeterNames, meter_names_of}
 use Rattle.bay_device.specs.Nodes.{AreNodesOf, AreAllNodes, nodes_names, HasLeaf, HasStatus, HasSwitch, HasSwitches, AreThere, IsFound, AreFound, AreRowsOf, AreAllRows, AreAllMeters, HasMeterLeaves, IsMeterThere, HaveMeters, AreMeterRowsOf}
 use Rattle.bay_device.specs.declared.meter.BoundMeter.{BoundMeter}
 use Rattle.bay_device.specs.declared.meter.MeterRows.{MeterRows}

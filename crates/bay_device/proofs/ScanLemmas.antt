@@ -1,1 +1,115 @@
 -- What a scan makes of a device.
+use Rattle.std.proofs.Common.{◌≡◌, ℕ, suc, ◌+◌, false, List, [], ◌∷◌, ◌++◌, length, map, get_or, slice_get, Option, Some, None, option_map, refl, ap, sym, ◌∙◌, subst, arith}
+use Rattle.std.proofs.lemmas.Option.{slice_get-map, slice_get-get_or}
+use Rattle.bay_tree.specs.declared.row.Row.{Row}
+use Rattle.bay_tree.specs.Rows.{leaf_of}
+use Rattle.bay_config.specs.declared.bay.MeterField.{MeterField}
+use Rattle.bay_config.specs.declared.bay.Origin.{Origin}
+use Rattle.bay_config.specs.declared.bay.Origin.TheVariants as origin
+use Rattle.bay_config.specs.declared.bay.Switch.{Switch}
+use Rattle.bay_config.specs.declared.bay.SwitchPoint.{SwitchPoint}
+use Rattle.bay_base.specs.declared.types.ElementaryType.{ElementaryType}
+use Rattle.il_image.specs.Images.{IsValue}
+use Rattle.il_image.specs.Values.{type_of}
+use Rattle.il_scan.specs.Words.{AreTyped}
+use Rattle.il_image.specs.Machine.{Halted, Ending, run}
+use Rattle.il_image.specs.declared.value.Value.{Value}
+use Rattle.il_image.specs.declared.value.Value.TheVariants.{Long}
+use Rattle.il_scan.specs.Scans.{Held, Scans, outputs_of, started}
+use Rattle.bay_device.specs.Device.{Ran, after_run, ending_at, inputs_of, is_true, measure_leaf, number_of_leaf, output_at, point_value, position_leaf, position_value, ran_at, ran_of, scanned, with_output, with_outputs}
+use Rattle.bay_device.specs.Layout.{Layout, layout_of, switches_of, IsBound, AreBound, AreKinded, AreMetersBound, AreMeterKinded}
+use Rattle.bay_device.specs.Meaning.{Halts}
+use Rattle.bay_device.specs.Names.{StatusNames, SwitchNames, field_names, switch_names}
+use Rattle.bay_device.specs.Scans.{bound_value, meter_value, outputs_put, switch_value}
+use Rattle.bay_device.specs.StateView.{state_view}
+use Rattle.bay_device.specs.declared.meter.BoundMeter.{BoundMeter}
+use Rattle.bay_device.specs.declared.state.DeviceState.{DeviceState}
+use Rattle.bay_device.specs.declared.switch.BoundSwitch.{BoundSwitch}
+use Rattle.bay_device.proofs.ContactLemmas.{field-named}
+
+-- the values at the handles of bound switches and meters have the kinds that a step wants
+pub kinded : (layout : Layout) (writes : List Origin) (bound : List BoundSwitch) → AreBound layout writes bound → AreKinded layout bound
+kinded layout writes bound all k d lt = (all k (get_or bound k d) (slice_get-get_or bound k d lt)).kinded
+
+pub meters-kinded : (layout : Layout) (bound : List BoundMeter) → AreMetersBound layout bound → AreMeterKinded layout bound
+meters-kinded layout bound all k d lt = (all k (get_or bound k d) (slice_get-get_or bound k d lt)).kinded
+
+-- one value more of its type
+pub typed-more : (types : List ElementaryType) (values : List Value) (t : ElementaryType) (v : Value) → AreTyped types values → type_of v ≡ t → IsValue v → AreTyped (types ++ t ∷ []) (values ++ v ∷ [])
+typed-more [] [] t v h e is = ((e, is), tt)
+typed-more [] (w ∷ values) t v h e is = absurd h
+typed-more (u ∷ types) [] t v h e is = absurd h
+typed-more (u ∷ types) (w ∷ values) t v h e is = (h.0, typed-more types values t v h.1 e is)
+
+-- what is read at handles is read by names
+module _ (d : DeviceState) where
+  switch-named : (k : ℕ) (point : SwitchPoint) (b : Option BoundSwitch) → slice_get d.switches k ≡ b
+      → switch_value d.tree point b ≡ position_value point (position_leaf (switches_of d.switches) d.tree k (option_map (λ (b : BoundSwitch). b.switch) b))
+  switch-named k point None here = refl
+  switch-named k point (Some b) here = ap (λ (n : SwitchNames). position_value point (leaf_of n.position.value d.tree)) (d.bound k b here).named
+
+  meter-named : (k : ℕ) (field : MeterField) (m : Option BoundMeter) → slice_get d.meters k ≡ m
+      → meter_value d.tree field m ≡ Long (number_of_leaf (measure_leaf d.tree k field (option_map (λ (m : BoundMeter). m.id) m)))
+  meter-named k field None here = refl
+  meter-named k field (Some m) here =
+      ap (λ (n : StatusNames). Long (number_of_leaf (leaf_of n.value d.tree)))
+      (field-named (layout_of d.tree) m.rows field ∙ ap (field_names field) (d.metered k m here).named)
+
+  pub point-named : (o : Origin) → bound_value d.tree d.switches d.input_values d.meters o ≡ point_value (state_view d) o
+  point-named (origin.Switch k point) =
+      switch-named k point (slice_get d.switches k) refl
+      ∙ ap (λ s. position_value point (position_leaf (switches_of d.switches) d.tree k s)) (sym (slice_get-map (λ (b : BoundSwitch). b.switch) d.switches k))
+  point-named (origin.Input k) = refl
+  point-named (origin.Meter k field) =
+      meter-named k field (slice_get d.meters k) refl
+      ∙ ap (λ m. Long (number_of_leaf (measure_leaf d.tree k field m))) (sym (slice_get-map (λ (m : BoundMeter). m.id) d.meters k))
+
+  points-named : (os : List Origin) → map (bound_value d.tree d.switches d.input_values d.meters) os ≡ map (point_value (state_view d)) os
+  points-named [] = refl
+  points-named (o ∷ os) =
+      ap (λ v. v ∷ map (bound_value d.tree d.switches d.input_values d.meters) os) (point-named o)
+      ∙ ap (λ (vs : List Value). point_value (state_view d) o ∷ vs) (points-named os)
+
+  pub inputs-named : map (bound_value d.tree d.switches d.input_values d.meters) d.reads ≡ inputs_of (state_view d)
+  inputs-named = points-named d.reads
+
+-- the interlocking values of all switches
+module _ (layout : Layout) (switches : List Switch) (writes : List Origin) (outputs : List Value) (now : ℕ) where
+  outputs-named : (k : ℕ) (bound : List BoundSwitch) (rows : List Row)
+      → ((j : ℕ) (b : BoundSwitch) → slice_get bound j ≡ Some b → IsBound layout writes switches (k + j) b)
+      → outputs_put layout bound outputs now rows ≡ with_outputs switches writes outputs now k (switches_of bound) rows
+  outputs-named k [] rows all = refl
+  outputs-named k (b ∷ bs) rows all =
+      let here : IsBound layout writes switches k b = let none : k + 0 ≡ k = omega arith in subst (λ m. IsBound layout writes switches m b) none (all 0 b refl) in
+      ap (λ n. outputs_put layout bs outputs now (with_output n (is_true (output_at b.outputs.ena_opn outputs)) (is_true (output_at b.outputs.ena_cls outputs)) now rows)) here.named
+      ∙ ap (λ o. outputs_put layout bs outputs now (with_output (switch_names switches k b.switch) (is_true (output_at o.ena_opn outputs)) (is_true (output_at o.ena_cls outputs)) now rows)) here.outputs
+      ∙ outputs-named (k + 1) bs _ (λ j c h. let more : k + suc j ≡ k + 1 + j = omega arith in subst (λ m. IsBound layout writes switches m c) more (all (suc j) c h))
+
+-- a machine with another's image
+held-as : (old new : Held) → new.image ≡ old.image → new ≡ record old { slots = new.slots; timers = new.timers }
+held-as old new e = ap (λ i. let h : Held = record { image = i; slots = new.slots; timers = new.timers } in h) e
+
+-- a scan of the machine
+module _ (d : DeviceState) (now : ℕ) (inputs : List Value) (read : inputs ≡ inputs_of (state_view d)) (new : Held) (steps : ℕ) (outputs : List Value) (did : Scans d.machine inputs now new steps outputs) where
+  pub ended : ending_at now (state_view d) ≡ Halted new.slots new.timers steps
+  ended =
+      ap (λ is. let s : Ending = run d.machine.image.code now (length d.machine.image.code) (started d.machine is) 0 in s) (sym read)
+      ∙ did.halts (length d.machine.image.code) did.few
+
+  pub ran : ran_at now (state_view d) ≡ record { slots = new.slots; timers = new.timers; steps = steps }
+  ran = ap ran_of ended
+
+  pub halted : Halts now (state_view d)
+  halted = record { slots = new.slots; timers = new.timers; steps = steps; halts = ended; within = did.within }
+
+  pub scan-done : (rows : List Row) → rows ≡ outputs_put (layout_of d.tree) d.switches outputs now d.tree
+      → record (state_view d) { machine = new; rows = rows; moment = now; last_scan = Some now; is_stale = false } ≡ scanned now (state_view d)
+  scan-done rows writes =
+      let s = state_view d in
+      let written : rows ≡ with_outputs s.switches s.writes outputs now 0 s.switches s.rows =
+      writes ∙ outputs-named (layout_of d.tree) s.switches d.writes outputs now 0 d.switches d.tree
+      (λ j b h. let none : j ≡ 0 + j = omega arith in subst (λ m. IsBound (layout_of d.tree) d.writes s.switches m b) none (d.bound j b h)) in
+      ap (λ rs. record s { machine = new; rows = rs; moment = now; last_scan = Some now; is_stale = false }) written
+      ∙ ap (λ os. record s { machine = new; rows = with_outputs s.switches s.writes os now 0 s.switches s.rows; moment = now; last_scan = Some now; is_stale = false }) did.given
+      ∙ ap (λ h. record s { machine = h; rows = with_outputs s.switches s.writes (outputs_of d.machine.image.points new.slots) now 0 s.switches s.rows; moment = now; last_scan = Some now; is_stale = false }) (held-as d.machine new did.image)
+      ∙ ap (λ (r : Ran). after_run now r s) (sym ran)

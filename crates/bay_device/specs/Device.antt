@@ -2,8 +2,6 @@
 -- status values and measured values).
 use Rattle.std.specs.Prelude.{ℕ, ℤ, ◌+◌, Bool, true, false, not, ◌&&◌, ◌||◌, nat_lt, ◌==◌, pos, ◌+ℤ◌, int_lt, List, [], ◌∷◌, length, map, position, slice_get, slice_set, unwrap_or, Option, None, Some, Result, Ok, Err, if◌then◌else◌}
 use Rattle.std.specs.Ordering.{int_eq}
-use Rattle.bay_base.specs.declared.types.ElementaryType.{ElementaryType}
-use Rattle.bay_base.specs.declared.types.ElementaryType.TheVariants as elementary
 use Rattle.bay_tree.specs.Rows.{leaf_of, with_leaf_of}
 use Rattle.bay_tree.specs.declared.row.Row.{Row}
 use Rattle.bay_tree.specs.declared.leaf.Leaf.{Leaf}
@@ -21,7 +19,7 @@ use Rattle.bay_config.specs.declared.bay.SwitchPoint.TheVariants.{Position, Open
 use Rattle.il_image.specs.Machine.{Ending, Halted, Trapped, Unfinished, run}
 use Rattle.il_image.specs.declared.timer.Timer.{Timer}
 use Rattle.il_image.specs.declared.value.Value.{Value}
-use Rattle.il_image.specs.declared.value.Value.TheVariants.{Truth, Short, Long, Wide, Span}
+use Rattle.il_image.specs.declared.value.Value.TheVariants.{Truth, Short, Long}
 use Rattle.il_scan.specs.Scans.{Held, outputs_of, started}
 use Rattle.bay_device.specs.Names.{StatusNames, SwitchNames, switch_names, meter_names, field_names}
 use Rattle.bay_device.specs.declared.event.Event.{Event}
@@ -193,11 +191,16 @@ abbrev pub number_of_leaf : Option Leaf → ℤ
 number_of_leaf (Some (leaf.Int32 n)) = n
 number_of_leaf other = pos 0
 
+-- the value of a field of the meter at a place, as the rows have it
+abbrev pub measure_leaf : List Row → ℕ → MeterField → Option (List ℕ) → Option Leaf
+measure_leaf rows k field None = None
+measure_leaf rows k field (Some id) = leaf_of (field_names field (meter_names k)).value rows
+
 -- the value that the contacts, the inputs and the measures give a point
 abbrev pub point_value : State → Origin → Value
 point_value s (origin.Switch k point) = position_value point (position_leaf s.switches s.rows k (slice_get s.switches k))
 point_value s (origin.Input k) = Truth (unwrap_or (slice_get s.input_values k) false)
-point_value s (origin.Meter k field) = Long (number_of_leaf (leaf_of (field_names field (meter_names k)).value s.rows))
+point_value s (origin.Meter k field) = Long (number_of_leaf (measure_leaf s.rows k field (slice_get s.meters k)))
 
 -- the values of the points that the program only reads
 abbrev pub inputs_of : State → List Value

@@ -7,7 +7,6 @@ use Rattle.bay_tree.specs.declared.leaf.Kind.TheVariants as kind
 use Rattle.bay_config.specs.declared.bay.Switch.{Switch}
 use Rattle.bay_device.specs.Names.{StatusNames, SwitchNames, switch_names, MeterNames, meter_names}
 use Rattle.bay_device.specs.declared.switch.SwitchOutputs.{SwitchOutputs}
-use Rattle.bay_config.specs.declared.bay.SwitchPoint.{SwitchPoint}
 use Rattle.bay_config.specs.declared.bay.SwitchPoint.TheVariants.{EnableOpen, EnableClose}
 use Rattle.bay_device.specs.Device.{is_point}
 use Rattle.bay_config.specs.declared.bay.Origin.{Origin}

@@ -1,5 +1,5 @@
 -- What the events of a device come to that was loaded from the text of a program: each scan leaves what the text means.
-use Rattle.std.specs.Prelude.{ℕ, ◌≡◌, ◌≤◌, Bool, true, false, nat_lt, ◌||◌, not, List, [], ◌∷◌, length, map, take, drop, Some, MatchBool}
+use Rattle.std.specs.Prelude.{ℕ, ◌≡◌, ◌≤◌, Bool, false, nat_lt, ◌||◌, List, [], ◌∷◌, length, map, take, drop, Some}
 use Rattle.bay_base.specs.declared.types.ElementaryType.{ElementaryType}
 use Rattle.bay_base.specs.declared.types.ElementaryType.TheVariants as elementary
 use Rattle.bay_config.specs.declared.bay.Origin.{Origin}

@@ -1,14 +1,13 @@
 -- What a device reports of the program that it runs.
-use Rattle.std.specs.Prelude.{ℕ, ◌≡◌, List, length}
-use Rattle.il_image.specs.Images.{Each, Image, all_spelled}
-use Rattle.il_image.specs.Spelling.{IsInstr}
-use Rattle.il_image.specs.declared.instr.Instr.{Instr}
+use Rattle.std.specs.Prelude.{ℕ, ◌≡◌, List, length, Some}
+use Rattle.il_image.specs.Images.{Image}
+use Rattle.il_image.specs.Tables.{place_of}
 use Rattle.il_verify.specs.Verdicts.{IsBudget, IsDepth}
 use Rattle.bay_device.specs.declared.report.Report.{Report}
 
--- the number of instructions that the code spells
+-- The code is so many instructions: behind the last of them it ends.
 abbrev pub IsCount : List ℕ → ℕ → Type 0
-IsCount code count = (instrs : List Instr) → Each IsInstr instrs → code ≡ all_spelled instrs → count ≡ length instrs
+IsCount code count = place_of code count ≡ Some (length code)
 
 -- The instructions of the code, the length of a longest list of each table that agrees with it, and the number of places of a
 -- longest path through it.

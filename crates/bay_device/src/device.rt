@@ -11,7 +11,7 @@ ghost use Rattle.bay_device.specs.StateView.{state_view};
 
 use crate::event::{Event, Step};
 use crate::fault::StepFault;
-use crate::report::Report;
+use crate::report::{Report, report_of};
 use crate::state::DeviceState;
 use bay_tree::tree::Tree;
 use il_image::encode::encode;
@@ -46,11 +46,11 @@ impl Device {
         Device { alloc, state }
     }
 
-    /// What load found of the program: its size, and what a scan takes at most.
+    /// The size of the program, and what a scan takes at most. It goes over the code once.
     pub fn report(&self) -> Report
         ensures { IsReport self.now.machine.image result }
     {
-        self.state.report
+        report_of(self.state.machine.verified())
     }
 
     /// The octets of the program's image, in version 2 of the format.

@@ -1,5 +1,5 @@
 // A device from the text of a bay file and the text of a program, or the octets of an image.
-ghost use Rattle.std.specs.Prelude.{◌≡◌, ◌≢◌, Ok, Err, IfOk, IfErr};
+ghost use Rattle.std.specs.Prelude.{◌≡◌, ◌≢◌, ℕ, Ok, Err, IfOk, IfErr};
 ghost use Rattle.bay_base.specs.Exact.{Gives};
 ghost use Rattle.bay_config.specs.Bay.{bay_of};
 ghost use Rattle.bay_config.specs.Laws.{IsBay};
@@ -26,7 +26,6 @@ use crate::device::Device;
 use crate::fault::LoadFault;
 use crate::meters::{all_meter_nodes, bind_meters};
 use crate::nodes::{all_nodes, all_switch_rows};
-use crate::report::report_of;
 use crate::state::DeviceState;
 use bay_base::listing::Listing;
 use bay_config::bay::{Bay, Point};
@@ -62,7 +61,6 @@ fn state_of(alloc: Global, bay: Bay, verified: Verified) -> Result<DeviceState, 
 {
     let nodes = all_nodes(alloc, &bay)?;
     let meter_nodes = all_meter_nodes(alloc, &bay)?;
-    let report = report_of(&verified);
     let points = verified.image().points();
     let reads = origins_of(alloc, false, bay.points.as_slice(), points)?;
     let writes = origins_of(alloc, true, bay.points.as_slice(), points)?;
@@ -105,7 +103,6 @@ fn state_of(alloc: Global, bay: Bay, verified: Verified) -> Result<DeviceState, 
         writes: Listing::new(writes),
         room,
         machine,
-        report,
         moment: 0,
         last_scan: None,
         is_stale: false,

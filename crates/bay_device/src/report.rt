@@ -1,5 +1,5 @@
 // What a device reports of the program that it runs.
-ghost use Rattle.std.specs.Prelude.{◌≡◌};
+ghost use Rattle.std.specs.Prelude.{◌≤◌, length};
 ghost use Rattle.il_image.specs.Images.{IsCode};
 ghost use Rattle.bay_device.specs.Report.{IsCount, IsReport};
 
@@ -19,7 +19,8 @@ pub struct Report {
 
 /// The number of instructions in code.
 fn instruction_count(code: &[u8]) -> u32
-    requires { IsCode code.now }
+    requires code { IsCode code.now }
+    requires size { length code.now ≤ 65_535 }
     ensures { IsCount code.now result }
 {
     let mut count = 0;

@@ -4,7 +4,7 @@ ghost use Rattle.bay_tree.specs.declared.leaf.Kind.TheVariants as kind;
 ghost use Rattle.bay_tree.specs.declared.leaf.Leaf.TheVariants as leaves;
 ghost use Rattle.il_image.specs.Images.{IsValue};
 ghost use Rattle.il_image.specs.Values.{type_of};
-ghost use Rattle.il_image.specs.declared.value.Value.TheVariants.{Long};
+ghost use Rattle.bay_base.specs.declared.types.ElementaryType.TheVariants as elementary;
 ghost use Rattle.il_scan.specs.Words.{AreTyped};
 ghost use Rattle.bay_device.specs.Device.{is_true, number_of_position, output_at, position_value, with_enabled, with_output};
 ghost use Rattle.bay_device.specs.Layout.{layout_of, status_in, switch_in, AreStatusRows, AreSwitchRows, AreKinded, AreMeterKinded};
@@ -75,13 +75,15 @@ fn switch_value(tree: &Tree, switches: &[BoundSwitch], switch: usize, point: Swi
 }
 
 /// The measured value of a field of the meter at a place.
-fn meter_value(tree: &Tree, meters: &[BoundMeter], meter: usize, field: MeterField) -> i32
+fn meter_value(tree: &Tree, meters: &[BoundMeter], meter: usize, field: MeterField) -> Value
     requires { AreMeterKinded (layout_of tree.now) meters.now }
-    ensures { Long result ≡ meter_value tree.now field (slice_get meters.now meter) }
+    ensures value { result ≡ meter_value tree.now field (slice_get meters.now meter) }
+    ensures typed { type_of result ≡ elementary.Dint }
+    ensures is_value { IsValue result }
 {
     match meters.get(meter) {
-        Some(bound) => count_at(tree, bound.rows.field(field).value),
-        None => 0,
+        Some(bound) => Value::Long(count_at(tree, bound.rows.field(field).value)),
+        None => Value::Long(0),
     }
 }
 
@@ -102,7 +104,7 @@ fn point_value(
     match origin {
         Origin::Switch { switch, point } => switch_value(tree, switches, switch, point),
         Origin::Input { input } => Value::Truth(inputs.get(input).unwrap_or(false)),
-        Origin::Meter { meter, field } => Value::Long(meter_value(tree, meters, meter, field)),
+        Origin::Meter { meter, field } => meter_value(tree, meters, meter, field),
     }
 }
 

@@ -3,10 +3,8 @@ ghost use Rattle.std.specs.Prelude.{◌≡◌, length, map};
 ghost use Rattle.il_scan.specs.Scans.{read_only, type_of_point};
 ghost use Rattle.bay_device.specs.Layout.{layout_of, AreBound, AreMetersBound};
 ghost use Rattle.bay_device.specs.Meaning.{type_of_origin};
-ghost use Rattle.bay_device.specs.Report.{IsReport};
 
 use crate::meter::BoundMeter;
-use crate::report::Report;
 use crate::switch::BoundSwitch;
 use crate::values::{Inputs, Truths};
 use bay_base::listing::Listing;
@@ -40,7 +38,6 @@ pub struct DeviceState {
     /// Room for the values of the points that are read.
     pub room: Inputs,
     pub machine: Machine,
-    pub report: Report,
     /// The moment of the last accepted event, in milliseconds since 1970.
     pub moment: u64,
     /// The moment of the last scan.
@@ -51,5 +48,4 @@ pub struct DeviceState {
     ghost metered: { AreMetersBound (layout_of tree) meters },
     ghost typed: { map type_of_origin reads ≡ map type_of_point (read_only machine.image.points) },
     ghost sized: { length room ≡ length reads },
-    ghost reported: { IsReport machine.image report },
 }

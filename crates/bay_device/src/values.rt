@@ -58,9 +58,9 @@ pub struct Inputs {
 
 impl Model for Inputs {
     ghost use Rattle.std.specs.Prelude.{List};
-    ghost use Rattle.il_image.specs.declared.value.Value.{Value};
+    ghost use Rattle.il_image.specs.declared.value.Value.{Value as ImageValue};
 
-    ghost Value = { List Value };
+    ghost Value = { List ImageValue };
 
     ghost view = { λ v. v.values.items };
 }

@@ -1,8 +1,7 @@
-use Rattle.std.proofs.Common.{◌≡◌, ◌<◌, ◌∷◌, ◌++◌, [], ◌∙◌, Some, length, map, slice_get, get_or, take, refl, ap, sym, arith, rules}
+use Rattle.std.proofs.Common.{◌≡◌, ◌<◌, ◌∷◌, ◌++◌, [], ◌∙◌, Some, length, slice_get, get_or, take, refl, ap, sym, arith}
 use Rattle.std.proofs.lemmas.List.{map-append, take_more}
 use Rattle.std.proofs.lemmas.Option.{slice_get_read}
 use Rattle.bay_device.specs.Layout.{layout_of}
-use Rattle.bay_device.specs.Nodes.{IsMeterThere}
 use Rattle.bay_device.specs.declared.meter.BoundMeter.{BoundMeter}
 use Rattle.bay_device.proofs.ListLemmas.{length-snoc}
 use Rattle.bay_device.proofs.NodeLemmas.{bound-meter, bound-meters-snoc}

@@ -18,6 +18,7 @@ pub invariant_of-self : goal.invariant_of-self
 invariant_of-self c = record {
   bound = rw c.take_position-changed.ensures.layout c.args.self.now.bound;
   metered = rw c.take_position-changed.ensures.layout c.args.self.now.metered;
+  typed = c.args.self.now.typed;
   sized = c.args.self.now.sized;
 }
 

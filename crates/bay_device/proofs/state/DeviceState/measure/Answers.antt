@@ -2,7 +2,7 @@ use Rattle.std.proofs.Common.{◌≡◌, Some, ap, sym, ◌∙◌, slice_get, op
 use Rattle.std.proofs.lemmas.Int.{to_z-of_z}
 use Rattle.std.proofs.lemmas.Option.{slice_get-map}
 use Rattle.bay_device.specs.Device.{measure_outcome}
-use Rattle.bay_device.specs.Layout.{layout_of, status_in, field_rows, meters_of}
+use Rattle.bay_device.specs.Layout.{layout_of, status_in, meters_of}
 use Rattle.bay_device.specs.Names.{field_names}
 use Rattle.bay_device.specs.StateView.{state_view}
 use Rattle.bay_device.specs.declared.meter.BoundMeter.{BoundMeter}
@@ -21,6 +21,7 @@ pub invariant_of-self : goal.invariant_of-self
 invariant_of-self c = record {
   bound = rw c.take_measure-changed.ensures.layout c.args.self.now.bound;
   metered = rw c.take_measure-changed.ensures.layout c.args.self.now.metered;
+  typed = c.args.self.now.typed;
   sized = c.args.self.now.sized;
 }
 
