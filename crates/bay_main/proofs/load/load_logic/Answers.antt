@@ -7,7 +7,7 @@ use Rattle.bay_main.proofs.load.load_logic.Goals as goal
 pub returns-in-Ok : goal.returns-in-Ok
 returns-in-Ok c =
     let text : is_utf8 c.args.logic.now ≡ true = is_utf8-from_IsUtf8 c.args.logic.now c.in-Ok.ensures.cases.1 in
-    rw text (rw c.in-Ok.ensures.cases.0 at c.load.ensures)
+    rw text (rw c.in-Ok.ensures.cases.0 at c.load.ensures.device)
 
 pub returns-in-Err : goal.returns-in-Err
 returns-in-Err c =
