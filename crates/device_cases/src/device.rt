@@ -1,0 +1,122 @@
+// A device, call by call: its steps, its runs, its look-ups and its rows.
+use crate::words::{field_of, first_word, leaf_text, number_text, place_of, position_of};
+use anyhow::{Context, Result, bail};
+use bay_device::device::Device;
+use bay_device::event::{Event, Step};
+use bay_device::fault::StepFault;
+use bay_tree::tree::Tree;
+use std::alloc::{AllocError, Global};
+
+/// An event in words: `scan`, `contact SWITCH POSITION`, `input INPUT 0` or `1`, `measure METER FIELD VALUE`.
+fn event_of(words: &str) -> Result<Event> {
+    let (what, rest) = first_word(words);
+    if what == "scan" {
+        return Ok(Event::Scan);
+    }
+    let (place, rest) = first_word(rest);
+    let place = place_of(place)?;
+    match what {
+        "contact" => Ok(Event::Contact {
+            switch: place,
+            position: position_of(rest)?,
+        }),
+        "input" => Ok(Event::Input {
+            input: place,
+            value: rest == "1",
+        }),
+        "measure" => {
+            let (field, value) = first_word(rest);
+            Ok(Event::Measure {
+                meter: place,
+                field: field_of(field)?,
+                value: value.parse::<i32>().context(value)?,
+            })
+        }
+        _ => bail!("there is no event {what}"),
+    }
+}
+
+/// A moment and an event.
+fn timed_event(words: &str) -> Result<(u64, Event)> {
+    let (now, event) = first_word(words);
+    let now = now.parse::<u64>().context(words)?;
+    Ok((now, event_of(event)?))
+}
+
+/// The answer to an event: `ok`, `scan` where the program ran, or `refused NUMBER`.
+fn step_text(alloc: Global, answer: &Result<Step, StepFault>) -> Result<String, AllocError> {
+    match answer {
+        Ok(step) => String::from_str(alloc, if step.scanned { "scan" } else { "ok" }),
+        Err(fault) => format!(in alloc; "refused {}", fault.code()),
+    }
+}
+
+/// The answers to events, parted by semicolons.
+fn steps_text(alloc: Global, answers: &[Result<Step, StepFault>]) -> Result<String, AllocError> {
+    let mut text = String::new(alloc);
+    for answer in answers {
+        if !text.as_str().is_empty() {
+            text.push_str("; ")?;
+        }
+        text.push_str(step_text(alloc, answer)?.as_str())?;
+    }
+    Ok(text)
+}
+
+/// The answers of a run of events, which are parted by semicolons.
+fn run_text(alloc: Global, device: &mut Device, words: &str) -> Result<String> {
+    let mut events = Vec::new(alloc);
+    for event in words.split("; ") {
+        events.push(timed_event(event)?)?;
+    }
+    let answers = device.run(events.as_slice())?;
+    Ok(steps_text(alloc, answers.as_slice())?)
+}
+
+/// The value of the row with this name.
+fn row_text(alloc: Global, tree: &Tree, name: &str) -> Result<String> {
+    let handle = tree.find(name)?;
+    Ok(leaf_text(alloc, tree.get(handle))?)
+}
+
+/// Whether a switch may be opened and closed, a digit each, or `none`.
+fn ena_word(ena: Option<(bool, bool)>) -> &'static str {
+    match ena {
+        Some((false, false)) => "00",
+        Some((false, true)) => "01",
+        Some((true, false)) => "10",
+        Some((true, true)) => "11",
+        None => "none",
+    }
+}
+
+/// What a device answers to a look-up of a name.
+fn look_up(alloc: Global, device: &Device, what: &str, name: &str) -> Result<String> {
+    let number = match what {
+        "switches" => Some(device.switch_count()),
+        "inputs" => Some(device.input_count()),
+        "meters" => Some(device.meter_count()),
+        "switch" => device.switch(name),
+        "input" => device.input(name),
+        "meter" => device.meter(name),
+        _ => bail!("there is no look-up {what}"),
+    };
+    Ok(number_text(alloc, number)?)
+}
+
+/// What a device answers: to `row NAME` the row's value, to `ena PLACE` and `id PLACE` what is known of the switch there, to `switch`, `input` and
+/// `meter` with a name the place, to `switches`, `inputs` and `meters` how many there are, and to an event what comes of it.
+pub fn answer(alloc: Global, device: &mut Device, question: &str) -> Result<String> {
+    let (what, rest) = first_word(question);
+    if what.parse::<u64>().is_ok() {
+        let (now, event) = timed_event(question)?;
+        return Ok(step_text(alloc, &device.step(now, event))?);
+    }
+    match what {
+        "run" => run_text(alloc, device, rest),
+        "row" => row_text(alloc, device.tree(), rest),
+        "ena" => Ok(String::from_str(alloc, ena_word(device.ena(place_of(rest)?)))?),
+        "id" => Ok(String::from_str(alloc, device.id(place_of(rest)?).unwrap_or("none"))?),
+        _ => look_up(alloc, device, what, rest),
+    }
+}
