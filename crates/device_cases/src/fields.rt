@@ -15,8 +15,8 @@ fn switch_text(alloc: Global, switch: &Switch) -> Result<String, AllocError> {
 }
 
 /// The name at a place of a list.
-fn name_at(alloc: Global, names: &[Text], place: &str) -> Result<String> {
-    let name = names.get(place_of(place)?).context(place)?;
+fn name_at(alloc: Global, names: &[Text], place: usize) -> Result<String> {
+    let name = names.get(place).context("no such place")?;
     Ok(String::from_str(alloc, name.as_str())?)
 }
 
@@ -41,71 +41,119 @@ fn meter_text(alloc: Global, bay: &Bay, place: usize) -> Result<String> {
     Ok(meter_name(alloc, bay, place)?.into_string())
 }
 
-/// What a bay answers to a question on its nameplate and on how many switches, inputs and meters it has.
-fn plate_text(alloc: Global, bay: &Bay, what: &str) -> Result<String> {
-    let text = match what {
-        "domain" => bay.domain.as_str(),
-        "vendor" => bay.vendor.as_str(),
-        "model" => bay.model.as_str(),
-        "revision" => bay.revision.as_str(),
-        "age" => return Ok(format!(in alloc; "{}", bay.scan_max_age_ms)?),
-        "switches" => return Ok(number_text(alloc, Some(bay.switches.as_slice().len()))?),
-        "inputs" => return Ok(number_text(alloc, Some(bay.inputs.as_slice().len()))?),
-        "meters" => return Ok(number_text(alloc, Some(bay.meters.as_slice().len()))?),
-        _ => bail!("there is no field {what}"),
-    };
-    Ok(String::from_str(alloc, text)?)
+/// A text of a bay's nameplate.
+fn plate_word<'a>(bay: &'a Bay, what: &str) -> Option<&'a str> {
+    match what {
+        "domain" => Some(bay.domain.as_str()),
+        "vendor" => Some(bay.vendor.as_str()),
+        "model" => Some(bay.model.as_str()),
+        "revision" => Some(bay.revision.as_str()),
+        _ => None,
+    }
+}
+
+/// How many switches, inputs or meters a bay has.
+fn count_of(bay: &Bay, what: &str) -> Option<usize> {
+    match what {
+        "switches" => Some(bay.switches.as_slice().len()),
+        "inputs" => Some(bay.inputs.as_slice().len()),
+        "meters" => Some(bay.meters.as_slice().len()),
+        _ => None,
+    }
+}
+
+/// What a bay answers to a question without a place.
+fn plate_text(alloc: Global, bay: &Bay, what: &str) -> Result<String, AllocError> {
+    if what == "age" {
+        return format!(in alloc; "{}", bay.scan_max_age_ms);
+    }
+    match plate_word(bay, what) {
+        Some(word) => String::from_str(alloc, word),
+        None => number_text(alloc, count_of(bay, what)),
+    }
+}
+
+/// What a bay answers to a question with a place.
+fn text_at(alloc: Global, bay: &Bay, what: &str, place: usize) -> Result<String> {
+    match what {
+        "switch" => {
+            let switch = bay.switches.as_slice().get(place).context(what)?;
+            Ok(switch_text(alloc, switch)?)
+        }
+        "input" => name_at(alloc, bay.inputs.as_slice(), place),
+        "meter" => name_at(alloc, bay.meters.as_slice(), place),
+        "measures" => meter_text(alloc, bay, place),
+        _ => node_text(alloc, bay, what, place),
+    }
+}
+
+/// What a bay answers to a question.
+fn bay_text(alloc: Global, bay: &Bay, question: &str) -> Result<String> {
+    match question.split_once(" ") {
+        Some((what, place)) => text_at(alloc, bay, what, place_of(place)?),
+        None => Ok(plate_text(alloc, bay, question)?),
+    }
 }
 
 /// What the bay of a file answers to a question: `domain`, `vendor`, `model`, `revision`, `age` (of a scan at most, in milliseconds), `switches`,
 /// `inputs`, `meters` (how many); or with a place `switch`, `input`, `meter`, and `position`, `control`, `interlocking`, `measures` (names of nodes).
 pub fn field(alloc: Global, bay: &str, question: &str) -> Result<String> {
     let bay = read_bay(alloc, bay)?;
-    let (what, place) = first_word(question);
-    match what {
-        "switch" => {
-            let switch = bay.switches.as_slice().get(place_of(place)?);
-            Ok(switch_text(alloc, switch.context(place)?)?)
-        }
-        "input" => name_at(alloc, bay.inputs.as_slice(), place),
-        "meter" => name_at(alloc, bay.meters.as_slice(), place),
-        "position" | "control" | "interlocking" => node_text(alloc, &bay, what, place_of(place)?),
-        "measures" => meter_text(alloc, &bay, place_of(place)?),
-        _ => plate_text(alloc, &bay, what),
-    }
+    bay_text(alloc, &bay, question)
 }
 
-/// The section of a bay, and no more.
-fn section() -> &'static str {
-    "bay = { domain = \"B\", vendor = \"V\", model = \"M\", revision = \"1\", scan_max_age_ms = 0 }\n"
-}
-
-/// Appends so many entries of a list, with a name of its own each at the key.
-fn push_entries(alloc: Global, text: &mut String, list: &str, key: &str, count: u32) -> Result<()> {
-    let others = if list == "switch" {
+/// The lines of a switch beside its id; none of an input or a meter.
+fn others_of(list: &str) -> &'static str {
+    if list == "switch" {
         "kind = \"breaker\"\ncontrol = \"status\"\n"
     } else {
         ""
-    };
+    }
+}
+
+/// So many entries of a list, with a name of its own each at the key.
+fn entries(alloc: Global, list: &str, key: &str, count: u32) -> Result<String, AllocError> {
+    let others = others_of(list);
+    let mut text = String::new(alloc);
     for i in 0..count {
         let entry = format!(in alloc; "[[{list}]]\n{key} = \"{list}{i}\"\n{others}")?;
         text.push_str(entry.as_str())?;
     }
-    Ok(())
+    Ok(text)
 }
 
-/// What becomes of a bay with so many switches, inputs and meters, and these last lines: `accepted`, or `refused NUMBER`.
+/// A bay file with so many switches, inputs and meters.
+fn bay_file(alloc: Global, counts: (u32, u32, u32), last: &str) -> Result<String, AllocError> {
+    let (switches, inputs, meters) = counts;
+    let switches = entries(alloc, "switch", "id", switches)?;
+    let inputs = entries(alloc, "input", "name", inputs)?;
+    let meters = entries(alloc, "meter", "id", meters)?;
+    format!(in alloc;
+        "bay = {{ domain = \"B\", vendor = \"V\", model = \"M\", revision = \"1\", scan_max_age_ms = 0 }}\n{}{}{}{last}\n",
+        switches.as_str(),
+        inputs.as_str(),
+        meters.as_str()
+    )
+}
+
+/// What becomes of a bay file: `accepted`, or `refused NUMBER`.
+fn verdict(alloc: Global, text: &str) -> Result<String, AllocError> {
+    match read_bay(alloc, text) {
+        Ok(_) => String::from_str(alloc, "accepted"),
+        Err(fault) => format!(in alloc; "refused {}", fault.code().unwrap_or(0)),
+    }
+}
+
+/// What becomes of a bay with so many switches, inputs and meters, and this last line.
 pub fn many(alloc: Global, question: &str) -> Result<String> {
     let (switches, rest) = first_word(question);
     let (inputs, rest) = first_word(rest);
     let (meters, last) = first_word(rest);
-    let mut text = String::from_str(alloc, section())?;
-    push_entries(alloc, &mut text, "switch", "id", switches.parse::<u32>()?)?;
-    push_entries(alloc, &mut text, "input", "name", inputs.parse::<u32>()?)?;
-    push_entries(alloc, &mut text, "meter", "id", meters.parse::<u32>()?)?;
-    text.push_str(last)?;
-    match read_bay(alloc, text.as_str()) {
-        Ok(_) => Ok(String::from_str(alloc, "accepted")?),
-        Err(fault) => Ok(format!(in alloc; "refused {}", fault.code().context("out of memory")?)?),
-    }
+    let counts = (
+        switches.parse::<u32>()?,
+        inputs.parse::<u32>()?,
+        meters.parse::<u32>()?,
+    );
+    let text = bay_file(alloc, counts, last)?;
+    Ok(verdict(alloc, text.as_str())?)
 }

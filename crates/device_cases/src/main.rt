@@ -29,104 +29,110 @@ use scenario::{Texts, check_bay, check_octets, check_report};
 use std::alloc::Global;
 use std::io::Read;
 
-/// What the sections before a section make of it, and how many cases there were.
-#[derive(Drop)]
-struct Session {
-    texts: Texts,
-    device: Option<Device>,
-    cases: u32,
+/// Fails where an answer isn't the one that is wanted.
+fn check_answer(found: &str, wanted: &str) -> Result<()> {
+    if found != wanted {
+        bail!("it is {found}");
+    }
+    Ok(())
 }
 
-impl Session {
-    /// The answer to a question, by the section that it stands in.
-    fn answer(&mut self, alloc: Global, head: &str, question: &str) -> Result<String> {
+/// The answer to a question that no device is asked, by the section that it stands in.
+fn answer(alloc: Global, texts: &Texts, head: &str, question: &str) -> Result<String> {
+    match head {
+        "fields" => fields::field(alloc, texts.bay, question),
+        "many" => fields::many(alloc, question),
+        "trees" => names::tree_word(alloc, question),
+        "messages" => messages::message(alloc, question),
+        "endings" => messages::ending(alloc, question),
+        _ => bail!("no such section"),
+    }
+}
+
+/// The case of a line of a section.
+fn check_line(alloc: Global, texts: &Texts, head: &str, line: &str) -> Result<()> {
+    match head {
+        "bays" => return check_bay(alloc, texts.bay, line),
+        "octets" => return check_octets(alloc, texts, line),
+        _ => {}
+    }
+    let (question, wanted) = line.split_once(" -> ").context("no answer")?;
+    check_answer(answer(alloc, texts, head, question)?.as_str(), wanted)
+}
+
+/// The cases of a section with a case in each line, and how many there are.
+fn check_lines(alloc: Global, texts: &Texts, head: &str, body: &str) -> Result<u32> {
+    let mut cases = 0u32;
+    for line in body.lines() {
+        check_line(alloc, texts, head, line).context(line)?;
+        cases = cases.saturating_add(1);
+    }
+    Ok(cases)
+}
+
+/// A line of what a device is asked or does.
+fn check_step(alloc: Global, device: &mut Device, line: &str) -> Result<()> {
+    let (question, wanted) = line.split_once(" -> ").context("no answer")?;
+    check_answer(device::answer(alloc, device, question)?.as_str(), wanted)
+}
+
+/// The lines of what a device is asked or does, and how many there are.
+fn check_steps(alloc: Global, device: &mut Device, body: &str) -> Result<u32> {
+    let mut cases = 0u32;
+    for line in body.lines() {
+        check_step(alloc, device, line).context(line)?;
+        cases = cases.saturating_add(1);
+    }
+    Ok(cases)
+}
+
+/// The lines of what a new device of the texts is asked or does, and how many there are.
+fn check_device(alloc: Global, texts: &Texts, body: &str) -> Result<u32> {
+    let mut device = texts.device(alloc)?;
+    check_steps(alloc, &mut device, body)
+}
+
+/// The cases of a section, and how many there are.
+fn check_section(alloc: Global, texts: &Texts, head: &str, body: &str) -> Result<u32> {
+    match head {
+        "device" => return check_device(alloc, texts, body),
+        "points" => check_points(alloc, texts.bay, body)?,
+        "rows" => check_rows(alloc, texts.bay, body)?,
+        "names" => check_names(alloc, body)?,
+        _ => match head.strip_prefix("report ") {
+            Some(status) => check_report(alloc, texts, status, body)?,
+            None => return check_lines(alloc, texts, head, body),
+        },
+    }
+    Ok(1)
+}
+
+/// Runs the cases of all sections, and counts them.
+fn check_all(alloc: Global, text: &str) -> Result<u32> {
+    let text = text.strip_prefix("== ").context("no section")?;
+    let text = text.strip_suffix("\n").unwrap_or(text);
+    let mut texts = Texts::new();
+    let mut cases = 0u32;
+    for section in text.split("\n== ") {
+        let (head, body) = section.split_once("\n").unwrap_or((section, ""));
         match head {
-            "fields" => fields::field(alloc, self.texts.bay.as_str(), question),
-            "many" => fields::many(alloc, question),
-            "trees" => names::tree_word(alloc, question),
-            "messages" => messages::message(alloc, question),
-            "endings" => messages::ending(alloc, question),
+            "bay" => texts.bay = body,
+            "frame" => texts.frame = body,
+            "logic" => texts.logic = body,
+            "trace" => texts.trace = body,
             _ => {
-                let device = self.device.as_mut().context("no device")?;
-                device::answer(alloc, device, question)
+                let more = check_section(alloc, &texts, head, body).context(head)?;
+                cases = cases.saturating_add(more);
             }
         }
     }
-
-    /// The case of a line of a section.
-    fn line(&mut self, alloc: Global, head: &str, line: &str) -> Result<()> {
-        match head {
-            "bays" => return check_bay(alloc, self.texts.bay.as_str(), line),
-            "octets" => return check_octets(alloc, &self.texts, line),
-            _ => {}
-        }
-        let (question, wanted) = line.split_once(" -> ").context("no answer")?;
-        let found = self.answer(alloc, head, question)?;
-        if found.as_str() != wanted {
-            bail!("it is {}", found.as_str());
-        }
-        Ok(())
-    }
-
-    /// The cases of a section with a case in each line.
-    fn lines(&mut self, alloc: Global, head: &str, body: &str) -> Result<()> {
-        for line in body.lines() {
-            self.line(alloc, head, line).context(line)?;
-            self.cases = self.cases.saturating_add(1);
-        }
-        Ok(())
-    }
-
-    /// The case that a section is.
-    fn whole(&mut self, alloc: Global, head: &str, body: &str) -> Result<()> {
-        let bay = self.texts.bay.as_str();
-        match head {
-            "points" => check_points(alloc, bay, body)?,
-            "rows" => check_rows(alloc, bay, body)?,
-            "names" => check_names(alloc, body)?,
-            _ => {
-                let status = head.strip_prefix("report ").context("no such section")?;
-                check_report(alloc, &self.texts, status, body)?;
-            }
-        }
-        self.cases = self.cases.saturating_add(1);
-        Ok(())
-    }
-
-    /// A section: a text, or cases.
-    fn section(&mut self, alloc: Global, head: &str, body: &str) -> Result<()> {
-        match head {
-            "bay" => self.texts.bay = String::from_str(alloc, body)?,
-            "frame" => self.texts.frame = String::from_str(alloc, body)?,
-            "logic" => self.texts.logic = String::from_str(alloc, body)?,
-            "trace" => self.texts.trace = String::from_str(alloc, body)?,
-            "device" => {
-                self.device = Some(self.texts.device(alloc)?);
-                self.lines(alloc, head, body)?;
-            }
-            "bays" | "octets" | "fields" | "many" | "trees" | "messages" | "endings" => {
-                self.lines(alloc, head, body)?;
-            }
-            _ => self.whole(alloc, head, body)?,
-        }
-        Ok(())
-    }
+    Ok(cases)
 }
 
 fn main(rt: HostRuntime) -> Result<()> {
     let mut text = String::new(rt.alloc());
     rt.reader().read_to_string(&mut text)?;
-    let text = text.as_str().strip_prefix("== ").context("no section")?;
-    let text = text.strip_suffix("\n").unwrap_or(text);
-    let mut session = Session {
-        texts: Texts::new(rt.alloc()),
-        device: None,
-        cases: 0,
-    };
-    for section in text.split("\n== ") {
-        let (head, body) = section.split_once("\n").unwrap_or((section, ""));
-        session.section(rt.alloc(), head, body).context(head)?;
-    }
-    println!(&rt; "{} cases agree", session.cases)?;
+    let cases = check_all(rt.alloc(), text.as_str())?;
+    println!(&rt; "{cases} cases agree")?;
     Ok(())
 }

@@ -10,33 +10,33 @@ use std::alloc::Global;
 
 /// The texts that the next case is made of.
 #[derive(Drop)]
-pub struct Texts {
-    pub bay: String,
-    pub frame: String,
-    pub logic: String,
-    pub trace: String,
+pub struct Texts<'a> {
+    pub bay: &'a str,
+    pub frame: &'a str,
+    pub logic: &'a str,
+    pub trace: &'a str,
 }
 
-impl Texts {
+impl Texts<'_> {
     /// No texts yet.
-    pub fn new(alloc: Global) -> Self {
+    pub fn new() -> Self {
         Texts {
-            bay: String::new(alloc),
-            frame: String::new(alloc),
-            logic: String::new(alloc),
-            trace: String::new(alloc),
+            bay: "",
+            frame: "",
+            logic: "",
+            trace: "",
         }
     }
 
     /// The text of the program.
     fn program(&self, alloc: Global) -> Result<String> {
-        Ok(format!(in alloc; "{}\n{}\n", self.frame.as_str(), self.logic.as_str())?)
+        Ok(format!(in alloc; "{}\n{}\n", self.frame, self.logic)?)
     }
 
     /// The device of the bay and the program.
     pub fn device(&self, alloc: Global) -> Result<Device> {
         let program = self.program(alloc)?;
-        Ok(load(alloc, self.bay.as_str(), program.as_str())?)
+        Ok(load(alloc, self.bay, program.as_str())?)
     }
 }
 
@@ -55,11 +55,7 @@ fn check(alloc: Global, scenario: &[u8], report: &[u8], status: u8) -> Result<()
 
 /// The scenario of these texts ends with this status and this report.
 pub fn check_report(alloc: Global, texts: &Texts, status: &str, report: &str) -> Result<()> {
-    let (bay, program, trace) = (
-        texts.bay.as_str(),
-        texts.program(alloc)?,
-        texts.trace.as_str(),
-    );
+    let (bay, program, trace) = (texts.bay, texts.program(alloc)?, texts.trace);
     let scenario = format!(in alloc; "{bay}\n%%\n{}%%\n{trace}\n", program.as_str())?;
     let report = format!(in alloc; "{report}\n")?;
     let status = status.parse::<u8>().context("no status")?;
