@@ -1,5 +1,5 @@
 // A device, call by call: its steps, its runs, its look-ups and its rows.
-use crate::words::{field_of, first_word, leaf_text, number_text, place_of, position_of};
+use crate::words::{field_of, first_word, place_of, position_of};
 use anyhow::{Context, Result, bail};
 use bay_device::device::Device;
 use bay_device::event::{Event, Step};
@@ -18,7 +18,7 @@ fn event_of(words: &str) -> Result<Event> {
     match what {
         "contact" => Ok(Event::Contact {
             switch: place,
-            position: position_of(rest)?,
+            position: position_of(rest).context(rest)?,
         }),
         "input" => Ok(Event::Input {
             input: place,
@@ -28,7 +28,7 @@ fn event_of(words: &str) -> Result<Event> {
             let (field, value) = first_word(rest);
             Ok(Event::Measure {
                 meter: place,
-                field: field_of(field)?,
+                field: field_of(field).context(field)?,
                 value: value.parse::<i32>().context(value)?,
             })
         }
@@ -76,47 +76,37 @@ fn run_text(alloc: Global, device: &mut Device, words: &str) -> Result<String> {
 /// The value of the row with this name.
 fn row_text(alloc: Global, tree: &Tree, name: &str) -> Result<String> {
     let handle = tree.find(name)?;
-    Ok(leaf_text(alloc, tree.get(handle))?)
+    Ok(format!(in alloc; "{:?}", tree.get(handle))?)
 }
 
-/// Whether a switch may be opened and closed, a digit each, or `none`.
-fn ena_word(ena: Option<(bool, bool)>) -> &'static str {
-    match ena {
-        Some((false, false)) => "00",
-        Some((false, true)) => "01",
-        Some((true, false)) => "10",
-        Some((true, true)) => "11",
-        None => "none",
-    }
-}
-
-/// What a device answers to a look-up of a name.
+/// What a device answers to a look-up of a name, and how many names there are.
 fn look_up(alloc: Global, device: &Device, what: &str, name: &str) -> Result<String> {
-    let number = match what {
-        "switches" => Some(device.switch_count()),
-        "inputs" => Some(device.input_count()),
-        "meters" => Some(device.meter_count()),
-        "switch" => device.switch(name),
-        "input" => device.input(name),
-        "meter" => device.meter(name),
+    let (place, count) = match what {
+        "switch" => (device.switch(name), device.switch_count()),
+        "input" => (device.input(name), device.input_count()),
+        "meter" => (device.meter(name), device.meter_count()),
         _ => bail!("there is no look-up {what}"),
     };
-    Ok(number_text(alloc, number)?)
+    Ok(format!(in alloc; "{place:?} of {count}")?)
 }
 
-/// What a device answers: to `row NAME` the row's value, to `ena PLACE` and `id PLACE` what is known of the switch there, to `switch`, `input` and
-/// `meter` with a name the place, to `switches`, `inputs` and `meters` how many there are, and to an event what comes of it.
+/// What a device knows of the switch at a place: its id, and whether it may be opened and closed.
+fn place_text(alloc: Global, device: &Device, place: usize) -> Result<String, AllocError> {
+    format!(in alloc; "{:?} {:?}", device.id(place), device.ena(place))
+}
+
+/// What a device answers: to `row NAME` the row's value, to `place PLACE` what is known of the switch there, to `switch`, `input` and
+/// `meter` with a name the place, and how many there are, and to an event, or to `run` with events, what comes of it.
 pub fn answer(alloc: Global, device: &mut Device, question: &str) -> Result<String> {
     let (what, rest) = first_word(question);
-    if what.parse::<u64>().is_ok() {
-        let (now, event) = timed_event(question)?;
-        return Ok(step_text(alloc, &device.step(now, event))?);
-    }
     match what {
         "run" => run_text(alloc, device, rest),
         "row" => row_text(alloc, device.tree(), rest),
-        "ena" => Ok(String::from_str(alloc, ena_word(device.ena(place_of(rest)?)))?),
-        "id" => Ok(String::from_str(alloc, device.id(place_of(rest)?).unwrap_or("none"))?),
-        _ => look_up(alloc, device, what, rest),
+        "place" => Ok(place_text(alloc, device, place_of(rest)?)?),
+        "switch" | "input" | "meter" => look_up(alloc, device, what, rest),
+        _ => {
+            let (now, event) = timed_event(question)?;
+            Ok(step_text(alloc, &device.step(now, event))?)
+        }
     }
 }

@@ -3,29 +3,29 @@
 //
 // The cases are sections, each with a head `== NAME`. `bay`, `frame`, `logic` and `trace` are texts, which stand until
 // another takes their place; the logic follows the frame. `report STATUS` is a case: the scenario of these texts ends
-// with this status and this report. `points` and `rows` are what is read of the bay, and `names` those of a tree, which
-// lists them in pages.
+// with this status and this report. `fields`, `nodes` (names of logical nodes), `points` and `rows` are what is read of
+// the bay, and `names` those of a tree, which lists them in pages. Values are spelled as Rust's `{:?}` prints them.
 //
 // In the other sections each line is a case. In `bays` it is `CODE|OLD|NEW`: the bay with OLD replaced by NEW is refused
 // with this number, or accepted where it is 1. In `octets` it is `SCENARIO -> STATUS REPORT`, octet by octet. Else it is
-// `QUESTION -> ANSWER`: in `device` what the device of these texts is asked or does, one line after the other; in `fields` what the bay of the text is
-// asked; in `many` how many switches, inputs and meters a bay file has, with its last line; in `trees` the names of rows; in
+// `QUESTION -> ANSWER`: in `device` what a new device of these texts is asked or does, one line after the other; in
+// `many` how many switches, inputs and meters a bay file has, and its last line; in `trees` the names of rows; in
 // `messages` a fault; in `endings` the answer of a replay.
 #![tactic(auto)]
 
 mod bay;
 mod device;
-mod fields;
+mod many;
 mod messages;
 mod names;
 mod scenario;
 mod words;
 
 use anyhow::{Context, Result, bail};
-use bay::{check_points, check_rows};
+use bay::check_bay;
 use bay_device::device::Device;
 use names::check_names;
-use scenario::{Texts, check_bay, check_octets, check_report};
+use scenario::{Texts, check_change, check_octets, check_report};
 use std::alloc::Global;
 use std::io::Read;
 
@@ -38,10 +38,9 @@ fn check_answer(found: &str, wanted: &str) -> Result<()> {
 }
 
 /// The answer to a question that no device is asked, by the section that it stands in.
-fn answer(alloc: Global, texts: &Texts, head: &str, question: &str) -> Result<String> {
+fn answer(alloc: Global, head: &str, question: &str) -> Result<String> {
     match head {
-        "fields" => fields::field(alloc, texts.bay, question),
-        "many" => fields::many(alloc, question),
+        "many" => many::many(alloc, question),
         "trees" => names::tree_word(alloc, question),
         "messages" => messages::message(alloc, question),
         "endings" => messages::ending(alloc, question),
@@ -52,12 +51,12 @@ fn answer(alloc: Global, texts: &Texts, head: &str, question: &str) -> Result<St
 /// The case of a line of a section.
 fn check_line(alloc: Global, texts: &Texts, head: &str, line: &str) -> Result<()> {
     match head {
-        "bays" => return check_bay(alloc, texts.bay, line),
+        "bays" => return check_change(alloc, texts.bay, line),
         "octets" => return check_octets(alloc, texts, line),
         _ => {}
     }
     let (question, wanted) = line.split_once(" -> ").context("no answer")?;
-    check_answer(answer(alloc, texts, head, question)?.as_str(), wanted)
+    check_answer(answer(alloc, head, question)?.as_str(), wanted)
 }
 
 /// The cases of a section with a case in each line, and how many there are.
@@ -96,8 +95,7 @@ fn check_device(alloc: Global, texts: &Texts, body: &str) -> Result<u32> {
 fn check_section(alloc: Global, texts: &Texts, head: &str, body: &str) -> Result<u32> {
     match head {
         "device" => return check_device(alloc, texts, body),
-        "points" => check_points(alloc, texts.bay, body)?,
-        "rows" => check_rows(alloc, texts.bay, body)?,
+        "fields" | "nodes" | "points" | "rows" => check_bay(alloc, texts.bay, head, body)?,
         "names" => check_names(alloc, body)?,
         _ => match head.strip_prefix("report ") {
             Some(status) => check_report(alloc, texts, status, body)?,

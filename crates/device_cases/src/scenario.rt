@@ -63,7 +63,7 @@ pub fn check_report(alloc: Global, texts: &Texts, status: &str, report: &str) ->
 }
 
 /// The bay with one part of its text replaced is refused with a number, or accepted where that is 1.
-pub fn check_bay(alloc: Global, bay: &str, line: &str) -> Result<()> {
+pub fn check_change(alloc: Global, bay: &str, line: &str) -> Result<()> {
     let (code, change) = line.split_once("|").context(line)?;
     let (old, new) = change.split_once("|").context(line)?;
     let (front, back) = bay.split_once(old).context(line)?;
