@@ -6,16 +6,16 @@
 // with this status and this report. `fields`, `nodes` (names of logical nodes), `points` and `rows` are what is read of
 // the bay, and `names` those of a tree, which lists them in pages. Values are spelled as Rust's `{:?}` prints them.
 //
-// In the other sections each line is a case. In `bays` it is `CODE|OLD|NEW`: the bay with OLD replaced by NEW is refused
-// with this number, or accepted where it is 1. In `octets` it is `SCENARIO -> STATUS REPORT`, octet by octet. Else it is
+// In the other sections each line is a case. In `octets` it is `SCENARIO -> STATUS REPORT`, octet by octet. Else it is
 // `QUESTION -> ANSWER`: in `device` what a new device of these texts is asked or does, one line after the other; in
-// `many` how many switches, inputs and meters a bay file has, and its last line; in `trees` the names of rows; in
-// `messages` a fault; in `endings` the answer of a replay.
+// `bays` a part of the bay file that is replaced and what by, `OLD|NEW`, and what becomes of that file; in `many` how many
+// switches, inputs and meters a bay file has, and its last line; in `trees` the names of rows; in `messages` a fault; in
+// `endings` the answer of a replay.
 #![tactic(auto)]
 
 mod bay;
 mod device;
-mod many;
+mod files;
 mod messages;
 mod names;
 mod scenario;
@@ -25,7 +25,7 @@ use anyhow::{Context, Result, bail};
 use bay::check_bay;
 use bay_device::device::Device;
 use names::check_names;
-use scenario::{Texts, check_change, check_octets, check_report};
+use scenario::{Texts, check_octets, check_report, device_of};
 use std::alloc::Global;
 use std::io::Read;
 
@@ -38,9 +38,10 @@ fn check_answer(found: &str, wanted: &str) -> Result<()> {
 }
 
 /// The answer to a question that no device is asked, by the section that it stands in.
-fn answer(alloc: Global, head: &str, question: &str) -> Result<String> {
+fn answer(alloc: Global, texts: &Texts, head: &str, question: &str) -> Result<String> {
     match head {
-        "many" => many::many(alloc, question),
+        "bays" => files::changed(alloc, texts.bay, question),
+        "many" => files::many(alloc, question),
         "trees" => names::tree_word(alloc, question),
         "messages" => messages::message(alloc, question),
         "endings" => messages::ending(alloc, question),
@@ -50,13 +51,11 @@ fn answer(alloc: Global, head: &str, question: &str) -> Result<String> {
 
 /// The case of a line of a section.
 fn check_line(alloc: Global, texts: &Texts, head: &str, line: &str) -> Result<()> {
-    match head {
-        "bays" => return check_change(alloc, texts.bay, line),
-        "octets" => return check_octets(alloc, texts, line),
-        _ => {}
+    if head == "octets" {
+        return check_octets(alloc, texts, line);
     }
     let (question, wanted) = line.split_once(" -> ").context("no answer")?;
-    check_answer(answer(alloc, head, question)?.as_str(), wanted)
+    check_answer(answer(alloc, texts, head, question)?.as_str(), wanted)
 }
 
 /// The cases of a section with a case in each line, and how many there are.
@@ -87,7 +86,7 @@ fn check_steps(alloc: Global, device: &mut Device, body: &str) -> Result<u32> {
 
 /// The lines of what a new device of the texts is asked or does, and how many there are.
 fn check_device(alloc: Global, texts: &Texts, body: &str) -> Result<u32> {
-    let mut device = texts.device(alloc)?;
+    let mut device = device_of(alloc, texts)?;
     check_steps(alloc, &mut device, body)
 }
 

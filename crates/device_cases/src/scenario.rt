@@ -6,7 +6,7 @@ use bay_device::load::load;
 use bay_io::reader::WatchedReader;
 use bay_io::writer::WatchedWriter;
 use bay_main::replay::replay_run;
-use std::alloc::Global;
+use std::alloc::{AllocError, Global};
 
 /// The texts that the next case is made of.
 #[derive(Drop)]
@@ -27,17 +27,17 @@ impl Texts<'_> {
             trace: "",
         }
     }
+}
 
-    /// The text of the program.
-    fn program(&self, alloc: Global) -> Result<String> {
-        Ok(format!(in alloc; "{}\n{}\n", self.frame, self.logic)?)
-    }
+/// The text of the program.
+fn program_of(alloc: Global, texts: &Texts) -> Result<String, AllocError> {
+    format!(in alloc; "{}\n{}\n", texts.frame, texts.logic)
+}
 
-    /// The device of the bay and the program.
-    pub fn device(&self, alloc: Global) -> Result<Device> {
-        let program = self.program(alloc)?;
-        Ok(load(alloc, self.bay, program.as_str())?)
-    }
+/// The device of the bay and the program.
+pub fn device_of(alloc: Global, texts: &Texts) -> Result<Device> {
+    let program = program_of(alloc, texts)?;
+    Ok(load(alloc, texts.bay, program.as_str())?)
 }
 
 /// Replays a scenario, and fails where it ends with another report or status, or where the report isn't flushed.
@@ -55,51 +55,40 @@ fn check(alloc: Global, scenario: &[u8], report: &[u8], status: u8) -> Result<()
 
 /// The scenario of these texts ends with this status and this report.
 pub fn check_report(alloc: Global, texts: &Texts, status: &str, report: &str) -> Result<()> {
-    let (bay, program, trace) = (texts.bay, texts.program(alloc)?, texts.trace);
+    let status = status.parse::<u8>().context("no status")?;
+    let (bay, program, trace) = (texts.bay, program_of(alloc, texts)?, texts.trace);
     let scenario = format!(in alloc; "{bay}\n%%\n{}%%\n{trace}\n", program.as_str())?;
     let report = format!(in alloc; "{report}\n")?;
-    let status = status.parse::<u8>().context("no status")?;
     check(alloc, scenario.as_bytes(), report.as_bytes(), status)
 }
 
-/// The bay with one part of its text replaced is refused with a number, or accepted where that is 1.
-pub fn check_change(alloc: Global, bay: &str, line: &str) -> Result<()> {
-    let (code, change) = line.split_once("|").context(line)?;
-    let (old, new) = change.split_once("|").context(line)?;
-    let (front, back) = bay.split_once(old).context(line)?;
-    let scenario = format!(in alloc; "{front}{new}{back}\n%%\nPROGRAM P\nEND_PROGRAM\n%%\n")?;
-    if code == "1" {
-        return check(alloc, scenario.as_bytes(), b"loaded\n", 0);
-    }
-    let report = format!(in alloc; "load refused {code}\n")?;
-    check(alloc, scenario.as_bytes(), report.as_bytes(), 1)
-}
-
-/// Appends what a name stands for: a line's end, an octet that no UTF-8 has, the bay or the program.
-fn push_named(alloc: Global, octets: &mut Vec<u8>, texts: &Texts, name: &str) -> Result<()> {
+/// What a name stands for: a line's end, an octet that no UTF-8 has, the bay, or a part of the program.
+fn octets_named<'a>(texts: &'a Texts, name: &str) -> Option<&'a [u8]> {
     match name {
-        "LF" => octets.push(b'\n')?,
-        "CR" => octets.push(b'\r')?,
-        "FF" => octets.push(255)?,
-        "bay" => octets.extend_from_slice(texts.bay.as_bytes())?,
-        "program" => octets.extend_from_slice(texts.program(alloc)?.as_bytes())?,
-        _ => bail!("nothing is called {name}"),
+        "LF" => Some(b"\n"),
+        "CR" => Some(b"\r"),
+        "FF" => Some(b"\xff"),
+        "bay" => Some(texts.bay.as_bytes()),
+        "frame" => Some(texts.frame.as_bytes()),
+        "logic" => Some(texts.logic.as_bytes()),
+        _ => None,
     }
-    Ok(())
 }
 
-/// The octets of a text in which `<LF>`, `<CR>`, `<FF>`, `<bay>` and `<program>` stand for others.
+/// Appends a piece of a text, which begins with a name and `>`, or has none.
+fn push_piece(octets: &mut Vec<u8>, texts: &Texts, piece: &str) -> Result<()> {
+    let Some((name, rest)) = piece.split_once(">") else {
+        return Ok(octets.extend_from_slice(piece.as_bytes())?);
+    };
+    octets.extend_from_slice(octets_named(texts, name).context("no such name")?)?;
+    Ok(octets.extend_from_slice(rest.as_bytes())?)
+}
+
+/// The octets of a text in which `<LF>`, `<CR>`, `<FF>`, `<bay>`, `<frame>` and `<logic>` stand for others.
 fn octets_of(alloc: Global, texts: &Texts, text: &str) -> Result<Vec<u8>> {
     let mut octets = Vec::new(alloc);
     for piece in text.split("<") {
-        let rest = match piece.split_once(">") {
-            Some((name, rest)) => {
-                push_named(alloc, &mut octets, texts, name)?;
-                rest
-            }
-            None => piece,
-        };
-        octets.extend_from_slice(rest.as_bytes())?;
+        push_piece(&mut octets, texts, piece)?;
     }
     Ok(octets)
 }

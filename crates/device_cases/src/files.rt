@@ -1,7 +1,7 @@
-// Bay files with many entries.
+// What becomes of bay files: with one part replaced, or with many entries.
 use crate::words::first_word;
-use anyhow::Result;
-use bay_config::read::read_bay;
+use anyhow::{Context, Result};
+use bay_device::load::load;
 use std::alloc::{AllocError, Global};
 
 /// So many entries of a list, with a name of its own each at the key, and the other lines.
@@ -40,12 +40,20 @@ fn bay_file(
     )
 }
 
-/// What becomes of a bay file: `accepted`, or `refused NUMBER`.
-fn verdict(alloc: Global, text: &str) -> Result<String, AllocError> {
-    match read_bay(alloc, text) {
+/// What becomes of a bay file, with a program of no instructions: `accepted`, or its fault.
+fn verdict(alloc: Global, bay: &str) -> Result<String, AllocError> {
+    match load(alloc, bay, "PROGRAM P\nEND_PROGRAM\n") {
         Ok(_) => String::from_str(alloc, "accepted"),
-        Err(fault) => format!(in alloc; "refused {}", fault.code().unwrap_or(0)),
+        Err(fault) => format!(in alloc; "{fault}"),
     }
+}
+
+/// What becomes of a bay file with one part replaced, `OLD|NEW`.
+pub fn changed(alloc: Global, bay: &str, question: &str) -> Result<String> {
+    let (old, new) = question.split_once("|").context("no change")?;
+    let (front, back) = bay.split_once(old).context("no such part")?;
+    let text = format!(in alloc; "{front}{new}{back}")?;
+    Ok(verdict(alloc, text.as_str())?)
 }
 
 /// What becomes of a bay with so many switches, inputs and meters, and this last line.
