@@ -1,195 +1,98 @@
-// What is read of a bay, and the names of a tree.
-use anyhow::{Context, Result, bail};
-use bay_base::text::Text;
-use bay_base::types::ElementaryType;
-use bay_config::bay::{MeterField, Origin, Point, SwitchPoint};
+// What is read of a bay, line by line: its fields, the names of its nodes, the points of its program, and the rows of its tree.
+use crate::words::{after, check_end};
+use anyhow::Result;
+use bay_config::bay::{Bay, Point};
+use bay_config::nodes::{control_name, interlocking_name, meter_name, node_name};
 use bay_config::read::read_bay;
-use bay_tree::leaf::{Dbpos, Leaf, Quality};
 use bay_tree::row::Row;
-use bay_tree::search::is_tree;
-use bay_tree::tree::Tree;
-use std::alloc::Global;
+use std::alloc::{AllocError, Global};
 
-/// A type in a word.
-fn word_of_type(kind: ElementaryType) -> &'static str {
-    match kind {
-        ElementaryType::Bool => "BOOL",
-        ElementaryType::Int => "INT",
-        ElementaryType::Dint => "DINT",
-        ElementaryType::Lint | ElementaryType::Time => "other",
+/// A point in words: name, type, whether it may be written, and what it stands for.
+fn point_text(alloc: Global, point: &Point) -> Result<String, AllocError> {
+    format!(in alloc;
+        "{} {:?} {} {:?}",
+        point.name.as_str(),
+        point.kind,
+        point.writable,
+        point.origin
+    )
+}
+
+/// A row in words: name and value.
+fn row_text(alloc: Global, row: &Row) -> Result<String, AllocError> {
+    format!(in alloc; "{} {:?}", row.name.as_str(), row.leaf)
+}
+
+/// The points are these, a line each.
+fn check_points(alloc: Global, points: &[Point], wanted: &str) -> Result<()> {
+    let mut rest = wanted;
+    for point in points {
+        rest = after(rest, point_text(alloc, point)?.as_str())?;
+    }
+    check_end(rest)
+}
+
+/// The rows are these, a line each.
+fn check_rows(alloc: Global, rows: &[Row], wanted: &str) -> Result<()> {
+    let mut rest = wanted;
+    for row in rows {
+        rest = after(rest, row_text(alloc, row)?.as_str())?;
+    }
+    check_end(rest)
+}
+
+/// The fields of a bay but for points and rows are these, a line each.
+fn check_fields(alloc: Global, bay: &Bay, wanted: &str) -> Result<()> {
+    let (domain, vendor) = (bay.domain.as_str(), bay.vendor.as_str());
+    let (model, revision) = (bay.model.as_str(), bay.revision.as_str());
+    let plate = format!(in alloc;
+        "{domain} {vendor} {model} {revision} {}",
+        bay.scan_max_age_ms
+    )?;
+    let rest = after(wanted, plate.as_str())?;
+    let lists = format!(in alloc; "{:?}\n{:?}\n{:?}", bay.switches, bay.inputs, bay.meters)?;
+    check_end(after(rest, lists.as_str())?)
+}
+
+/// The names of the logical nodes of the switches come first, a line for each switch, and what follows them.
+fn after_switch_nodes<'a>(alloc: Global, bay: &Bay, wanted: &'a str) -> Result<&'a str> {
+    let mut rest = wanted;
+    for place in 0..bay.switches.as_slice().len() {
+        let node = node_name(alloc, bay, place)?;
+        let control = control_name(alloc, bay, place)?;
+        let interlocking = interlocking_name(alloc, bay, place)?;
+        let names = format!(in alloc;
+            "{} {} {}",
+            node.as_str(),
+            control.as_str(),
+            interlocking.as_str()
+        )?;
+        rest = after(rest, names.as_str())?;
+    }
+    Ok(rest)
+}
+
+/// The names of the logical nodes are these: a line for each switch with three, and a line for each meter.
+fn check_nodes(alloc: Global, bay: &Bay, wanted: &str) -> Result<()> {
+    let mut rest = after_switch_nodes(alloc, bay, wanted)?;
+    for place in 0..bay.meters.as_slice().len() {
+        rest = after(rest, meter_name(alloc, bay, place)?.as_str())?;
+    }
+    check_end(rest)
+}
+
+/// What a section tells of a bay.
+fn check_told(alloc: Global, bay: &Bay, head: &str, wanted: &str) -> Result<()> {
+    match head {
+        "fields" => check_fields(alloc, bay, wanted),
+        "nodes" => check_nodes(alloc, bay, wanted),
+        "points" => check_points(alloc, bay.points.as_slice(), wanted),
+        _ => check_rows(alloc, bay.rows.as_slice(), wanted),
     }
 }
 
-/// A point of a switch in a word.
-fn word_of_point(point: SwitchPoint) -> &'static str {
-    match point {
-        SwitchPoint::Position => "position",
-        SwitchPoint::Open => "open",
-        SwitchPoint::Closed => "closed",
-        SwitchPoint::EnableOpen => "enable-open",
-        SwitchPoint::EnableClose => "enable-close",
-    }
-}
-
-/// A field of a meter in a word.
-fn word_of_field(field: MeterField) -> &'static str {
-    match field {
-        MeterField::TotW => "total-active-power",
-        MeterField::TotVAr => "total-reactive-power",
-        MeterField::Hz => "frequency",
-        MeterField::PhaseA => "phase-a",
-        MeterField::PhaseB => "phase-b",
-        MeterField::PhaseC => "phase-c",
-    }
-}
-
-/// What a point stands for: the place of its switch, input or meter, and a word.
-fn origin_of(origin: Origin) -> (usize, &'static str) {
-    match origin {
-        Origin::Switch { switch, point } => (switch, word_of_point(point)),
-        Origin::Input { input } => (input, "input"),
-        Origin::Meter { meter, field } => (meter, word_of_field(field)),
-    }
-}
-
-/// A value of a row in a word, where that is enough to tell it.
-fn word_of_leaf(leaf: &Leaf) -> &'static str {
-    match leaf {
-        Leaf::Truth(false) => "FALSE",
-        Leaf::Dbpos(Dbpos::Intermediate) => "intermediate",
-        Leaf::Quality(Quality::Good) => "good",
-        Leaf::Quality(Quality::Invalid) => "invalid",
-        Leaf::Int8(0) => "int8-0",
-        Leaf::Int8(1) => "int8-1",
-        Leaf::Int8(2) => "int8-2",
-        Leaf::Int8(3) => "int8-3",
-        Leaf::Int8(4) => "int8-4",
-        Leaf::Int32(0) => "int32-0",
-        Leaf::Unsigned8(0) => "unsigned8-0",
-        Leaf::Utc(0) => "moment-0",
-        _ => "other",
-    }
-}
-
-/// Whether a word tells the value of a row.
-fn tells_leaf(word: &str, leaf: &Option<Leaf>) -> bool {
-    match leaf {
-        None => word == "structure",
-        Some(Leaf::Octets(octets)) => word == "octets" && octets.as_slice().is_empty(),
-        Some(Leaf::Reference(text)) => word == "reference" && text.as_str().is_empty(),
-        Some(Leaf::Text(text)) => word.strip_prefix("text ") == Some(text.as_str()),
-        Some(Leaf::Unsigned32(number)) => match word.strip_prefix("unsigned32-") {
-            Some(digits) => digits.parse::<u32>().ok() == Some(*number),
-            None => false,
-        },
-        Some(leaf) => word == word_of_leaf(leaf),
-    }
-}
-
-/// The first word of a line, and the others.
-fn first_word(line: &str) -> (&str, &str) {
-    line.split_once(" ").unwrap_or((line, ""))
-}
-
-/// Whether a line tells a point: name, type, `read` or `write`, the place, and what it stands for.
-fn tells(line: &str, point: &Point) -> bool {
-    let (at, word) = origin_of(point.origin);
-    let (name, rest) = first_word(line);
-    let (kind, rest) = first_word(rest);
-    let (right, rest) = first_word(rest);
-    let (place, rest) = first_word(rest);
-    let is_right = (right == "write") == point.writable && (right == "read") != point.writable;
-    let is_typed = kind == word_of_type(point.kind) && is_right;
-    let is_placed = place.parse::<usize>().ok() == Some(at) && rest == word;
-    name == point.name.as_str() && is_typed && is_placed
-}
-
-/// The points of a bay are these, a line each.
-pub fn check_points(alloc: Global, bay: &str, wanted: &str) -> Result<()> {
+/// The fields, nodes, points or rows of the bay of a file are these, a line each.
+pub fn check_bay(alloc: Global, bay: &str, head: &str, wanted: &str) -> Result<()> {
     let bay = read_bay(alloc, bay)?;
-    let points = bay.points.as_slice();
-    let mut count = 0usize;
-    for (line, point) in wanted.lines().zip(points.iter()) {
-        if !tells(line, point) {
-            bail!("{line}");
-        }
-        count = count.saturating_add(1);
-    }
-    if count != points.len() || count != wanted.lines().count() {
-        bail!("there are {count} points");
-    }
-    Ok(())
-}
-
-/// The rows of a bay are these, a line each: name and value.
-pub fn check_rows(alloc: Global, bay: &str, wanted: &str) -> Result<()> {
-    let bay = read_bay(alloc, bay)?;
-    let rows = bay.rows.as_slice();
-    let mut count = 0usize;
-    for (line, row) in wanted.lines().zip(rows.iter()) {
-        let (name, word) = first_word(line);
-        if name != row.name.as_str() || !tells_leaf(word, &row.leaf) {
-            bail!("{line}");
-        }
-        count = count.saturating_add(1);
-    }
-    if count != rows.len() || count != wanted.lines().count() {
-        bail!("there are {count} rows");
-    }
-    Ok(())
-}
-
-/// A tree of rows with these names, of which those are structures that have rows below.
-fn tree_of(alloc: Global, names: &[&str]) -> Result<Tree> {
-    let mut rows = Vec::new(alloc);
-    for name in names {
-        let start = format!(in alloc; "{name}$")?;
-        let is_structure = names.iter().any(|other| other.starts_with(start.as_str()));
-        let leaf = if is_structure {
-            None
-        } else {
-            Some(Leaf::Truth(false))
-        };
-        let name = Text::from_str(alloc, name)?;
-        rows.push(Row { name, leaf })?;
-    }
-    if !is_tree(rows.as_slice()) {
-        bail!("the names are no tree's");
-    }
-    Ok(Tree::build(alloc, rows)?)
-}
-
-/// The names of a tree, in pages of so many.
-fn check_pages(alloc: Global, tree: &Tree, names: &[&str], count: usize) -> Result<()> {
-    let mut at = 0usize;
-    for after in 0..=names.len() {
-        if after != at {
-            continue;
-        }
-        let last = names.get(after.wrapping_sub(1)).copied();
-        let page = tree.names_after(alloc, last, count)?;
-        for name in page.names.as_slice() {
-            if names.get(at).copied() != Some(name.as_str()) {
-                bail!("{} in pages of {count}", name.as_str());
-            }
-            at = at.saturating_add(1);
-        }
-        if page.more != (at < names.len()) || page.names.as_slice().len() > count {
-            bail!("a page of {count} after {after}");
-        }
-    }
-    if at != names.len() {
-        bail!("a name is missing in pages of {count}");
-    }
-    Ok(())
-}
-
-/// A tree lists these names, a line each, in pages of any size.
-pub fn check_names(alloc: Global, wanted: &str) -> Result<()> {
-    let names: Vec<&str> = wanted.lines().collect(alloc)?;
-    let tree = tree_of(alloc, names.as_slice())?;
-    for count in [1usize, 53, 54, 100, 154, 200] {
-        check_pages(alloc, &tree, names.as_slice(), count)?;
-    }
-    Ok(())
+    check_told(alloc, &bay, head, wanted)
 }

@@ -1,15 +1,5 @@
-// Tests of the crates of the device, by their public calls: `tree` of bay_tree, `bay` of bay_config, `device` of
-// bay_device, `replay` of bay_main; `texts` are a bay and its program. Scenarios, bay files and names that are data
-// stand in device_cases.
+// Tests of the device's replay with readers and writers that fail. What can be data stands in device_cases.
 #![tactic(auto)]
 
 #[cfg(test)]
-mod bay;
-#[cfg(test)]
-mod device;
-#[cfg(test)]
 mod replay;
-#[cfg(test)]
-mod texts;
-#[cfg(test)]
-mod tree;

@@ -1,17 +1,14 @@
-// Readers and writers that fail, scenarios that lack a part, and lines that end in CR LF or not at all.
+// Readers and writers that go by a few octets at a time, and that fail.
 ghost use Rattle.std.specs.Prelude.{◌≡◌, Some};
 ghost use Rattle.std.specs.Io.{ReadsAtMost, WritesAtMost};
 ghost use Rattle.std.specs.Io.KnownBytes.{Keeps, ReadConsumes, WriteAppends};
 
-use crate::texts::{bay, logic};
-use bay_io::outbox::WriteFault;
 use bay_io::reader::WatchedReader;
 use bay_io::writer::WatchedWriter;
-use bay_main::replay::{exit_of, replay_run};
+use bay_main::replay::replay_run;
 use std::alloc::Global;
 use std::io;
 use std::io::{ErrorKind, Read, Write};
-use std::process::Abort;
 use std::test::Fail;
 
 /// A reader over octets in memory that gives one octet at a time, and may fail at one read.
@@ -116,65 +113,36 @@ fn outcome_of(
     }
 }
 
-fn check_report<R: Abort + AllocGlobal>(rt: &R, scenario: &[u8], report: &str, status: u8) {
-    let found = outcome_of(rt.alloc(), scenario, 0, 1_000_000, true);
-    assert!(rt;
-        found.report.as_slice() == report.as_bytes() && found.status == status,
-        "for {report}"
-    );
-    assert!(rt;
-        !found.read_failed && !found.write_failed && found.is_flushed,
-        "for {report}"
-    );
+/// A switch, a program without instructions, and two scans.
+fn scenario() -> &'static [u8] {
+    b"bay = { domain = \"B\", vendor = \"V\", model = \"M\", revision = \"1\", scan_max_age_ms = 0 }
+switch = [{ id = \"Q\", kind = \"breaker\", control = \"status\" }]
+%%
+PROGRAM P
+END_PROGRAM
+%%
+1 scan
+2 scan
+"
+}
+
+/// The whole report of the scenario.
+fn report() -> &'static [u8] {
+    b"instructions=2 depth=1 budget=2\n1 scan steps=2 Q=00\n2 scan steps=2 Q=00\n"
 }
 
 #[test]
-fn scenarios_without_a_load(rt: HostRuntime) -> Result<(), Fail> {
-    for (scenario, report, status) in [
-        (b"".as_slice(), "fault 120 line 0\n", 3),
-        (b"%%\n1 scan\n".as_slice(), "fault 120 line 0\n", 3),
-        (b"%%\n%%".as_slice(), "load refused 51\n", 1),
-        (b"\xff\n%%\n\xff\n%%\n".as_slice(), "load refused 50\n", 1),
-        (b"\n%%\n\xff\n%%\n".as_slice(), "load refused 51\n", 1),
-    ] {
-        check_report(&rt, scenario, report, status);
-    }
-    for (logic, report) in [
-        (b"%%\r\n\xff\n%%\n".as_slice(), "load refused 60 line 1\n"),
-        (b"%%\r\n%%\n".as_slice(), "load refused 61 line 1\n"),
-    ] {
-        let mut scenario = Vec::from_slice(rt.alloc(), bay().as_bytes())?;
-        scenario.extend_from_slice(logic)?;
-        check_report(&rt, scenario.as_slice(), report, 1);
-    }
-    Ok(())
-}
-
-#[test]
-fn ends_of_lines(rt: HostRuntime) -> Result<(), Fail> {
-    for (trace, answers, status) in [
-        (
-            "\r\n001000 contact qa1 1\r\n\r\n1000 scan",
-            "1000 scan QA1=00 QB1=11\n",
-            0,
-        ),
-        ("1 scan\r", "fault 120 line 1\n", 3),
-    ] {
-        let (bay, logic) = (bay(), logic());
-        let scenario = format!(in rt.alloc(); "{bay}%%\r\n{logic}%%\n{trace}")?;
-        let report = format!(in rt.alloc(); "loaded\n{answers}")?;
-        check_report(&rt, scenario.as_bytes(), report.as_str(), status);
-    }
+fn goes_by_pieces(rt: HostRuntime) -> Result<(), Fail> {
+    let found = outcome_of(rt.alloc(), scenario(), 0, 1000, true);
+    assert!(rt; found.report.as_slice() == report() && found.status == 0);
+    assert!(rt; !found.read_failed && !found.write_failed && found.is_flushed);
     Ok(())
 }
 
 #[test]
 fn failing_reads(rt: HostRuntime) -> Result<(), Fail> {
-    let (bay, logic) = (bay(), logic());
-    let scenario = format!(in rt.alloc(); "{bay}%%\n{logic}%%\n1 scan\n2 scan\n")?;
-    let text = scenario.as_bytes();
-    for k in 1..=u64::try_from(text.len()).unwrap_or(0) {
-        let found = outcome_of(rt.alloc(), text, k, 1000, true);
+    for k in 1..=u64::try_from(scenario().len()).unwrap_or(0) {
+        let found = outcome_of(rt.alloc(), scenario(), k, 1000, true);
         let is_told = found.report.as_slice() == b"fault 121\n".as_slice() && found.status == 3;
         assert!(rt;
             is_told && found.read_failed && found.is_flushed,
@@ -186,38 +154,15 @@ fn failing_reads(rt: HostRuntime) -> Result<(), Fail> {
 
 #[test]
 fn failing_writes(rt: HostRuntime) -> Result<(), Fail> {
-    let (bay, logic) = (bay(), logic());
-    let scenario = format!(in rt.alloc(); "{bay}%%\n{logic}%%\n1 scan\n2 scan\n")?;
-    let text = scenario.as_bytes();
-    let whole = b"loaded\n1 scan QA1=00 QB1=00\n2 scan QA1=00 QB1=00\n";
+    let whole = report();
     for room in 0..=whole.len() {
-        let found = outcome_of(rt.alloc(), text, 0, room, false);
+        let found = outcome_of(rt.alloc(), scenario(), 0, room, false);
         let is_front = found.report.as_slice() == &whole[..room] && found.status == 255;
         assert!(rt;
             is_front && found.write_failed && !found.is_flushed,
             "at room {room}"
         );
     }
-    Ok(())
-}
-
-#[test]
-fn endings(rt: HostRuntime) -> Result<(), Fail> {
-    for (answer, status, complaint) in [
-        (Ok(0), 0, ""),
-        (Ok(1), 1, ""),
-        (Ok(3), 3, ""),
-        (Err(WriteFault), 3, "fault 122\n"),
-    ] {
-        let ending = exit_of(answer);
-        assert!(rt;
-            ending.status == status && ending.complaint == complaint,
-            "{complaint}"
-        );
-    }
-    let fault = WriteFault;
-    let message = format!(in rt.alloc(); "{fault}")?;
-    assert!(rt; message.as_str() == "a write failed");
     Ok(())
 }
 

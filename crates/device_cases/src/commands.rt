@@ -1,0 +1,28 @@
+// What a command line asks for, and what images load to.
+use anyhow::Result;
+use bay_device::load::load_image;
+use bay_main::words::{WordsFault, job_of};
+use std::alloc::{AllocError, Global};
+
+/// The job that words ask for, which are parted by spaces, as Rust's `{:?}` prints it, or `refused`.
+pub fn job_text(alloc: Global, words: &str) -> Result<String, AllocError> {
+    let words: Vec<&str> = words.split(" ").collect(alloc)?;
+    match job_of(alloc, words.as_slice()) {
+        Ok(job) => format!(in alloc; "{job:?}"),
+        Err(WordsFault::Refused(_)) => String::from_str(alloc, "refused"),
+        Err(WordsFault::OutOfMemory) => String::from_str(alloc, "out of memory"),
+    }
+}
+
+/// What the octets of an image load to, in hexadecimal digits: the size of its program, and the octets that the device gives; or
+/// why they are refused.
+pub fn image_text(alloc: Global, bay: &str, octets: &str) -> Result<String> {
+    let octets = hex::decode(alloc, octets)?;
+    match load_image(alloc, bay, octets.as_slice()) {
+        Ok(device) => {
+            let image = hex::encode(alloc, device.image()?.as_slice())?;
+            Ok(format!(in alloc; "{:?} {}", device.report(), image.as_str())?)
+        }
+        Err(fault) => Ok(format!(in alloc; "{fault}")?),
+    }
+}
