@@ -113,14 +113,16 @@ fn replay_command<'a>(alloc: Global) -> Command<'a>
     Command::new(alloc, "replay").about("Replays the scenario on standard input")
 }
 
-fn program_command<'a>(alloc: Global) -> Command<'a>
-    ensures { app_of result ≡ program_app }
+fn program_command<'a>(alloc: Global) -> Result<Command<'a>, AllocError>
+    ensures { IfOk result (λ c. app_of c ≡ program_app) }
 {
-    Command::new(alloc, "bayctl")
+    let command = Command::new(alloc, "bayctl")
         .about("The controller of one bay")
         .no_binary_name(true)
         .subcommand_required(true)
         .arg_required_else_help(true)
+        .bin_name("bayctl")?;
+    Ok(command)
 }
 
 fn job_command<'a>(alloc: Global) -> Result<Command<'a>, AllocError>
@@ -128,7 +130,7 @@ fn job_command<'a>(alloc: Global) -> Result<Command<'a>, AllocError>
 {
     let check = check_command(alloc)?;
     let compile = compile_command(alloc)?;
-    let command = program_command(alloc)
+    let command = program_command(alloc)?
         .subcommand(check)?
         .subcommand(replay_command(alloc))?
         .subcommand(compile)?;
