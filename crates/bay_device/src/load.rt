@@ -213,6 +213,6 @@ pub fn load_image(alloc: Global, bay: &str, image: &[u8]) -> Result<Device, Load
     ensures ok { IfOk result (λ device. Loads (bay_of bay.now) (decoded image.now) (Ok device)) }
     ensures refused { IfErr result (λ e. e ≢ OutOfMemory → Loads (bay_of bay.now) (decoded image.now) (Err e)) }
 {
-    let bay = read_bay(alloc, bay)?;
-    load_octets(alloc, bay, image)
+    let read = read_bay(alloc, bay)?;
+    load_octets(alloc, read, image)
 }
