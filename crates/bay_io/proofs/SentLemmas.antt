@@ -1,9 +1,10 @@
 -- Lemmas on what reached a writer.
-use Rattle.std.proofs.Common.{◌≡◌, ◌≢◌, ℕ, Bool, true, false, cond, eqb, ◌||◌, ◌&&◌, List, [], ◌++◌, subst, Option, Result, Ok, Err, OnErr, OnOk, append-nil, append_assoc, take, drop, take-append-drop, refl, ap, sym, ◌∙◌}
+use Rattle.std.proofs.Common.{◌≡◌, ◌≢◌, ℕ, Bool, true, false, cond, eqb, ◌||◌, ◌&&◌, List, [], ◌++◌, subst, Option, Result, Ok, Err, IsErr, OnErr, OnOk, append-nil, append_assoc, take, drop, take-append-drop, refl, ap, sym, ◌∙◌}
 use Rattle.std.proofs.lemmas.Bool.{ne_eqb}
 use Rattle.std.specs.Io.KnownBytes.{Appends, Keeps}
 use Rattle.std.proofs.KnownBytes.{Appends-nil, Appends-trans, Appends-kept}
-use Rattle.bay_io.specs.Sent.{Sends, SendsPart}
+use Rattle.bay_io.specs.Sent.{Sends, SendsPart, Puts}
+use Rattle.bay_io.specs.Watched.{Writing}
 
 pub Sends-all : (a b : Option (List ℕ)) (xs : List ℕ) → Appends a b xs → Sends a b xs []
 Sends-all a b xs p = record { taken = xs; appended = p; parts = sym (append-nil xs) }
@@ -112,3 +113,25 @@ not_kept false x y z e f = e
 
 pub Appends-as : (a b : Option (List ℕ)) (p t u : List ℕ) → t ≡ u → Appends a b (p ++ t) → Appends a b (p ++ u)
 Appends-as a b p t u e s = subst (λ l. Appends a b (p ++ l)) e s
+
+-- what was given to a buffer before a writer
+module _ {W X E : Type 0} (contents : W → Option (List ℕ)) (pending : List ℕ) (old : Writing W) where
+  -- a front of the text could not be added
+  pub Puts-cut : (new : Writing W) (front back text left : List ℕ) (r : Result X E) → IsErr r → text ≡ front ++ back
+      → SendsPart (contents old.inner) (contents new.inner) (pending ++ front) × (new.has_failed ≡ true) → Puts contents pending old text left new r
+  Puts-cut new front back text left (Ok x) is whole cut = absurd (cc)
+  Puts-cut new front back text left (Err e) is whole cut =
+      (SendsPart-more (contents old.inner) (contents new.inner) (pending ++ front) back (pending ++ text) cut.0 (ap (λ t. pending ++ t) whole ∙ sym (append_assoc pending front back)), cut.1)
+
+  -- a front of the text was added, and then the rest
+  pub Puts-then : (mid new : Writing W) (front back text middle left : List ℕ) (r : Result X E) → text ≡ front ++ back
+      → Sends (contents old.inner) (contents mid.inner) (pending ++ front) middle × (mid.has_failed ≡ false)
+      → Puts contents middle mid back left new r → Puts contents pending old text left new r
+  Puts-then mid new front back text middle left (Ok x) whole put more =
+      let sent = Sends-trans (contents old.inner) (contents mid.inner) (contents new.inner) (pending ++ front) middle back left put.0 more.0 in
+      let same : (pending ++ front) ++ back ≡ pending ++ text = append_assoc pending front back ∙ sym (ap (λ t. pending ++ t) whole) in
+      (subst (λ t. Sends (contents old.inner) (contents new.inner) t left) same sent, more.1)
+  Puts-then mid new front back text middle left (Err e) whole put more =
+      let sent = SendsPart-of_more (contents old.inner) (contents mid.inner) (contents new.inner) (pending ++ front) middle back put.0 more.0 in
+      let same : (pending ++ front) ++ back ≡ pending ++ text = append_assoc pending front back ∙ sym (ap (λ t. pending ++ t) whole) in
+      (subst (SendsPart (contents old.inner) (contents new.inner)) same sent, more.1)

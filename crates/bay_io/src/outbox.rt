@@ -1,15 +1,17 @@
 // What is written goes through a buffer, so that a writer is asked for a few KiB at a time.
-ghost use Rattle.std.specs.Prelude.{◌≡◌, ◌++◌, [], true, is_err, OnOk, OnErr, if◌then◌else◌};
+ghost use Rattle.std.specs.Prelude.{◌≡◌, ◌++◌, [], true, false, is_err, OnOk, OnErr, if◌then◌else◌};
+ghost use Rattle.std.specs.Fmt.{decimal};
 ghost use Rattle.std.specs.Io.KnownBytes.{Appends, Keeps};
-ghost use Rattle.bay_io.specs.Sent.{Sends, SendsPart};
+ghost use Rattle.bay_io.specs.Sent.{Puts, SendsPart};
 
 use crate::writer::WatchedWriter;
-use std::alloc::Global;
+use arrayvec::ArrayVec;
+use itoa::Buffer;
 use std::io::Write;
 use std::marker::Model;
 use thiserror::Error;
 
-/// How many octets the buffer holds at most, less one.
+/// How many octets the buffer holds at most.
 const ROOM: usize = 8192;
 
 /// A write or a flush failed, or the writer took nothing of what it was given.
@@ -63,59 +65,86 @@ pub fn write_last<W: Write>(writer: &mut WatchedWriter<W>, text: &[u8]) -> Resul
     flush_out(writer)
 }
 
-/// Octets that are not yet written, fewer than 8,192.
+/// Octets that are not yet written, at most 8,192. It takes no memory beside its own.
 #[derive(Drop)]
 pub struct Outbox {
-    pending: Vec<u8>,
+    pending: ArrayVec<u8, ROOM>,
 }
 
 impl Model for Outbox {
-    ghost use Rattle.std.specs.Prelude.{ℕ, ◌<◌, List, length};
+    ghost use Rattle.std.specs.Prelude.{ℕ, ◌≤◌, List, length};
 
     ghost Value = { List ℕ };
 
     ghost view = { λ outbox. outbox.pending.items };
 
-    ghost invariant = { λ outbox. length outbox.pending.items < 8192 };
+    ghost invariant = { λ outbox. length outbox.pending.items ≤ 8192 };
 }
 
 impl Outbox {
-    pub fn new(alloc: Global) -> Self
+    pub fn new() -> Self
         ensures { result ≡ [] }
     {
         Outbox {
-            pending: Vec::new(alloc),
+            pending: ArrayVec::new(),
         }
     }
 
     /// Adds the text where the buffer has room for it, and answers whether it had.
+    #[inline(always)]
     fn keep(&mut self, text: &[u8]) -> bool
         ensures { self.new ≡ (if result then self.old ++ text.now else self.old) }
     {
-        text.len() < ROOM - self.pending.len() && self.pending.extend_from_slice(text).is_ok()
+        self.pending.try_extend_from_slice(text).is_ok()
     }
 
     /// Writes out what is pending.
     pub fn flush<W: Write>(&mut self, writer: &mut WatchedWriter<W>) -> Result<(), WriteFault>
-        ensures ok { OnOk result (Sends (W.contents writer.old.inner) (W.contents writer.new.inner) self.old self.new) }
+        ensures puts { Puts W.contents self.old writer.old [] self.new writer.new result }
         ensures empty { OnOk result (self.new ≡ []) }
-        ensures err { OnErr result (SendsPart (W.contents writer.old.inner) (W.contents writer.new.inner) self.old) }
-        ensures fault { is_err result ≡ writer.new.has_failed }
     {
         write_out(writer, self.pending.as_slice())?;
         self.pending.clear();
         Ok(())
     }
 
-    /// Adds the text where the buffer has room for it; else writes out what is pending, and the text.
+    /// Adds the text to the buffer that was just emptied, or writes out a text that is longer than the buffer.
+    fn put_first<W: Write>(
+        &mut self,
+        writer: &mut WatchedWriter<W>,
+        text: &[u8],
+    ) -> Result<(), WriteFault>
+        requires empty { self.old ≡ [] }
+        requires well { writer.old.has_failed ≡ false }
+        ensures { Puts W.contents self.old writer.old text.now self.new writer.new result }
+    {
+        if self.keep(text) {
+            return Ok(());
+        }
+        write_out(writer, text)
+    }
+
+    /// Writes out what is pending, and then adds the text.
+    #[inline(never)]
+    fn put_after_flush<W: Write>(
+        &mut self,
+        writer: &mut WatchedWriter<W>,
+        text: &[u8],
+    ) -> Result<(), WriteFault>
+        ensures { Puts W.contents self.old writer.old text.now self.new writer.new result }
+    {
+        self.flush(writer)?;
+        self.put_first(writer, text)
+    }
+
+    /// Adds the text; where the buffer has no room for it, what is pending is written out before.
+    #[inline(always)]
     pub fn put<W: Write>(
         &mut self,
         writer: &mut WatchedWriter<W>,
         text: &[u8],
     ) -> Result<(), WriteFault>
-        ensures ok { OnOk result (Sends (W.contents writer.old.inner) (W.contents writer.new.inner) (self.old ++ text.now) self.new) }
-        ensures err { OnErr result (SendsPart (W.contents writer.old.inner) (W.contents writer.new.inner) (self.old ++ text.now)) }
-        ensures fault { is_err result ≡ writer.new.has_failed }
+        ensures { Puts W.contents self.old writer.old text.now self.new writer.new result }
     {
         if writer.has_failed() {
             return Err(WriteFault);
@@ -123,8 +152,18 @@ impl Outbox {
         if self.keep(text) {
             return Ok(());
         }
-        self.flush(writer)?;
-        write_out(writer, text)
+        self.put_after_flush(writer, text)
+    }
+
+    /// Adds a number, in decimal digits.
+    pub fn put_number<W: Write>(
+        &mut self,
+        writer: &mut WatchedWriter<W>,
+        number: u64,
+    ) -> Result<(), WriteFault>
+        ensures { Puts W.contents self.old writer.old (decimal number) self.new writer.new result }
+    {
+        self.put(writer, Buffer::new().format(number).as_bytes())
     }
 
     /// Adds a last text, writes out all, and flushes the writer.

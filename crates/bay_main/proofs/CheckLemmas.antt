@@ -1,5 +1,5 @@
 -- Lemmas on what is printed for a load.
-use Rattle.std.proofs.Common.{◌≡◌, ◌≢◌, ◌⊎◌, ℕ, List, Ok, Err, inl, inr, subst, sym}
+use Rattle.std.proofs.Common.{◌≡◌, ◌≢◌, ℕ, List, Ok, Err, inl, inr, subst, sym}
 use Rattle.bay_device.specs.Device.{State}
 use Rattle.bay_device.specs.Report.{IsReport}
 use Rattle.bay_device.specs.declared.fault.LoadFault.{LoadFault}

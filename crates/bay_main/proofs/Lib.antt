@@ -1,3 +1,4 @@
+pub mod AnswerLemmas
 pub mod CheckLemmas
 pub mod JobLemmas
 pub mod PieceLemmas

@@ -1,5 +1,5 @@
 -- How far a report has come.
-use Rattle.std.proofs.Common.{◌≡◌, ℕ, zero, suc, ◌+◌, ◌<◌, Bool, true, false, List, [], ◌∷◌, ◌++◌, length, map, drop, get_or, codes, Option, Some, Result, Ok, Err, IsErr, slice_get, subst, refl, ap, sym, ◌∙◌, arith, add-one, append_assoc, inl, inr, MatchBool}
+use Rattle.std.proofs.Common.{◌≡◌, ℕ, zero, suc, ◌+◌, ◌<◌, Bool, true, false, List, [], ◌∷◌, ◌++◌, length, map, drop, get_or, Option, Some, Result, Ok, Err, IsErr, slice_get, subst, refl, ap, sym, ◌∙◌, arith, add-one, append-nil, append_assoc, MatchBool}
 use Rattle.std.proofs.Math.Seq.{drop-cons}
 use Rattle.std.proofs.lemmas.Option.{get_or_from_slice_get}
 use Rattle.std.specs.Io.KnownBytes.{Appends}
@@ -20,14 +20,14 @@ within (x ∷ ss) zero h = (x, refl)
 within (x ∷ ss) (suc j) h = within ss j (omega arith)
 
 -- one switch more is told
-pub switches-turn : (s : State) (k : ℕ) (switches : List Switch) (old all : List ℕ) → k < length switches → all ≡ old ++ switches_text s k (drop k switches)
-    → all ≡ (old ++ switch_part s k (slice_get switches k)) ++ switches_text s (k + 1) (drop (k + 1) switches)
-switches-turn s k switches old all lt e =
+pub switches-turn : (s : State) (k : ℕ) (switches : List Switch) → k < length switches
+    → switches_text s k (drop k switches) ≡ switch_part s k (slice_get switches k) ++ switches_text s (k + 1) (drop (k + 1) switches)
+switches-turn s k switches lt =
     let w = within switches k lt in
     let here : get_or switches k w.0 ≡ w.0 = get_or_from_slice_get switches k w.0 w.0 w.1 in
     let next : drop k switches ≡ w.0 ∷ drop (k + 1) switches = rw (add-one, drop-cons switches k w.0) (ap (λ x. x ∷ drop (suc k) switches) here) in
     let part : switch_part s k (slice_get switches k) ≡ switch_part s k (Some w.0) = ap (switch_part s k) w.1 in
-    e ∙ ap (λ ss. old ++ switches_text s k ss) next ∙ sym (append_assoc old _ _) ∙ ap (λ p. (old ++ p) ++ switches_text s (k + 1) (drop (k + 1) switches)) (sym part)
+    ap (λ ss. switches_text s k ss) next ∙ ap (λ p. p ++ switches_text s (k + 1) (drop (k + 1) switches)) (sym part)
 
 -- what was printed so far, and what may follow it
 pub record Progress (May : List ℕ → ℕ → Type 0) (s : State) (k : ℕ) (rest : List (List ℕ)) (old new : Option (List ℕ)) (pending : List ℕ) : Type 0 where
@@ -38,9 +38,35 @@ pub record Progress (May : List ℕ → ℕ → Type 0) (s : State) (k : ℕ) (r
 pub Progress-start : (head : List ℕ) (s : State) (lines : List (List ℕ)) (old new : Option (List ℕ)) (last : List ℕ) → Sends old new head last → Progress (HeadReport head s lines) s 1 lines old new last
 Progress-start head s lines old new last sent = record { printed = head; continues = λ text status told. (text, refl, told); sent = sent }
 
-ran : (s : State) (k : ℕ) (rest : List (List ℕ)) → TraceReport s k rest (codes "fault memory\n") 3
-ran s k [] = inr (refl, refl)
-ran s k (line ∷ rest) = inr (refl, refl)
+when_true : (b : Bool) (P Q : Type 0) → b ≡ true → P → MatchBool b P Q
+when_true true P Q e p = p
+when_true false P Q e p = absurd cc
+
+when_false : (b : Bool) (P Q : Type 0) → b ≡ false → Q → MatchBool b P Q
+when_false true P Q e q = absurd cc
+when_false false P Q e q = q
+
+-- each trace has a report
+pub record Told (s : State) (k : ℕ) (lines : List (List ℕ)) : Type 0 where
+  pub text : List ℕ
+  pub status : ℕ
+  pub told : TraceReport s k lines text status
+
+pub told_trace : (s : State) (k : ℕ) (lines : List (List ℕ)) → Told s k lines
+told_trace s k [] = record { text = []; status = 0; told = (refl, refl) }
+told_trace s k (line ∷ lines) = by_last (line_answer k (trace_line_of line) s).is_last refl (told_trace (line_answer k (trace_line_of line) s).after (k + 1) lines)
+  where
+    by_last : (b : Bool) → (line_answer k (trace_line_of line) s).is_last ≡ b → Told (line_answer k (trace_line_of line) s).after (k + 1) lines → Told s k (line ∷ lines)
+    by_last true is rest = record {
+      text = (line_answer k (trace_line_of line) s).text;
+      status = 3;
+      told = when_true _ _ _ is (refl, refl);
+    }
+    by_last false is rest = record {
+      text = (line_answer k (trace_line_of line) s).text ++ rest.text;
+      status = rest.status;
+      told = when_false _ _ _ is (rest.text, refl, rest.told);
+    }
 
 module _ (May : List ℕ → ℕ → Type 0) (s : State) (k : ℕ) (rest : List (List ℕ)) (old mid new : Option (List ℕ)) (pending : List ℕ) where
   -- a last text ends the report
@@ -52,33 +78,19 @@ module _ (May : List ℕ → ℕ → Type 0) (s : State) (k : ℕ) (rest : List 
   Progress-cut text status p told w =
       record { text = p.printed ++ text; status = status; told = p.continues text status told; part = SendsPart-of_more old mid new p.printed pending text p.sent w }
 
-  pub Progress-memory : Progress May s k rest old mid pending → Appends mid new (pending ++ codes "fault memory\n") → Reports May old new 3
-  Progress-memory p w = Progress-last (codes "fault memory\n") 3 p (ran s k rest) w
-
-  pub Progress-memory_cut : Progress May s k rest old mid pending → SendsPart mid new (pending ++ codes "fault memory\n") → ReportsPart May old new
-  Progress-memory_cut p w = Progress-cut (codes "fault memory\n") 3 p (ran s k rest) w
-
 -- the end of the trace
 pub Progress-end : (May : List ℕ → ℕ → Type 0) (s : State) (k : ℕ) (rest : List (List ℕ)) (old mid new : Option (List ℕ)) (pending : List ℕ) → Progress May s k rest old mid pending → rest ≡ [] → Appends mid new (pending ++ []) → Reports May old new 0
 Progress-end May s k rest old mid new pending p e w =
-    Progress-last May s k rest old mid new pending [] 0 p (subst (λ r. TraceReport s k r [] 0) (sym e) (inl (refl, refl))) w
+    Progress-last May s k rest old mid new pending [] 0 p (subst (λ r. TraceReport s k r [] 0) (sym e) (refl, refl)) w
 
 pub Progress-end_cut : (May : List ℕ → ℕ → Type 0) (s : State) (k : ℕ) (rest : List (List ℕ)) (old mid new : Option (List ℕ)) (pending : List ℕ) → Progress May s k rest old mid pending → rest ≡ [] → SendsPart mid new (pending ++ []) → ReportsPart May old new
 Progress-end_cut May s k rest old mid new pending p e w =
-    Progress-cut May s k rest old mid new pending [] 0 p (subst (λ r. TraceReport s k r [] 0) (sym e) (inl (refl, refl))) w
+    Progress-cut May s k rest old mid new pending [] 0 p (subst (λ r. TraceReport s k r [] 0) (sym e) (refl, refl)) w
 
 -- a line
 module _ (May : List ℕ → ℕ → Type 0) (s : State) (k : ℕ) (line : List ℕ) (rest after : List (List ℕ)) (old mid new : Option (List ℕ)) (pending : List ℕ) (e : rest ≡ line ∷ after) where
   abbrev said : LineAnswer
   said = line_answer k (trace_line_of line) s
-
-  either_way : (b : Bool) (P Q : Type 0) → b ≡ true → P → MatchBool b P Q
-  either_way true P Q e p = p
-  either_way false P Q e p = absurd cc
-
-  other_way : (b : Bool) (P Q : Type 0) → b ≡ false → Q → MatchBool b P Q
-  other_way true P Q e q = absurd cc
-  other_way false P Q e q = q
 
   here : Progress May s k rest old mid pending → Progress May s k (line ∷ after) old mid pending
   here p = subst (λ r. Progress May s k r old mid pending) e p
@@ -90,18 +102,24 @@ module _ (May : List ℕ → ℕ → Type 0) (s : State) (k : ℕ) (line : List 
         printed = q.printed ++ said.text;
         continues = λ text status told.
             subst (λ t. May t status) (sym (append_assoc q.printed said.text text))
-            (q.continues (said.text ++ text) status (inl (other_way said.is_last _ _ more (text, refl, told))));
+            (q.continues (said.text ++ text) status (when_false said.is_last _ _ more (text, refl, told)));
         sent = Sends-trans old mid new q.printed pending said.text last q.sent w;
       }
 
   last_said : said.is_last ≡ true → TraceReport s k (line ∷ after) said.text 3
-  last_said is = inl (either_way said.is_last _ _ is (refl, refl))
+  last_said is = when_true said.is_last _ _ is (refl, refl)
 
-  pub Progress-fault : Progress May s k rest old mid pending → said.is_last ≡ true → Appends mid new (pending ++ said.text) → Reports May old new 3
-  Progress-fault p is w = Progress-last May s k (line ∷ after) old mid new pending said.text 3 (here p) (last_said is) w
+  -- what ends the report is pending, and then written out
+  module _ (last : List ℕ) (end : Option (List ℕ)) (sent : Sends mid new (pending ++ said.text) last) where
+    pub Progress-fault : Progress May s k rest old mid pending → said.is_last ≡ true → Appends new end (last ++ []) → Reports May old end 3
+    Progress-fault p is w =
+        Progress-last May s k (line ∷ after) old mid end pending said.text 3 (here p) (last_said is)
+        (subst (Appends mid end) (append-nil (pending ++ said.text)) (Sends-more mid new end (pending ++ said.text) last [] sent w))
 
-  pub Progress-fault_cut : Progress May s k rest old mid pending → said.is_last ≡ true → SendsPart mid new (pending ++ said.text) → ReportsPart May old new
-  Progress-fault_cut p is w = Progress-cut May s k (line ∷ after) old mid new pending said.text 3 (here p) (last_said is) w
+    pub Progress-fault_cut : Progress May s k rest old mid pending → said.is_last ≡ true → SendsPart new end (last ++ []) → ReportsPart May old end
+    Progress-fault_cut p is w =
+        Progress-cut May s k (line ∷ after) old mid end pending said.text 3 (here p) (last_said is)
+        (subst (SendsPart mid end) (append-nil (pending ++ said.text)) (SendsPart-of_more mid new end (pending ++ said.text) last [] sent w))
 
   -- a report that begins with the answer to the line
   pub Progress-line_cut : Progress May s k rest old mid pending → SendsPart mid new (pending ++ said.text) → ReportsPart May old new
@@ -112,12 +130,12 @@ module _ (May : List ℕ → ℕ → Type 0) (s : State) (k : ℕ) (line : List 
       by_last : (b : Bool) → said.is_last ≡ b → Progress May s k (line ∷ after) old mid pending → ReportsPart May old new
       by_last true is q = record { text = q.printed ++ said.text; status = 3; told = q.continues said.text 3 (last_said is); part = SendsPart-of_more old mid new q.printed pending said.text q.sent w }
       by_last false is q =
-          let more = codes "fault memory\n" in
+          let more = told_trace said.after (k + 1) after in
           record {
-            text = q.printed ++ (said.text ++ more);
-            status = 3;
-            told = q.continues (said.text ++ more) 3 (inl (other_way said.is_last _ _ is (more, refl, ran said.after (k + 1) after)));
-            part = SendsPart-more old new (q.printed ++ said.text) more (q.printed ++ (said.text ++ more)) (SendsPart-of_more old mid new q.printed pending said.text q.sent w) (sym (append_assoc q.printed said.text more));
+            text = q.printed ++ (said.text ++ more.text);
+            status = more.status;
+            told = q.continues (said.text ++ more.text) more.status (when_false said.is_last _ _ is (more.text, refl, more.told));
+            part = SendsPart-more old new (q.printed ++ said.text) more.text (q.printed ++ (said.text ++ more.text)) (SendsPart-of_more old mid new q.printed pending said.text q.sent w) (sym (append_assoc q.printed said.text more.text));
           }
 
 -- the first line of a text, and those of the rest
@@ -130,11 +148,12 @@ nil_from_length (x ∷ xs) e = absurd (omega arith)
 
 pub Progress-load_cut : (head : List ℕ) (s : State) (lines : List (List ℕ)) (old new : Option (List ℕ)) (pending : List ℕ) → pending ≡ [] → SendsPart old new (pending ++ head) → ReportsPart (HeadReport head s lines) old new
 Progress-load_cut head s lines old new pending e w =
+    let more = told_trace s 1 lines in
     record {
-      text = head ++ codes "fault memory\n";
-      status = 3;
-      told = (codes "fault memory\n", refl, ran s 1 lines);
-      part = SendsPart-more old new (pending ++ head) (codes "fault memory\n") _ w (ap (λ p. (p ++ head) ++ codes "fault memory\n") (sym e));
+      text = head ++ more.text;
+      status = more.status;
+      told = (more.text, refl, more.told);
+      part = SendsPart-more old new (pending ++ head) more.text _ w (ap (λ p. (p ++ head) ++ more.text) (sym e));
     }
 
 -- what becomes of a text that may be printed, said of an answer

@@ -1,5 +1,5 @@
 -- Lemmas on the words and numbers of a line.
-use Rattle.std.proofs.Common.{◌≡◌, ◌≢◌, ℕ, suc, ◌<◌, ◌^◌, ◌&&◌, Bool, true, false, cond, eqb, nat_lt, List, [], ◌∷◌, length, get_or, None, refl, ap, sym, ◌∙◌, arith}
+use Rattle.std.proofs.Common.{◌≡◌, ◌≢◌, ℕ, suc, ◌<◌, ◌^◌, ◌&&◌, Bool, true, false, cond, eqb, nat_lt, List, [], ◌∷◌, length, get_or, None, refl, ap, ◌∙◌, arith}
 use Rattle.std.proofs.lemmas.Bool.Decides.{nat_tests}
 use Rattle.std.proofs.lemmas.List.Splits.{slice_split-cons_no}
 use Rattle.std.proofs.lemmas.Str.Parse.{IsNumeralModel, numerals_by_value, tells_all_ascii_digits}
@@ -7,9 +7,8 @@ use Rattle.std.specs.List.{slice_split, list_all, onto_first}
 use Rattle.std.specs.Char.{is_ascii_digit}
 use Rattle.std.specs.Str.{all_ascii_digits}
 use Rattle.std.specs.Str.Parse.{digits_value}
-use Rattle.std.specs.Str.{bytes_eq, is_utf8, IsUtf8}
+use Rattle.std.specs.Str.{is_utf8, IsUtf8}
 use Rattle.std.proofs.lemmas.Str.{IsUtf8-from_is_utf8, is_utf8-from_IsUtf8}
-use Rattle.std.proofs.Common.{codes}
 use Rattle.bay_main.specs.Trace.{is_space, only_word, read_number, read_integer, words_line, trace_line_of}
 
 not_space : (b : ℕ) → b ≢ 32 → is_space b ≡ false

@@ -15,9 +15,13 @@ use Rattle.bay_main.specs.Trace.{NamedData, LineData, contact, input, measure, s
 abbrev pub digit_of : Bool → List ℕ
 digit_of b = if b then codes "1" else codes "0"
 
+-- whether a switch may be opened and closed
+abbrev pub enabled_text : Bool → Bool → List ℕ
+enabled_text opens closes = codes "=" ++ (digit_of opens ++ digit_of closes)
+
 -- a switch's id, and whether it may be opened and closed
 abbrev pub switch_text : List ℕ → Bool → Bool → List ℕ
-switch_text id opens closes = codes " " ++ (id ++ (codes "=" ++ (digit_of opens ++ digit_of closes)))
+switch_text id opens closes = (codes " " ++ id) ++ enabled_text opens closes
 
 -- the part of a scan's line on the switch at a place, if there is one
 abbrev pub switch_part : State → ℕ → Option Switch → List ℕ
@@ -29,13 +33,17 @@ abbrev pub switches_text : State → ℕ → List Switch → List ℕ
 switches_text s k [] = []
 switches_text s k (switch ∷ switches) = switch_part s k (Some switch) ++ switches_text s (k + 1) switches
 
--- the line of a scan: the moment, the number of instructions that were executed, and each switch
+-- how the line of a scan begins: the moment, and the number of instructions that were executed
+abbrev pub steps_text : ℕ → ℕ → List ℕ
+steps_text now steps = (decimal now ++ codes " scan steps=") ++ decimal steps
+
+-- the line of a scan: how it begins, and each switch
 abbrev pub scan_text : ℕ → ℕ → State → List ℕ
-scan_text now steps s = decimal now ++ (codes " scan steps=" ++ (decimal steps ++ (switches_text s 0 s.switches ++ codes "\n")))
+scan_text now steps s = steps_text now steps ++ (switches_text s 0 s.switches ++ codes "\n")
 
 -- the line of a refused event
 abbrev pub refused_text : ℕ → StepFault → List ℕ
-refused_text now fault = decimal now ++ (codes " refused " ++ (decimal (step_code_of fault) ++ codes "\n"))
+refused_text now fault = (decimal now ++ codes " refused ") ++ (decimal (step_code_of fault) ++ codes "\n")
 
 -- what is printed for an event that was done, by the steps of its scan and the device after it
 abbrev pub done_text : ℕ → Option ℕ → State → List ℕ

@@ -38,13 +38,12 @@ abbrev pub ran_out : List ℕ → ℕ → Type 0
 ran_out text status = (text ≡ codes "fault memory\n") × (status ≡ 3)
 
 -- the text and the status for the lines of a trace, from line k on: the answers one after the other up to
--- a line that can't be read, or whole lines and then that memory ran out
+-- a line that can't be read. No line wants memory.
 abbrev pub TraceReport : State → ℕ → List (List ℕ) → List ℕ → ℕ → Type 0
-TraceReport s k [] text status = ((text ≡ []) × (status ≡ 0)) ⊎ ran_out text status
+TraceReport s k [] text status = (text ≡ []) × (status ≡ 0)
 TraceReport s k (line ∷ lines) text status =
     let answer = line_answer k (trace_line_of line) s in
     MatchBool answer.is_last ((text ≡ answer.text) × (status ≡ 3)) ((rest : List ℕ) × (text ≡ answer.text ++ rest) × TraceReport answer.after (k + 1) lines rest status)
-    ⊎ ran_out text status
 
 -- a line, and behind it the text and the status of a device's trace
 abbrev pub HeadReport : List ℕ → State → List (List ℕ) → List ℕ → ℕ → Type 0

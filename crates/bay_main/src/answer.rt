@@ -1,39 +1,67 @@
 // What is printed for a line of the trace.
-ghost use Rattle.std.specs.Prelude.{◌≡◌, ◌++◌, [], ◌∷◌, IfOk, OnOk, length, slice_get, string_bytes, option_map, unwrap_or};
+ghost use Rattle.std.specs.Prelude.{◌≡◌, ◌++◌, false, codes, IfOk, OnOk, slice_get};
+ghost use Rattle.std.specs.Fmt.{decimal};
 ghost use Rattle.bay_device.specs.Device.{outcome};
-ghost use Rattle.bay_main.specs.LineAnswers.{digit_of, switch_text, switch_part, switches_text, scan_text, refused_text, done_text, step_text, placed_event, unreadable_text, line_answer};
+ghost use Rattle.bay_io.specs.Sent.{Puts};
+ghost use Rattle.bay_main.specs.LineAnswers.{enabled_text, switch_text, switch_part, switches_text, steps_text, scan_text, refused_text, step_text, placed_event, unreadable_text, line_answer};
 ghost use Rattle.bay_main.specs.Trace.{trace_line_of};
-ghost use Rattle.bay_main.specs.TraceView.{named_view, line_view};
+ghost use Rattle.bay_main.specs.TraceView.{named_view};
 
 use crate::trace::{NamedEvent, TraceLine, read_trace_line};
 use bay_device::device::Device;
 use bay_device::event::{Event, Step};
 use bay_device::fault::StepFault;
-use std::alloc::AllocError;
-use std::fmt::Write;
+use bay_io::outbox::{Outbox, WriteFault};
+use bay_io::writer::WatchedWriter;
+use std::io::Write;
 
-/// A truth value as a digit.
-fn digit(value: bool) -> &'static str
-    ensures { result.now ≡ digit_of value }
+/// The digits that say whether a switch may be opened and closed, after their sign.
+fn enabled_text(opens: bool, closes: bool) -> &'static [u8]
+    ensures { result.now ≡ enabled_text opens closes }
 {
-    if value { "1" } else { "0" }
+    match (opens, closes) {
+        (false, false) => b"=00",
+        (false, true) => b"=01",
+        (true, false) => b"=10",
+        (true, true) => b"=11",
+    }
 }
 
-/// Adds the part of a scan's line on one switch: its id, and whether it may be opened and closed.
-fn push_switch(text: &mut String, id: &str, opens: bool, closes: bool) -> Result<(), AllocError>
-    ensures { OnOk result (string_bytes text.new ≡ string_bytes text.old ++ switch_text id.now opens closes) }
+/// Writes the id of a switch, after a space.
+fn put_id<W: Write>(
+    outbox: &mut Outbox,
+    writer: &mut WatchedWriter<W>,
+    id: &str,
+) -> Result<(), WriteFault>
+    ensures { Puts W.contents outbox.old writer.old (codes " " ++ id.now) outbox.new writer.new result }
 {
-    text.push_str(" ")?;
-    text.push_str(id)?;
-    text.push_str("=")?;
-    text.push_str(digit(opens))?;
-    text.push_str(digit(closes))?;
-    Ok(())
+    outbox.put(writer, b" ")?;
+    outbox.put(writer, id.as_bytes())
 }
 
-/// Adds the part of a scan's line on the switch at a place, if there is one.
-fn push_place(text: &mut String, device: &Device, place: usize) -> Result<(), AllocError>
-    ensures { OnOk result (string_bytes text.new ≡ string_bytes text.old ++ switch_part device.now place (slice_get device.now.switches place)) }
+/// Writes the part of a scan's line on one switch: its id, and whether it may be opened and closed.
+fn put_switch<W: Write>(
+    outbox: &mut Outbox,
+    writer: &mut WatchedWriter<W>,
+    id: &str,
+    opens: bool,
+    closes: bool,
+) -> Result<(), WriteFault>
+    ensures { Puts W.contents outbox.old writer.old (switch_text id.now opens closes) outbox.new writer.new result }
+{
+    put_id(outbox, writer, id)?;
+    outbox.put(writer, enabled_text(opens, closes))
+}
+
+/// Writes the part of a scan's line on the switch at a place, if there is one.
+fn put_place<W: Write>(
+    outbox: &mut Outbox,
+    writer: &mut WatchedWriter<W>,
+    device: &Device,
+    place: usize,
+) -> Result<(), WriteFault>
+    requires { writer.old.has_failed ≡ false }
+    ensures { Puts W.contents outbox.old writer.old (switch_part device.now place (slice_get device.now.switches place)) outbox.new writer.new result }
 {
     let Some(id) = device.id(place) else {
         return Ok(());
@@ -41,50 +69,128 @@ fn push_place(text: &mut String, device: &Device, place: usize) -> Result<(), Al
     let Some((opens, closes)) = device.ena(place) else {
         return Ok(());
     };
-    push_switch(text, id, opens, closes)
+    put_switch(outbox, writer, id, opens, closes)
 }
 
-/// Adds the parts of a scan's line on the switches.
-fn push_switches(text: &mut String, device: &Device) -> Result<(), AllocError>
-    ensures { OnOk result (string_bytes text.new ≡ string_bytes text.old ++ switches_text device.now 0 device.now.switches) }
+/// Writes the parts of a scan's line on the switches.
+fn put_switches<W: Write>(
+    outbox: &mut Outbox,
+    writer: &mut WatchedWriter<W>,
+    device: &Device,
+) -> Result<(), WriteFault>
+    requires { writer.old.has_failed ≡ false }
+    ensures { Puts W.contents outbox.old writer.old (switches_text device.now 0 device.now.switches) outbox.new writer.new result }
 {
     for place in 0..device.switch_count() {
-        push_place(text, device, place)?;
+        put_place(outbox, writer, device, place)?;
     }
     Ok(())
 }
 
-/// Adds the line of a scan.
-fn push_scan(text: &mut String, device: &Device, moment: u64, steps: u32) -> Result<(), AllocError>
-    ensures { OnOk result (string_bytes text.new ≡ string_bytes text.old ++ scan_text moment steps device.now) }
+/// Writes a moment and what follows it.
+fn put_moment<W: Write>(
+    outbox: &mut Outbox,
+    writer: &mut WatchedWriter<W>,
+    moment: u64,
+    text: &[u8],
+) -> Result<(), WriteFault>
+    ensures { Puts W.contents outbox.old writer.old (decimal moment ++ text.now) outbox.new writer.new result }
 {
-    write!(text, "{moment} scan steps={steps}")?;
-    push_switches(text, device)?;
-    text.push_str("\n")?;
-    Ok(())
+    outbox.put_number(writer, moment)?;
+    outbox.put(writer, text)
 }
 
-/// Adds the line of a refused event.
-fn push_refused(text: &mut String, moment: u64, fault: StepFault) -> Result<(), AllocError>
-    ensures { OnOk result (string_bytes text.new ≡ string_bytes text.old ++ refused_text moment fault) }
+/// Writes how a scan's line begins: the moment, and the number of instructions that were executed.
+fn put_steps<W: Write>(
+    outbox: &mut Outbox,
+    writer: &mut WatchedWriter<W>,
+    moment: u64,
+    steps: u32,
+) -> Result<(), WriteFault>
+    ensures { Puts W.contents outbox.old writer.old (steps_text moment steps) outbox.new writer.new result }
 {
-    let code = fault.code();
-    write!(text, "{moment} refused {code}\n")?;
-    Ok(())
+    put_moment(outbox, writer, moment, b" scan steps=")?;
+    outbox.put_number(writer, u64::from(steps))
 }
 
-/// Adds what is printed for an event, by its answer and the device after it.
-fn push_step(
-    text: &mut String,
+/// Writes how a scan's line ends: the parts on the switches.
+fn put_end<W: Write>(
+    outbox: &mut Outbox,
+    writer: &mut WatchedWriter<W>,
+    device: &Device,
+) -> Result<(), WriteFault>
+    requires { writer.old.has_failed ≡ false }
+    ensures { Puts W.contents outbox.old writer.old (switches_text device.now 0 device.now.switches ++ codes "\n") outbox.new writer.new result }
+{
+    put_switches(outbox, writer, device)?;
+    outbox.put(writer, b"\n")
+}
+
+/// Writes the line of a scan.
+fn put_scan<W: Write>(
+    outbox: &mut Outbox,
+    writer: &mut WatchedWriter<W>,
+    device: &Device,
+    moment: u64,
+    steps: u32,
+) -> Result<(), WriteFault>
+    ensures { Puts W.contents outbox.old writer.old (scan_text moment steps device.now) outbox.new writer.new result }
+{
+    put_steps(outbox, writer, moment, steps)?;
+    put_end(outbox, writer, device)
+}
+
+/// Writes a number as the last of its line.
+fn put_last_number<W: Write>(
+    outbox: &mut Outbox,
+    writer: &mut WatchedWriter<W>,
+    number: u64,
+) -> Result<(), WriteFault>
+    ensures { Puts W.contents outbox.old writer.old (decimal number ++ codes "\n") outbox.new writer.new result }
+{
+    outbox.put_number(writer, number)?;
+    outbox.put(writer, b"\n")
+}
+
+/// Writes the line of a refused event.
+fn put_refused<W: Write>(
+    outbox: &mut Outbox,
+    writer: &mut WatchedWriter<W>,
+    moment: u64,
+    fault: StepFault,
+) -> Result<(), WriteFault>
+    ensures { Puts W.contents outbox.old writer.old (refused_text moment fault) outbox.new writer.new result }
+{
+    put_moment(outbox, writer, moment, b" refused ")?;
+    put_last_number(outbox, writer, u64::from(fault.code()))
+}
+
+/// Writes the line that says which line can't be read.
+fn put_unreadable<W: Write>(
+    outbox: &mut Outbox,
+    writer: &mut WatchedWriter<W>,
+    number: usize,
+) -> Result<(), WriteFault>
+    ensures { Puts W.contents outbox.old writer.old (unreadable_text number) outbox.new writer.new result }
+{
+    outbox.put(writer, b"fault 120 line ")?;
+    put_last_number(outbox, writer, number as u64)
+}
+
+/// Writes what is printed for an event, by its answer and the device after it.
+fn put_step<W: Write>(
+    outbox: &mut Outbox,
+    writer: &mut WatchedWriter<W>,
     device: &Device,
     moment: u64,
     answer: Result<Step, StepFault>,
-) -> Result<(), AllocError>
-    ensures { OnOk result (string_bytes text.new ≡ string_bytes text.old ++ step_text moment answer device.now) }
+) -> Result<(), WriteFault>
+    requires { writer.old.has_failed ≡ false }
+    ensures { Puts W.contents outbox.old writer.old (step_text moment answer device.now) outbox.new writer.new result }
 {
     match answer {
-        Err(fault) => push_refused(text, moment, fault),
-        Ok(Step { scan: Some(steps) }) => push_scan(text, device, moment, steps),
+        Err(fault) => put_refused(outbox, writer, moment, fault),
+        Ok(Step { scan: Some(steps) }) => put_scan(outbox, writer, device, moment, steps),
         Ok(Step { scan: None }) => Ok(()),
     }
 }
@@ -111,57 +217,46 @@ fn placed_event(device: &Device, event: NamedEvent<'_>) -> Event
     }
 }
 
-/// Does an event, and adds what is printed for it.
-fn push_event(
-    text: &mut String,
+/// Does an event, and writes what is printed for it.
+fn answer_event<W: Write>(
+    outbox: &mut Outbox,
+    writer: &mut WatchedWriter<W>,
     device: &mut Device,
     moment: u64,
     event: Event,
-) -> Result<(), AllocError>
-    ensures text { OnOk result (string_bytes text.new ≡ string_bytes text.old ++ step_text moment (outcome moment event device.old).answer (outcome moment event device.old).after) }
+) -> Result<(), WriteFault>
+    requires { writer.old.has_failed ≡ false }
+    ensures text { Puts W.contents outbox.old writer.old (step_text moment (outcome moment event device.old).answer (outcome moment event device.old).after) outbox.new writer.new result }
     ensures device { device.new ≡ (outcome moment event device.old).after }
 {
     let answer = device.step(moment, event);
-    push_step(text, device, moment, answer)
+    put_step(outbox, writer, device, moment, answer)
 }
 
-/// Does what a line says, and adds what is printed for it. Whether the replay ends there, as the line can't be read.
-fn push_answer(
-    text: &mut String,
+/// Does what the line with this number says, and writes what is printed for it. Whether the replay ends there, as the line
+/// can't be read. A line takes no memory.
+pub fn answer_line<W: Write>(
+    outbox: &mut Outbox,
+    writer: &mut WatchedWriter<W>,
     device: &mut Device,
     number: usize,
-    line: Option<TraceLine<'_>>,
-) -> Result<bool, AllocError>
-    ensures text { OnOk result (string_bytes text.new ≡ string_bytes text.old ++ (line_answer number (option_map line_view line.entry) device.old).text) }
-    ensures last { IfOk result (λ is_last. is_last ≡ (line_answer number (option_map line_view line.entry) device.old).is_last) }
-    ensures device { OnOk result (device.new ≡ (line_answer number (option_map line_view line.entry) device.old).after) }
+    line: &[u8],
+) -> Result<bool, WriteFault>
+    requires { writer.old.has_failed ≡ false }
+    ensures text { Puts W.contents outbox.old writer.old (line_answer number (trace_line_of line.now) device.old).text outbox.new writer.new result }
+    ensures last { IfOk result (λ is_last. is_last ≡ (line_answer number (trace_line_of line.now) device.old).is_last) }
+    ensures device { OnOk result (device.new ≡ (line_answer number (trace_line_of line.now) device.old).after) }
 {
-    match line {
+    match read_trace_line(line) {
         None => {
-            write!(text, "fault 120 line {number}\n")?;
+            put_unreadable(outbox, writer, number)?;
             Ok(true)
         }
         Some(TraceLine::Blank) => Ok(false),
         Some(TraceLine::At { moment, event }) => {
             let event = placed_event(device, event);
-            push_event(text, device, moment, event)?;
+            answer_event(outbox, writer, device, moment, event)?;
             Ok(false)
         }
     }
-}
-
-/// Does what the line with this number says, and makes the text what is printed for it. Whether the replay ends there, as
-/// the line can't be read. The text keeps its room, so that a line mostly takes no memory.
-pub fn answer_line(
-    text: &mut String,
-    device: &mut Device,
-    number: usize,
-    line: &[u8],
-) -> Result<bool, AllocError>
-    ensures text { OnOk result (string_bytes text.new ≡ (line_answer number (trace_line_of line.now) device.old).text) }
-    ensures last { IfOk result (λ is_last. is_last ≡ (line_answer number (trace_line_of line.now) device.old).is_last) }
-    ensures device { OnOk result (device.new ≡ (line_answer number (trace_line_of line.now) device.old).after) }
-{
-    text.clear();
-    push_answer(text, device, number, read_trace_line(line))
 }

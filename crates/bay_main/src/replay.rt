@@ -23,7 +23,6 @@ const SCENARIO_LIMIT: usize = 16_777_216;
 
 /// Writes a line, replays a trace line by line, and writes as it goes.
 fn replay_trace<W: Write>(
-    alloc: Global,
     device: &mut Device,
     head: &[u8],
     trace: &[u8],
@@ -32,22 +31,16 @@ fn replay_trace<W: Write>(
     requires { length trace.now ≤ scenario_limit }
     ensures { Prints W.contents (HeadReport head.now device.old (lines_of trace.now)) writer.old writer.new result }
 {
-    let mut outbox = Outbox::new(alloc);
+    let mut outbox = Outbox::new();
     outbox.put(writer, head)?;
-    let mut text = String::new(alloc);
     let mut rest = trace;
     let mut number = 1usize;
     while !rest.is_empty() {
         let (line, after) = cut_line(rest);
-        let Ok(is_last) = answer_line(&mut text, device, number, line) else {
-            outbox.finish(writer, b"fault memory\n")?;
-            return Ok(FAULT);
-        };
-        if is_last {
-            outbox.finish(writer, text.as_bytes())?;
+        if answer_line(&mut outbox, writer, device, number, line)? {
+            outbox.finish(writer, b"")?;
             return Ok(FAULT);
         }
-        outbox.put(writer, text.as_bytes())?;
         number += 1;
         rest = after;
     }
@@ -66,7 +59,7 @@ fn replay_device<W: Write>(
     ensures { Prints W.contents (MayReport device.old (lines_of trace.now)) writer.old writer.new result }
 {
     match report_text(alloc, device.report()) {
-        Ok(head) => replay_trace(alloc, device, head.as_bytes(), trace, writer),
+        Ok(head) => replay_trace(device, head.as_bytes(), trace, writer),
         Err(_) => write_text(writer, OUT_OF_MEMORY, REFUSED),
     }
 }
