@@ -3,7 +3,6 @@ pub mod RunLemmas
 pub mod ScanLemmas
 pub mod SimLemmas
 pub mod SlotLemmas
-pub mod StackLemmas
 pub mod StandLemmas
 pub mod TurnLemmas
 pub mod ValueLemmas

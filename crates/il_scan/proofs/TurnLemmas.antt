@@ -25,7 +25,7 @@ use Rattle.il_verify.proofs.WithinLemmas.{within_length}
 use Rattle.il_image.specs.declared.value.Value.{Value}
 use Rattle.il_scan.specs.Standing.{Fit, KeepsSlots, Standing, StandsAt, Turns, words_at}
 use Rattle.il_scan.specs.Words.{IsReady, Words, leads, top, worked}
-use Rattle.il_scan.proofs.SimLemmas.{Does, depth_of, does, fit_length}
+use Rattle.il_scan.proofs.SimLemmas.{Does, does, fit_length}
 
 -- ---- where words lead
 
@@ -119,12 +119,6 @@ module _ (image : Image) (now : ℕ) (s : State) (h : Standing image s) where
   pub cells_room : length s.cells ≡ length h.kinds
   cells_room = fit_length s.cells h.kinds h.fit
 
-  pub stack_room : length (words_at s).stack ≤ 32
-  stack_room =
-      let d = depth_of s.cells h.kinds h.fit in
-      let room : length h.kinds ≤ 32 = h.agrees.room s.place h.kinds h.here in
-      omega arith
-
   module _ (i : Instr) (next : ℕ) (here : instr_at image.code s.place ≡ Some (i, next)) (octets : AreOctets image.code) where
     allows : Allows image s h i next
     allows =
@@ -203,9 +197,6 @@ module _ (image : Image) (now place : ℕ) (w : Words) (s : State) (h : StandsAt
 
   pub some_at : IsSome (instr_at image.code place)
   some_at = subst (λ (p : ℕ). IsSome (instr_at image.code p)) h.there (read_some image now s h.standing)
-
-  pub depth_at : length w.stack ≤ 32
-  depth_at = subst (λ (m : Words). length m.stack ≤ 32) h.are (stack_room image now s h.standing)
 
   module _ (read : Instr × ℕ) (here : instr_at image.code place ≡ Some read) (octets : AreOctets image.code) where
     here_so : instr_at image.code s.place ≡ Some (read.0, read.1)

@@ -1,12 +1,12 @@
 // What each instruction does to the stack, the slots and the timers.
-ghost use Rattle.std.specs.Prelude.{◌≡◌, ◌+◌, ◌^◌, ◌<◌, ◌≤◌, ◌∷◌, length, reverse, slice_set, drop, pos, unsigned_abs, if◌then◌else◌};
+ghost use Rattle.std.specs.Prelude.{◌≡◌, ◌+◌, ◌^◌, ◌<◌, ◌∷◌, length, slice_set, drop, pos, unsigned_abs, if◌then◌else◌};
 ghost use Rattle.std.specs.Ordering.{int_eq};
 ghost use Rattle.il_image.specs.Arithmetic.{DividesBy, compared, computed};
 ghost use Rattle.il_image.specs.Timers as time;
 ghost use Rattle.il_scan.specs.Words as spec;
 ghost use Rattle.il_scan.specs.Words.{IsReady, IsSpan, is_true, joined, slot_at, timer_at, word_of, worked, words};
 
-use crate::stack::{Stack, pop, push, replace_top, top};
+use crate::stack::Stack;
 use il_image::arithmetic::{Comparison, Operation, Width, compare, compute};
 use il_image::instr::Instr;
 use il_image::opcode::{Connective, SlotUse, TimerUse, When};
@@ -14,57 +14,52 @@ use il_image::timer::Timer;
 
 /// NOT: the top is negated.
 #[inline(always)]
-fn negate(stack: &mut Stack)
-    requires depth { length (reverse stack.old.items) ≤ 32 }
-    requires some { 0 < length (reverse stack.old.items) }
-    ensures { reverse stack.new.items ≡ word_of (int_eq (spec.top (reverse stack.old.items)) (pos 0)) ∷ drop 1 (reverse stack.old.items) }
+fn negate(stack: &mut Stack<'_>)
+    requires some { 0 < length stack.old }
+    ensures { stack.new ≡ word_of (int_eq (spec.top stack.old) (pos 0)) ∷ drop 1 stack.old }
 {
-    let word = top(stack);
-    replace_top(stack, i64::from(word == 0));
+    let word = stack.top();
+    stack.replace_top(i64::from(word == 0));
 }
 
 /// AND: two BOOLs become one.
 #[inline(always)]
-fn and(stack: &mut Stack)
-    requires depth { length (reverse stack.old.items) ≤ 32 }
-    requires two { 1 < length (reverse stack.old.items) }
-    ensures { reverse stack.new.items ≡ joined Connective.And (spec.first (reverse stack.old.items)) (spec.top (reverse stack.old.items)) ∷ drop 2 (reverse stack.old.items) }
+fn and(stack: &mut Stack<'_>)
+    requires two { 1 < length stack.old }
+    ensures { stack.new ≡ joined Connective.And (spec.first stack.old) (spec.top stack.old) ∷ drop 2 stack.old }
 {
-    let second = pop(stack);
-    let first = top(stack);
-    replace_top(stack, if first == 0 { 0 } else { second });
+    let second = stack.pop();
+    let first = stack.top();
+    stack.replace_top(if first == 0 { 0 } else { second });
 }
 
 /// OR: two BOOLs become one.
 #[inline(always)]
-fn or(stack: &mut Stack)
-    requires depth { length (reverse stack.old.items) ≤ 32 }
-    requires two { 1 < length (reverse stack.old.items) }
-    ensures { reverse stack.new.items ≡ joined Connective.Or (spec.first (reverse stack.old.items)) (spec.top (reverse stack.old.items)) ∷ drop 2 (reverse stack.old.items) }
+fn or(stack: &mut Stack<'_>)
+    requires two { 1 < length stack.old }
+    ensures { stack.new ≡ joined Connective.Or (spec.first stack.old) (spec.top stack.old) ∷ drop 2 stack.old }
 {
-    let second = pop(stack);
-    let first = top(stack);
-    replace_top(stack, if first == 0 { second } else { 1 });
+    let second = stack.pop();
+    let first = stack.top();
+    stack.replace_top(if first == 0 { second } else { 1 });
 }
 
 /// XOR: two BOOLs become one.
 #[inline(always)]
-fn xor(stack: &mut Stack)
-    requires depth { length (reverse stack.old.items) ≤ 32 }
-    requires two { 1 < length (reverse stack.old.items) }
-    ensures { reverse stack.new.items ≡ joined Connective.Xor (spec.first (reverse stack.old.items)) (spec.top (reverse stack.old.items)) ∷ drop 2 (reverse stack.old.items) }
+fn xor(stack: &mut Stack<'_>)
+    requires two { 1 < length stack.old }
+    ensures { stack.new ≡ joined Connective.Xor (spec.first stack.old) (spec.top stack.old) ∷ drop 2 stack.old }
 {
-    let second = pop(stack);
-    let first = top(stack);
-    replace_top(stack, i64::from(first != second));
+    let second = stack.pop();
+    let first = stack.top();
+    stack.replace_top(i64::from(first != second));
 }
 
 /// AND, OR or XOR.
 #[inline(always)]
-fn combine(stack: &mut Stack, connective: Connective)
-    requires depth { length (reverse stack.old.items) ≤ 32 }
-    requires two { 1 < length (reverse stack.old.items) }
-    ensures { reverse stack.new.items ≡ joined connective (spec.first (reverse stack.old.items)) (spec.top (reverse stack.old.items)) ∷ drop 2 (reverse stack.old.items) }
+fn combine(stack: &mut Stack<'_>, connective: Connective)
+    requires two { 1 < length stack.old }
+    ensures { stack.new ≡ joined connective (spec.first stack.old) (spec.top stack.old) ∷ drop 2 stack.old }
 {
     match connective {
         Connective::And => and(stack),
@@ -75,24 +70,22 @@ fn combine(stack: &mut Stack, connective: Connective)
 
 /// One of ADD, SUB, MUL, DIV, MOD: two numbers of the width become one.
 #[inline(always)]
-fn calculate(stack: &mut Stack, operation: Operation, width: Width)
-    requires depth { length (reverse stack.old.items) ≤ 32 }
-    requires two { 1 < length (reverse stack.old.items) }
-    requires divisor { DividesBy operation (spec.top (reverse stack.old.items)) }
-    ensures { reverse stack.new.items ≡ computed operation width (spec.first (reverse stack.old.items)) (spec.top (reverse stack.old.items)) ∷ drop 2 (reverse stack.old.items) }
+fn calculate(stack: &mut Stack<'_>, operation: Operation, width: Width)
+    requires two { 1 < length stack.old }
+    requires divisor { DividesBy operation (spec.top stack.old) }
+    ensures { stack.new ≡ computed operation width (spec.first stack.old) (spec.top stack.old) ∷ drop 2 stack.old }
 {
-    let second = pop(stack);
-    let first = top(stack);
-    replace_top(stack, compute(operation, width, first, second));
+    let second = stack.pop();
+    let first = stack.top();
+    stack.replace_top(compute(operation, width, first, second));
 }
 
 /// ADD, SUB, MUL, DIV or MOD. Each is a call of its own, so that what is done is known where the opcode is.
 #[inline(always)]
-fn calculate_by(stack: &mut Stack, operation: Operation, width: Width)
-    requires depth { length (reverse stack.old.items) ≤ 32 }
-    requires two { 1 < length (reverse stack.old.items) }
-    requires divisor { DividesBy operation (spec.top (reverse stack.old.items)) }
-    ensures { reverse stack.new.items ≡ computed operation width (spec.first (reverse stack.old.items)) (spec.top (reverse stack.old.items)) ∷ drop 2 (reverse stack.old.items) }
+fn calculate_by(stack: &mut Stack<'_>, operation: Operation, width: Width)
+    requires two { 1 < length stack.old }
+    requires divisor { DividesBy operation (spec.top stack.old) }
+    ensures { stack.new ≡ computed operation width (spec.first stack.old) (spec.top stack.old) ∷ drop 2 stack.old }
 {
     match operation {
         Operation::Add => calculate(stack, Operation::Add, width),
@@ -105,22 +98,20 @@ fn calculate_by(stack: &mut Stack, operation: Operation, width: Width)
 
 /// One of GT, GE, EQ, NE, LE, LT: two values of one type become a BOOL.
 #[inline(always)]
-fn relate(stack: &mut Stack, comparison: Comparison)
-    requires depth { length (reverse stack.old.items) ≤ 32 }
-    requires two { 1 < length (reverse stack.old.items) }
-    ensures { reverse stack.new.items ≡ word_of (compared comparison (spec.first (reverse stack.old.items)) (spec.top (reverse stack.old.items))) ∷ drop 2 (reverse stack.old.items) }
+fn relate(stack: &mut Stack<'_>, comparison: Comparison)
+    requires two { 1 < length stack.old }
+    ensures { stack.new ≡ word_of (compared comparison (spec.first stack.old) (spec.top stack.old)) ∷ drop 2 stack.old }
 {
-    let second = pop(stack);
-    let first = top(stack);
-    replace_top(stack, i64::from(compare(comparison, first, second)));
+    let second = stack.pop();
+    let first = stack.top();
+    stack.replace_top(i64::from(compare(comparison, first, second)));
 }
 
 /// GT, GE, EQ, NE, LE or LT.
 #[inline(always)]
-fn relate_by(stack: &mut Stack, comparison: Comparison)
-    requires depth { length (reverse stack.old.items) ≤ 32 }
-    requires two { 1 < length (reverse stack.old.items) }
-    ensures { reverse stack.new.items ≡ word_of (compared comparison (spec.first (reverse stack.old.items)) (spec.top (reverse stack.old.items))) ∷ drop 2 (reverse stack.old.items) }
+fn relate_by(stack: &mut Stack<'_>, comparison: Comparison)
+    requires two { 1 < length stack.old }
+    ensures { stack.new ≡ word_of (compared comparison (spec.first stack.old) (spec.top stack.old)) ∷ drop 2 stack.old }
 {
     match comparison {
         Comparison::Gt => relate(stack, Comparison::Gt),
@@ -134,50 +125,50 @@ fn relate_by(stack: &mut Stack, comparison: Comparison)
 
 /// WIDEN, WIDENL: the word of a number is the same in each width.
 #[inline(always)]
-fn widen(_stack: &mut Stack)
-    requires { 0 < length (reverse _stack.old.items) }
-    ensures { reverse _stack.new.items ≡ reverse _stack.old.items }
+fn widen(_stack: &mut Stack<'_>)
+    requires { 0 < length _stack.old }
+    ensures { _stack.new ≡ _stack.old }
 {}
 
 /// LOAD: a slot's word goes on the stack.
 #[inline(always)]
-fn load(stack: &mut Stack, slots: &[i64], number: u16)
-    requires room { length (reverse stack.old.items) < 32 }
+fn load(stack: &mut Stack<'_>, slots: &[i64], number: u16)
+    requires room { length stack.old < 32 }
     requires there { number < length slots.now }
-    ensures { reverse stack.new.items ≡ slot_at slots.now number ∷ reverse stack.old.items }
+    ensures { stack.new ≡ slot_at slots.now number ∷ stack.old }
 {
-    push(stack, slots[usize::from(number)]);
+    stack.push(slots[usize::from(number)]);
 }
 
 /// STORE: the slot takes the top.
 #[inline(always)]
-fn store(stack: &Stack, slots: &mut [i64], number: u16)
-    requires some { 0 < length (reverse stack.now.items) }
+fn store(stack: &Stack<'_>, slots: &mut [i64], number: u16)
+    requires some { 0 < length stack.now }
     requires there { number < length slots.old }
-    ensures { slots.new ≡ slice_set slots.old number (spec.top (reverse stack.now.items)) }
+    ensures { slots.new ≡ slice_set slots.old number (spec.top stack.now) }
 {
-    slots[usize::from(number)] = top(stack);
+    slots[usize::from(number)] = stack.top();
 }
 
 /// SETIF, RESETIF: the slot takes TRUE or FALSE where the top is TRUE.
 #[inline(always)]
-fn set_if(stack: &Stack, slots: &mut [i64], number: u16, word: i64)
-    requires some { 0 < length (reverse stack.now.items) }
+fn set_if(stack: &Stack<'_>, slots: &mut [i64], number: u16, word: i64)
+    requires some { 0 < length stack.now }
     requires there { number < length slots.old }
-    ensures { slots.new ≡ slice_set slots.old number (if int_eq (spec.top (reverse stack.now.items)) (pos 0) then slot_at slots.old number else word) }
+    ensures { slots.new ≡ slice_set slots.old number (if int_eq (spec.top stack.now) (pos 0) then slot_at slots.old number else word) }
 {
     let place = usize::from(number);
     let old = slots[place];
-    slots[place] = if top(stack) == 0 { old } else { word };
+    slots[place] = if stack.top() == 0 { old } else { word };
 }
 
 /// The place of the next instruction behind a conditional jump: the first where the top is FALSE.
 #[inline(always)]
-fn choose(stack: &Stack, where_false: usize, where_true: usize) -> usize
-    requires { 0 < length (reverse stack.now.items) }
-    ensures { result ≡ (if int_eq (spec.top (reverse stack.now.items)) (pos 0) then where_false else where_true) }
+fn choose(stack: &Stack<'_>, where_false: usize, where_true: usize) -> usize
+    requires { 0 < length stack.now }
+    ensures { result ≡ (if int_eq (spec.top stack.now) (pos 0) then where_false else where_true) }
 {
-    if top(stack) == 0 {
+    if stack.top() == 0 {
         where_false
     } else {
         where_true
@@ -186,29 +177,27 @@ fn choose(stack: &Stack, where_false: usize, where_true: usize) -> usize
 
 /// SETIN: the timer takes the top as IN.
 #[inline(always)]
-fn set_input(stack: &mut Stack, timers: &mut [Timer], number: u16)
-    requires depth { length (reverse stack.old.items) ≤ 32 }
-    requires some { 0 < length (reverse stack.old.items) }
+fn set_input(stack: &mut Stack<'_>, timers: &mut [Timer], number: u16)
+    requires some { 0 < length stack.old }
     requires there { number < length timers.old }
-    ensures stack { reverse stack.new.items ≡ drop 1 (reverse stack.old.items) }
-    ensures timers { timers.new ≡ slice_set timers.old number (record (timer_at timers.old number) { input = is_true (spec.top (reverse stack.old.items)) }) }
+    ensures stack { stack.new ≡ drop 1 stack.old }
+    ensures timers { timers.new ≡ slice_set timers.old number (record (timer_at timers.old number) { input = is_true (spec.top stack.old) }) }
 {
-    let word = pop(stack);
+    let word = stack.pop();
     let timer = &mut timers[usize::from(number)];
     timer.input = word != 0;
 }
 
 /// SETPT: the timer takes the top as PT.
 #[inline(always)]
-fn set_preset(stack: &mut Stack, timers: &mut [Timer], number: u16)
-    requires depth { length (reverse stack.old.items) ≤ 32 }
-    requires some { 0 < length (reverse stack.old.items) }
+fn set_preset(stack: &mut Stack<'_>, timers: &mut [Timer], number: u16)
+    requires some { 0 < length stack.old }
     requires there { number < length timers.old }
-    requires span { IsSpan (spec.top (reverse stack.old.items)) }
-    ensures stack { reverse stack.new.items ≡ drop 1 (reverse stack.old.items) }
-    ensures timers { timers.new ≡ slice_set timers.old number (record (timer_at timers.old number) { preset = unsigned_abs (spec.top (reverse stack.old.items)) }) }
+    requires span { IsSpan (spec.top stack.old) }
+    ensures stack { stack.new ≡ drop 1 stack.old }
+    ensures timers { timers.new ≡ slice_set timers.old number (record (timer_at timers.old number) { preset = unsigned_abs (spec.top stack.old) }) }
 {
-    let word = pop(stack);
+    let word = stack.pop();
     let timer = &mut timers[usize::from(number)];
     timer.preset = word as u32;
 }
@@ -224,24 +213,24 @@ fn run(timers: &mut [Timer], number: u16, now: u64)
 
 /// LOADQ: Q goes on the stack.
 #[inline(always)]
-fn load_output(stack: &mut Stack, timers: &[Timer], number: u16)
-    requires room { length (reverse stack.old.items) < 32 }
+fn load_output(stack: &mut Stack<'_>, timers: &[Timer], number: u16)
+    requires room { length stack.old < 32 }
     requires there { number < length timers.now }
-    ensures { reverse stack.new.items ≡ word_of (timer_at timers.now number).output ∷ reverse stack.old.items }
+    ensures { stack.new ≡ word_of (timer_at timers.now number).output ∷ stack.old }
 {
     let timer = timers[usize::from(number)];
-    push(stack, i64::from(timer.output));
+    stack.push(i64::from(timer.output));
 }
 
 /// LOADET: ET goes on the stack.
 #[inline(always)]
-fn load_elapsed(stack: &mut Stack, timers: &[Timer], number: u16)
-    requires room { length (reverse stack.old.items) < 32 }
+fn load_elapsed(stack: &mut Stack<'_>, timers: &[Timer], number: u16)
+    requires room { length stack.old < 32 }
     requires there { number < length timers.now }
-    ensures { reverse stack.new.items ≡ pos (timer_at timers.now number).elapsed ∷ reverse stack.old.items }
+    ensures { stack.new ≡ pos (timer_at timers.now number).elapsed ∷ stack.old }
 {
     let timer = timers[usize::from(number)];
-    push(stack, i64::from(timer.elapsed));
+    stack.push(i64::from(timer.elapsed));
 }
 
 /// Does the instruction with this place behind it, at this moment, and gives the place of the next one if there is one.
@@ -250,21 +239,20 @@ pub(crate) fn act(
     now: u64,
     instr: Instr,
     next: usize,
-    stack: &mut Stack,
+    stack: &mut Stack<'_>,
     slots: &mut [i64],
     timers: &mut [Timer],
 ) -> Option<usize>
     requires next { next < 2 ^ 63 }
-    requires depth { length (reverse stack.old.items) ≤ 32 }
-    requires ready { IsReady instr (words (reverse stack.old.items) slots.old timers.old) }
-    ensures to { result ≡ spec.leads instr next (reverse stack.old.items) }
-    ensures words { words (reverse stack.new.items) slots.new timers.new ≡ worked now instr (words (reverse stack.old.items) slots.old timers.old) }
+    requires ready { IsReady instr (words stack.old slots.old timers.old) }
+    ensures to { result ≡ spec.leads instr next stack.old }
+    ensures words { words stack.new slots.new timers.new ≡ worked now instr (words stack.old slots.old timers.old) }
 {
     match instr {
         Instr::Halt => return None,
-        Instr::Push(value) => push(stack, value.number()),
+        Instr::Push(value) => stack.push(value.number()),
         Instr::Drop => {
-            pop(stack);
+            stack.pop();
         }
         Instr::Slot(SlotUse::Load, number) => load(stack, slots, number),
         Instr::Slot(SlotUse::Store, number) => store(stack, slots, number),

@@ -1,5 +1,5 @@
 // A run of verified code, from its first instruction to a HALT.
-ghost use Rattle.std.specs.Prelude.{◌≡◌, ◌<◌, length, reverse};
+ghost use Rattle.std.specs.Prelude.{◌≡◌, ◌<◌, length};
 ghost use Rattle.il_image.specs.Machine.{State};
 ghost use Rattle.il_scan.specs.Standing.{IsHeld, RunsTo, StandsAt, Turns};
 ghost use Rattle.il_scan.specs.Words.{words};
@@ -8,7 +8,6 @@ ghost use Rattle.il_verify.specs.Verdicts.{IsSafe};
 use crate::act::act;
 use crate::fetch::fetch;
 use crate::stack::Stack;
-use arrayvec::ArrayVec;
 use il_image::image::Image;
 use il_image::timer::Timer;
 
@@ -19,15 +18,15 @@ fn turn(
     code: &[u8],
     now: u64,
     place: usize,
-    stack: &mut Stack,
+    stack: &mut Stack<'_>,
     slots: &mut [i64],
     timers: &mut [Timer],
 ) -> Option<usize>
     requires code { code.now ≡ _image.now.code }
-    requires stands { (s : State) × StandsAt _image.now place (words (reverse stack.old.items) slots.old timers.old) s }
+    requires stands { (s : State) × StandsAt _image.now place (words stack.old slots.old timers.old) s }
     ensures within { place < length _image.now.code }
-    ensures turns { (s : State) → StandsAt _image.now place (words (reverse stack.old.items) slots.old timers.old) s →
-        Turns _image.now now s result (words (reverse stack.new.items) slots.new timers.new) }
+    ensures turns { (s : State) → StandsAt _image.now place (words stack.old slots.old timers.old) s →
+        Turns _image.now now s result (words stack.new slots.new timers.new) }
 {
     let (instr, next) = fetch(code, place);
     act(now, instr, next, stack, slots, timers)
@@ -40,7 +39,8 @@ pub(crate) fn run(image: &Image, now: u64, slots: &mut [i64], timers: &mut [Time
     ensures { RunsTo image.now now slots.old timers.old slots.new timers.new result }
 {
     let code = image.code();
-    let mut stack: Stack = ArrayVec::new();
+    let mut words = [0; 32];
+    let mut stack = Stack::new(&mut words);
     let mut place = 0;
     let mut steps = 0;
     while let Some(next) = turn(image, code, now, place, &mut stack, slots, timers) {

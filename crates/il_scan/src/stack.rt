@@ -1,49 +1,74 @@
 // The operand stack: at most 32 words, which contracts see with the top first.
-ghost use Rattle.std.specs.Prelude.{◌≡◌, ◌<◌, ◌≤◌, ◌∷◌, drop, length, reverse};
+ghost use Rattle.std.specs.Prelude.{◌≡◌, ◌<◌, ◌∷◌, [], drop, length};
 ghost use Rattle.il_scan.specs.Words as spec;
 
-use arrayvec::ArrayVec;
+use std::marker::Model;
 
-/// The operand stack.
-pub(crate) type Stack = ArrayVec<i64, 32>;
-
-/// Takes the top away.
-#[inline(always)]
-pub(crate) fn pop(stack: &mut Stack) -> i64
-    requires some { 0 < length (reverse stack.old.items) }
-    requires depth { length (reverse stack.old.items) ≤ 32 }
-    ensures is { reverse stack.old.items ≡ result ∷ reverse stack.new.items }
-    ensures room { length (reverse stack.new.items) < 32 }
-{
-    stack.swap_remove(stack.len() - 1)
+/// The operand stack. Its words lie where its maker put them and its depth beside them, so that the depth can stay in a register. What
+/// lies above the top has no meaning.
+#[derive(Drop)]
+pub(crate) struct Stack<'a> {
+    words: &'a mut [i64],
+    depth: usize,
 }
 
-/// Puts a word on the stack.
-#[inline(always)]
-pub(crate) fn push(stack: &mut Stack, word: i64)
-    requires { length (reverse stack.old.items) < 32 }
-    ensures { reverse stack.new.items ≡ word ∷ reverse stack.old.items }
-{
-    stack.push(word);
+impl<'a> Model for Stack<'a> {
+    ghost use Rattle.std.specs.Prelude.{◌≡◌, ◌≤◌, ℤ, List, length, reverse, take};
+
+    ghost Value = { List ℤ };
+
+    ghost view = { λ s. reverse (take s.depth s.words.now) };
+
+    ghost invariant = { λ s. (length s.words.now ≡ 32) × (s.depth ≤ 32) };
 }
 
-/// The top.
-#[inline(always)]
-pub(crate) fn top(stack: &Stack) -> i64
-    requires { 0 < length (reverse stack.now.items) }
-    ensures { result ≡ spec.top (reverse stack.now.items) }
-{
-    let words = stack.as_slice();
-    words[words.len() - 1]
-}
+impl<'a> Stack<'a> {
+    /// An empty stack.
+    #[inline(always)]
+    pub(crate) fn new(words: &'a mut [i64]) -> Stack<'a>
+        requires { length words.old ≡ 32 }
+        ensures { result ≡ [] }
+    {
+        Stack { words, depth: 0 }
+    }
 
-/// Puts a word in the place of the top.
-#[inline(always)]
-pub(crate) fn replace_top(stack: &mut Stack, word: i64)
-    requires { 0 < length (reverse stack.old.items) }
-    ensures { reverse stack.new.items ≡ word ∷ drop 1 (reverse stack.old.items) }
-{
-    let words = stack.as_mut_slice();
-    let last = words.len() - 1;
-    words[last] = word;
+    /// Takes the top away.
+    #[inline(always)]
+    pub(crate) fn pop(&mut self) -> i64
+        requires { 0 < length self.old }
+        ensures is { self.old ≡ result ∷ self.new }
+        ensures room { length self.new < 32 }
+    {
+        self.depth -= 1;
+        self.words[self.depth]
+    }
+
+    /// Puts a word on the stack.
+    #[inline(always)]
+    pub(crate) fn push(&mut self, word: i64)
+        requires { length self.old < 32 }
+        ensures { self.new ≡ word ∷ self.old }
+    {
+        self.words[self.depth] = word;
+        self.depth += 1;
+    }
+
+    /// The top.
+    #[inline(always)]
+    pub(crate) fn top(&self) -> i64
+        requires { 0 < length self.now }
+        ensures { result ≡ spec.top self.now }
+    {
+        self.words[self.depth - 1]
+    }
+
+    /// Puts a word in the place of the top.
+    #[inline(always)]
+    pub(crate) fn replace_top(&mut self, word: i64)
+        requires { 0 < length self.old }
+        ensures { self.new ≡ word ∷ drop 1 self.old }
+    {
+        self.pop();
+        self.push(word);
+    }
 }

@@ -1,4 +1,4 @@
-use Rattle.std.proofs.Common.{◌≡◌, ◌<◌, List, ℕ, ℤ, [], length, reverse, subst, sym, ap, arith}
+use Rattle.std.proofs.Common.{◌<◌, List, ℕ, ℤ, length, subst, sym, ap, arith}
 use Rattle.il_image.specs.Octets.{AreOctets}
 use Rattle.il_scan.specs.Standing.{first_state}
 use Rattle.il_scan.specs.Words.{words}
@@ -9,8 +9,7 @@ pub loop-next-init : goal.loop-next-init
 loop-next-init c =
     let first = first_state c.args.image.now c.args.slots.now c.args.timers.now in
     let octets = subst AreOctets c.code-code.ensures.value (λ k. (c.type_inv.code k).fits) in
-    let none : reverse c.new-stack.result.items ≡ [] = ap (λ (items : List ℤ). reverse items) c.new-stack.ensures in
-    subst (λ (stack : List ℤ). Comes c.args.image.now c.args.now first 0 0 (words stack c.args.slots.now c.args.timers.now)) (sym none)
+    subst (λ (stack : List ℤ). Comes c.args.image.now c.args.now first 0 0 (words stack c.args.slots.now c.args.timers.now)) (sym c.new-stack.ensures)
     (starts c.args.image.now c.args.now c.args.slots.now c.args.timers.now octets c.requires.safe c.requires.held)
 
 pub loop-next-smaller : goal.loop-next-smaller
