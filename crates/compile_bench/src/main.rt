@@ -10,10 +10,7 @@
 use anyhow::{Context, Result, bail};
 use bay_config::bay::Point;
 use il_check::check::check;
-use il_check::program::Typed;
 use il_compile::compile::compile;
-use il_image::image::Image;
-use il_text::program::Program;
 use il_text::read::read_program;
 use il_verify::verify::verify;
 use std::alloc::Global;
@@ -42,39 +39,24 @@ fn stage_of(word: &str) -> Option<Stage> {
     }
 }
 
-/// The budget of an image.
-fn budget_of(alloc: Global, points: &[Point], image: Image) -> Result<u64> {
-    match verify(alloc, image, points) {
-        Ok(verified) => Ok(u64::from(verified.budget())),
-        Err(refused) => Err(refused.fault.into()),
-    }
-}
-
-/// Takes a checked program up to a stage: the number of octets of code, or the budget.
-fn once_checked(alloc: Global, points: &[Point], typed: &Typed, stage: Stage) -> Result<u64> {
-    let image = compile(alloc, typed)?;
-    if let Stage::Compile = stage {
-        return Ok(image.code().len() as u64);
-    }
-    budget_of(alloc, points, image)
-}
-
-/// Takes a program that was read up to a stage: the number of its items, or what comes of it later.
-fn once_read(alloc: Global, points: &[Point], program: &Program<'_>, stage: Stage) -> Result<u64> {
-    let typed = check(alloc, program, points)?;
-    if let Stage::Check = stage {
-        return Ok(typed.items().len() as u64);
-    }
-    once_checked(alloc, points, &typed, stage)
-}
-
-/// Takes a text up to a stage once: the number of its items, or what comes of it later.
+/// Takes a text up to a stage once: the number of items, or of octets of code, or the budget.
 fn once(alloc: Global, points: &[Point], text: &str, stage: Stage) -> Result<u64> {
     let program = read_program(alloc, text)?;
     if let Stage::Read = stage {
         return Ok(program.items.len() as u64);
     }
-    once_read(alloc, points, &program, stage)
+    let typed = check(alloc, &program, points)?;
+    if let Stage::Check = stage {
+        return Ok(typed.items().len() as u64);
+    }
+    let image = compile(alloc, &typed)?;
+    if let Stage::Compile = stage {
+        return Ok(image.code().len() as u64);
+    }
+    match verify(alloc, image, points) {
+        Ok(verified) => Ok(u64::from(verified.budget())),
+        Err(refused) => Err(refused.fault.into()),
+    }
 }
 
 fn run(rt: &(impl Input + AllocGlobal + Print), words: &[&str]) -> Result<()> {

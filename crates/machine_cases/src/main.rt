@@ -18,7 +18,6 @@ use anyhow::{Context, Result, bail};
 use bay_config::bay::Point;
 use bay_config::read::read_bay;
 use il_image::decode::decode;
-use il_image::image::Image;
 use il_image::value::Value;
 use il_scan::machine::Machine;
 use il_verify::verify::verify;
@@ -34,14 +33,6 @@ input = [{ name = \"ES\" }]
 meter = [{ id = \"M1\" }]
 ";
 
-/// How many cases there were.
-#[derive(Clone, Copy)]
-struct Counts {
-    images: u32,
-    programs: u32,
-    scans: u32,
-}
-
 /// What the lines before a line make of the next ones, and how many cases there were.
 #[derive(Drop)]
 struct Session {
@@ -50,7 +41,9 @@ struct Session {
     /// What the next programs declare.
     declared: String,
     machine: Machine,
-    counts: Counts,
+    images: u32,
+    programs: u32,
+    scans: u32,
 }
 
 /// The first word of a line, and the others.
@@ -66,40 +59,27 @@ fn octets_of(alloc: Global, hex: &str) -> Result<Vec<u8>> {
     Ok(hex::decode(alloc, hex)?)
 }
 
-/// How an image is judged: accepted with a depth and a budget, or refused with a number at a place.
-#[derive(Clone, Copy, PartialEq)]
-struct Verdict {
+/// Whether an image is judged so: accepted with this depth and budget, or refused with this number at this place.
+fn is_judged(
+    alloc: Global,
+    points: &[Point],
+    octets: &[u8],
     accepted: bool,
     first: u64,
     second: u64,
-}
-
-/// The verdict that a line begins with, and the rest of the line.
-fn verdict_of(line: &str) -> Result<(Verdict, &str)> {
-    let (word, rest) = first_word(line);
-    let (first, rest) = first_word(rest);
-    let (second, rest) = first_word(rest);
-    let verdict = Verdict {
-        accepted: word == "accepted",
-        first: first.parse()?,
-        second: second.parse()?,
-    };
-    Ok((verdict, rest))
-}
-
-/// How an image is judged.
-fn judged(alloc: Global, points: &[Point], image: Image) -> Verdict {
+) -> Result<bool> {
+    let image = decode(alloc, octets)?;
     match verify(alloc, image, points) {
-        Ok(verified) => Verdict {
-            accepted: true,
-            first: u64::from(verified.depth()),
-            second: u64::from(verified.budget()),
-        },
-        Err(refused) => Verdict {
-            accepted: false,
-            first: u64::from(refused.fault.code().unwrap_or(0)),
-            second: refused.place as u64,
-        },
+        Ok(verified) => {
+            let is_so = u64::from(verified.depth()) == first
+                && u64::from(verified.budget()) == second;
+            Ok(accepted && is_so)
+        }
+        Err(refused) => {
+            let number = u64::from(refused.fault.code().unwrap_or(0));
+            let place = u64::try_from(refused.place)?;
+            Ok(!accepted && number == first && place == second)
+        }
     }
 }
 
@@ -112,34 +92,30 @@ fn image_of(alloc: Global, front: &str, code: &str) -> Result<Vec<u8>> {
     Ok(octets)
 }
 
-/// The image with this code, behind the front.
-fn image_behind(alloc: Global, front: &str, code: &str) -> Result<Image> {
-    let octets = image_of(alloc, front, code)?;
-    Ok(decode(alloc, octets.as_slice())?)
-}
-
 /// The case of a line, behind the front of its image.
 fn check(alloc: Global, points: &[Point], front: &str, line: &str) -> Result<()> {
-    let (wanted, code) = verdict_of(line)?;
-    let image = image_behind(alloc, front, code)?;
-    if judged(alloc, points, image) != wanted {
+    let (verdict, rest) = first_word(line);
+    let (first, rest) = first_word(rest);
+    let (second, code) = first_word(rest);
+    let octets = image_of(alloc, front, code)?;
+    let (first, second) = (first.parse::<u64>()?, second.parse::<u64>()?);
+    let accepted = verdict == "accepted";
+    if !is_judged(alloc, points, octets.as_slice(), accepted, first, second)? {
         bail!("{line}");
     }
     Ok(())
 }
 
-/// The machine of an image that is accepted.
-pub(crate) fn machine_of(alloc: Global, points: &[Point], image: Image) -> Result<Machine> {
-    match verify(alloc, image, points) {
-        Ok(verified) => Machine::new(alloc, verified).ok().context("out of memory"),
+/// The machine of the image with this code, behind the front.
+fn machine_of(alloc: Global, points: &[Point], front: &str, code: &str) -> Result<Machine> {
+    let octets = image_of(alloc, front, code)?;
+    match verify(alloc, decode(alloc, octets.as_slice())?, points) {
+        Ok(verified) => match Machine::new(alloc, verified) {
+            Ok(machine) => Ok(machine),
+            Err(_) => bail!("out of memory"),
+        },
         Err(refused) => Err(refused.fault.into()),
     }
-}
-
-/// The machine of the image with this code, behind the front.
-fn machine_behind(alloc: Global, points: &[Point], front: &str, code: &str) -> Result<Machine> {
-    let image = image_behind(alloc, front, code)?;
-    machine_of(alloc, points, image)
 }
 
 /// The values of the points that may only be read, from their numbers.
@@ -173,117 +149,73 @@ fn have(values: &[Value], numbers: &str) -> bool {
     true
 }
 
-/// A moment, the steps of its scan, and the rest of the line.
-fn moment_of(line: &str) -> Result<(u64, u64, &str)> {
-    let (now, rest) = first_word(line);
-    let (steps, rest) = first_word(rest);
-    Ok((now.parse()?, steps.parse()?, rest))
-}
-
-/// Whether a scan of the machine takes these values, and gives so many steps and the outputs of these numbers.
-fn is_scan(machine: &mut Machine, values: &[Value], now: u64, steps: u64, outputs: &str) -> bool {
-    if !machine.fits(values) {
-        return false;
-    }
-    let scan = machine.scan(values, now);
-    u64::from(scan.steps) == steps && have(scan.outputs, outputs)
-}
-
 /// A scan of the machine, with what it takes and gives.
 fn scan(alloc: Global, machine: &mut Machine, line: &str) -> Result<()> {
-    let (now, steps, rest) = moment_of(line)?;
+    let (now, rest) = first_word(line);
+    let (steps, rest) = first_word(rest);
     let (inputs, outputs) = first_word(rest);
+    let (now, steps) = (now.parse::<u64>()?, steps.parse::<u64>()?);
     let values = inputs_of(alloc, machine, inputs)?;
-    if !is_scan(machine, values.as_slice(), now, steps, outputs) {
+    if !machine.fits(values.as_slice()) {
+        bail!("{line}");
+    }
+    let scan = machine.scan(values.as_slice(), now);
+    let is_so = u64::from(scan.steps) == steps && have(scan.outputs, outputs);
+    if !is_so {
         bail!("{line}");
     }
     Ok(())
 }
 
-/// Puts a text in the place of another.
-fn put(alloc: Global, place: &mut String, text: &str) -> Result<()> {
-    *place = String::from_str(alloc, text)?;
+/// One line.
+fn case(alloc: Global, points: &[Point], session: &mut Session, line: &str) -> Result<()> {
+    let (word, rest) = first_word(line);
+    match word {
+        "#" => {}
+        "front" => session.front = String::from_str(alloc, rest)?,
+        "=" => session.declared = String::from_str(alloc, rest)?,
+        "machine" => session.machine = machine_of(alloc, points, session.front.as_str(), rest)?,
+        "scan" => {
+            scan(alloc, &mut session.machine, rest)?;
+            session.scans = session.scans.saturating_add(1);
+        }
+        "report" | "image" | "size" | "fault" => {
+            program(
+                alloc,
+                points,
+                session.declared.as_str(),
+                line,
+                &mut session.machine,
+            )?;
+            session.programs = session.programs.saturating_add(1);
+        }
+        _ => {
+            check(alloc, points, session.front.as_str(), line)?;
+            session.images = session.images.saturating_add(1);
+        }
+    }
     Ok(())
 }
 
-impl Session {
-    /// What the lines make of the first image.
-    fn start(alloc: Global, points: &[Point]) -> Result<Session> {
-        let front = String::from_str(alloc, "494c424302000000000000")?;
-        let machine = machine_behind(alloc, points, front.as_str(), "01")?;
-        Ok(Session {
-            front,
-            declared: String::from_str(alloc, "VAR / END_VAR")?,
-            machine,
-            counts: Counts {
-                images: 0,
-                programs: 0,
-                scans: 0,
-            },
-        })
-    }
-
-    fn take_machine(&mut self, alloc: Global, points: &[Point], code: &str) -> Result<()> {
-        self.machine = machine_behind(alloc, points, self.front.as_str(), code)?;
-        Ok(())
-    }
-
-    fn scan(&mut self, alloc: Global, line: &str) -> Result<()> {
-        self.counts.scans = self.counts.scans.saturating_add(1);
-        scan(alloc, &mut self.machine, line)
-    }
-
-    fn program(&mut self, alloc: Global, points: &[Point], line: &str) -> Result<()> {
-        self.counts.programs = self.counts.programs.saturating_add(1);
-        program(
-            alloc,
-            points,
-            self.declared.as_str(),
-            line,
-            &mut self.machine,
-        )
-    }
-
-    fn image(&mut self, alloc: Global, points: &[Point], line: &str) -> Result<()> {
-        self.counts.images = self.counts.images.saturating_add(1);
-        check(alloc, points, self.front.as_str(), line)
-    }
-
-    /// One line.
-    fn case(&mut self, alloc: Global, points: &[Point], line: &str) -> Result<()> {
-        let (word, rest) = first_word(line);
-        match word {
-            "#" => Ok(()),
-            "front" => put(alloc, &mut self.front, rest),
-            "=" => put(alloc, &mut self.declared, rest),
-            "machine" => self.take_machine(alloc, points, rest),
-            "scan" => self.scan(alloc, rest),
-            "report" | "image" | "size" | "fault" => self.program(alloc, points, line),
-            _ => self.image(alloc, points, line),
-        }
-    }
-}
-
-/// The lines of a text, and how many cases there were.
-fn lines(alloc: Global, points: &[Point], text: &str) -> Result<Counts> {
-    let mut session = Session::start(alloc, points)?;
-    for line in text.lines() {
-        session.case(alloc, points, line).context(line)?;
-    }
-    Ok(session.counts)
-}
-
-/// The lines of a text, for the bay.
-fn cases(alloc: Global, text: &str) -> Result<Counts> {
-    let bay = read_bay(alloc, BAY)?;
-    lines(alloc, bay.points.as_slice(), text)
-}
-
 fn main(rt: HostRuntime) -> Result<()> {
+    let bay = read_bay(rt.alloc(), BAY)?;
+    let points = bay.points.as_slice();
     let mut text = String::new(rt.alloc());
     rt.reader().read_to_string(&mut text)?;
-    let counts = cases(rt.alloc(), text.as_str())?;
-    let (images, programs, scans) = (counts.images, counts.programs, counts.scans);
+    let front = String::from_str(rt.alloc(), "494c424302000000000000")?;
+    let machine = machine_of(rt.alloc(), points, front.as_str(), "01")?;
+    let mut session = Session {
+        front,
+        declared: String::from_str(rt.alloc(), "VAR / END_VAR")?,
+        machine,
+        images: 0,
+        programs: 0,
+        scans: 0,
+    };
+    for line in text.as_str().lines() {
+        case(rt.alloc(), points, &mut session, line).context(line)?;
+    }
+    let (images, programs, scans) = (session.images, session.programs, session.scans);
     println!(&rt;
         "{images} images are judged, {programs} programs are compiled and {scans} scans come out as they should"
     )?;
