@@ -5,3 +5,5 @@ pub mod MeaningLemmas
 pub mod NodeLemmas
 pub mod OriginLemmas
 pub mod ScanLemmas
+pub mod TableLemmas
+pub mod ToldLemmas

@@ -22,6 +22,7 @@ use Rattle.bay_device.specs.Meaning.{Halts}
 use Rattle.bay_device.specs.Names.{StatusNames, SwitchNames, field_names, switch_names}
 use Rattle.bay_device.specs.Scans.{bound_value, meter_value, outputs_put, switch_value}
 use Rattle.bay_device.specs.StateView.{state_view}
+use Rattle.bay_device.specs.Told.{AreInterlocked}
 use Rattle.bay_device.specs.declared.meter.BoundMeter.{BoundMeter}
 use Rattle.bay_device.specs.declared.state.DeviceState.{DeviceState}
 use Rattle.bay_device.specs.declared.switch.BoundSwitch.{BoundSwitch}
@@ -33,6 +34,12 @@ kinded layout writes bound all k d lt = (all k (get_or bound k d) (slice_get-get
 
 pub meters-kinded : (layout : Layout) (bound : List BoundMeter) → AreMetersBound layout bound → AreMeterKinded layout bound
 meters-kinded layout bound all k d lt = (all k (get_or bound k d) (slice_get-get_or bound k d lt)).kinded
+
+-- those of the interlocking values have their names
+pub interlocked : (layout : Layout) (writes : List Origin) (bound : List BoundSwitch) → AreBound layout writes bound → AreInterlocked layout bound
+interlocked layout writes bound all k b here =
+    let is = all k b here in
+    record { kinded = is.kinded; named = record { opening = ap (λ (n : SwitchNames). n.ena_opn) is.named; closing = ap (λ (n : SwitchNames). n.ena_cls) is.named } }
 
 -- one value more of its type
 pub typed-more : (types : List ElementaryType) (values : List Value) (t : ElementaryType) (v : Value) → AreTyped types values → type_of v ≡ t → IsValue v → AreTyped (types ++ t ∷ []) (values ++ v ∷ [])

@@ -6,6 +6,9 @@ pub mod LookUps
 pub mod Meaning
 pub mod Names
 pub mod Nodes
+pub mod Parts
 pub mod Report
 pub mod Scans
 pub mod StateView
+pub mod Table
+pub mod Told

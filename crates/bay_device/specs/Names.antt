@@ -50,6 +50,13 @@ control_of k = node_name (codes "CSWI") (k + 1)
 abbrev pub interlocking_of : ℕ → List ℕ
 interlocking_of k = node_name (codes "CILO") (k + 1)
 
+-- the names of its two interlocking values
+abbrev pub opening_of : ℕ → StatusNames
+opening_of k = status_names (interlocking_of k) (codes "$ST$EnaOpn")
+
+abbrev pub closing_of : ℕ → StatusNames
+closing_of k = status_names (interlocking_of k) (codes "$ST$EnaCls")
+
 -- the names of the switch at a place
 abbrev pub switch_names : List Switch → ℕ → Switch → SwitchNames
 switch_names switches k switch = names_by_nodes (node_of switches k switch) (control_of k) (interlocking_of k)

@@ -1,5 +1,5 @@
 // The points of a verified image on those of a bay.
-ghost use Rattle.std.specs.Prelude.{◌≡◌, false, length, map, option_map, position, find, IfOk};
+ghost use Rattle.std.specs.Prelude.{◌≡◌, false, length, map, option_map, position, find, None, IfOk};
 ghost use Rattle.il_verify.specs.Binding.{is_point as is_image_point};
 ghost use Rattle.bay_device.specs.Device.{same_point, is_point};
 ghost use Rattle.bay_device.specs.Layout.{bound_from, outputs_at};
@@ -7,7 +7,7 @@ ghost use Rattle.bay_device.specs.Load.{origin_of, origins_of};
 
 use crate::rows::SwitchRows;
 use crate::switch::{BoundSwitch, SwitchOutputs};
-use crate::values::{Inputs, Truths};
+use crate::values::{Inputs, ToldValues, Truths};
 use bay_base::text::Text;
 use bay_config::bay::{Origin, Point, Switch, SwitchPoint};
 use il_image::image::ImagePoint;
@@ -131,4 +131,15 @@ pub fn room_for(alloc: Global, reads: &[Origin]) -> Result<Inputs, AllocError>
         values.push(Value::Truth(false))?;
     }
     Ok(Inputs::new(values))
+}
+
+/// That no interlocking value was written yet, for each switch.
+pub fn nothing_told(alloc: Global, switches: &[BoundSwitch]) -> Result<ToldValues, AllocError>
+    ensures { IfOk result (λ told. told ≡ map (λ _. None) switches.now) }
+{
+    let mut values = Vec::new(alloc);
+    for _switch in switches {
+        values.push(None)?;
+    }
+    Ok(ToldValues::new(values))
 }

@@ -15,43 +15,30 @@ ghost use Rattle.il_compile.specs.Compiled.{compiled_of};
 ghost use Rattle.il_verify.specs.Refusals.{IsRefusal};
 ghost use Rattle.il_verify.specs.Verdicts.{IsVerified};
 ghost use Rattle.il_verify.specs.declared.fault.VerifyFault.{VerifyFault};
-ghost use Rattle.il_scan.specs.Scans.{held_first};
 ghost use Rattle.bay_device.specs.Load.{initial_device, checked_in, of_compiled, of_checked, of_program, of_bay, verify_refusal, Loads, LoadsImage, LoadsRead};
 ghost use Rattle.bay_device.specs.Meaning.{Runs};
 ghost use Rattle.bay_device.specs.StateView.{state_view};
 ghost use Rattle.bay_device.specs.declared.fault.LoadFault.TheVariants.{OutOfMemory};
 
-use crate::bind::{bind_switches, falses, origins_of, room_for};
+use crate::bind::falses;
 use crate::device::Device;
 use crate::fault::LoadFault;
-use crate::meters::{all_meter_nodes, bind_meters};
-use crate::nodes::{all_nodes, all_switch_rows};
+use crate::parts::{bound_rows, node_names, wired_machine};
 use crate::state::DeviceState;
+use crate::table::tables_of;
 use bay_base::listing::Listing;
 use bay_config::bay::{Bay, Point};
 use bay_config::read::read_bay;
-use bay_tree::tree::Tree;
 use il_check::check::check;
 use il_check::program::Typed;
 use il_compile::compile::compile;
 use il_image::decode::decode;
 use il_image::image::Image;
-use il_scan::machine::Machine;
 use il_text::fault::TextFault;
 use il_text::program::Program;
 use il_text::read::read_program;
 use il_verify::verify::{Verified, verify};
 use std::alloc::{AllocError, Global};
-
-/// A machine with a verified image, before its first scan.
-fn machine_of(alloc: Global, verified: Verified) -> Result<Machine, AllocError>
-    ensures { IfOk result (λ machine. machine ≡ held_first verified) }
-{
-    match Machine::new(alloc, verified) {
-        Ok(machine) => Ok(machine),
-        Err(_) => Err(AllocError),
-    }
-}
 
 /// The state of a device of a bay and a verified image, before its first event.
 fn state_of(alloc: Global, bay: Bay, verified: Verified) -> Result<DeviceState, AllocError>
@@ -59,13 +46,9 @@ fn state_of(alloc: Global, bay: Bay, verified: Verified) -> Result<DeviceState, 
     requires verified { IsVerified bay.points verified }
     ensures { IfOk result (λ state. state_view state ≡ initial_device bay verified) }
 {
-    let nodes = all_nodes(alloc, &bay)?;
-    let meter_nodes = all_meter_nodes(alloc, &bay)?;
-    let points = verified.image().points();
-    let reads = origins_of(alloc, false, bay.points.as_slice(), points)?;
-    let writes = origins_of(alloc, true, bay.points.as_slice(), points)?;
-    let machine = machine_of(alloc, verified)?;
-    let room = room_for(alloc, reads.as_slice())?;
+    let wired = wired_machine(alloc, bay.points.as_slice(), verified)?;
+    let nodes = node_names(alloc, &bay)?;
+    let input_values = falses(alloc, bay.inputs.as_slice())?;
     let Bay {
         domain,
         vendor,
@@ -78,31 +61,36 @@ fn state_of(alloc: Global, bay: Bay, verified: Verified) -> Result<DeviceState, 
         meters,
         ..
     } = bay;
-    let tree = Tree::build(alloc, rows.into_vec())?;
-    let rows = all_switch_rows(alloc, &tree, nodes.as_slice())?;
-    let switches = bind_switches(
+    let bound = bound_rows(
         alloc,
+        rows.into_vec(),
         switches.into_vec(),
-        rows.as_slice(),
-        writes.as_slice(),
+        meters.as_slice(),
+        &nodes,
+        wired.writes.as_slice(),
     )?;
-    let meters = bind_meters(alloc, &tree, meters.as_slice(), meter_nodes.as_slice())?;
-    let input_values = falses(alloc, inputs.as_slice())?;
+    let tables = tables_of(
+        bound.switches.as_slice(),
+        inputs.as_slice(),
+        bound.meters.as_slice(),
+    );
     Ok(DeviceState {
         domain,
         vendor,
         model,
         revision,
         scan_max_age_ms,
-        tree,
-        switches: Listing::new(switches),
+        tree: bound.tree,
+        switches: Listing::new(bound.switches),
         inputs,
         input_values,
-        meters: Listing::new(meters),
-        reads: Listing::new(reads),
-        writes: Listing::new(writes),
-        room,
-        machine,
+        meters: Listing::new(bound.meters),
+        told: bound.told,
+        tables,
+        reads: Listing::new(wired.reads),
+        writes: Listing::new(wired.writes),
+        room: wired.room,
+        machine: wired.machine,
         moment: 0,
         last_scan: None,
         is_stale: false,

@@ -1,5 +1,5 @@
 // The rows of status values in the tree: a value, its quality and its moment (IEC 61850-7-3).
-ghost use Rattle.std.specs.Prelude.{◌≡◌, Some};
+ghost use Rattle.std.specs.Prelude.{◌≡◌, ◌≢◌, None, Some};
 ghost use Rattle.bay_tree.specs.declared.leaf.Kind.TheVariants as kind;
 ghost use Rattle.bay_tree.specs.declared.leaf.Leaf.TheVariants as leaves;
 ghost use Rattle.bay_tree.specs.Kinds.{kind_of};
@@ -121,7 +121,8 @@ pub fn is_position(tree: &Tree, handle: Handle, position: Dbpos) -> bool
 /// Whether a quality stands there.
 pub fn is_quality(tree: &Tree, handle: Handle, quality: Quality) -> bool
     requires { HasKind (layout_of tree.now) handle kind.Quality }
-    ensures { result ≡ is_quality quality (leaf_of (name_in (layout_of tree.now) handle) tree.now) }
+    ensures value { result ≡ is_quality quality (leaf_of (name_in (layout_of tree.now) handle) tree.now) }
+    ensures there { leaf_of (name_in (layout_of tree.now) handle) tree.now ≢ None }
 {
     same_quality(quality, quality_at(tree, handle))
 }
@@ -129,7 +130,8 @@ pub fn is_quality(tree: &Tree, handle: Handle, quality: Quality) -> bool
 /// Whether a truth value stands there.
 pub fn is_truth(tree: &Tree, handle: Handle, value: bool) -> bool
     requires { HasKind (layout_of tree.now) handle kind.Truth }
-    ensures { result ≡ is_truth value (leaf_of (name_in (layout_of tree.now) handle) tree.now) }
+    ensures value { result ≡ is_truth value (leaf_of (name_in (layout_of tree.now) handle) tree.now) }
+    ensures there { leaf_of (name_in (layout_of tree.now) handle) tree.now ≢ None }
 {
     truth_at(tree, handle) == value
 }

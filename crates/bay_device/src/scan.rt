@@ -1,5 +1,5 @@
 // What a scan reads, and what it writes (IEC 61850-7-4, CILO: EnaOpn and EnaCls).
-ghost use Rattle.std.specs.Prelude.{◌≡◌, [], length, map, slice_get, Some, None};
+ghost use Rattle.std.specs.Prelude.{◌≡◌, ◌<◌, ◌^◌, ℕ, ◌↔◌, [], length, map, slice_get, Some, None, IsTrue};
 ghost use Rattle.bay_tree.specs.declared.leaf.Kind.TheVariants as kind;
 ghost use Rattle.bay_tree.specs.declared.leaf.Leaf.TheVariants as leaves;
 ghost use Rattle.il_image.specs.Images.{IsValue};
@@ -9,14 +9,15 @@ ghost use Rattle.il_scan.specs.Words.{AreTyped};
 ghost use Rattle.bay_device.specs.Device.{is_true, number_of_position, output_at, position_value, with_enabled, with_output};
 ghost use Rattle.bay_device.specs.Layout.{layout_of, status_in, switch_in, AreStatusRows, AreSwitchRows, AreKinded, AreMeterKinded};
 ghost use Rattle.bay_device.specs.Meaning.{type_of_origin, type_of_switch_point};
+ghost use Rattle.bay_device.specs.Told.{AreEnabling, AreInterlocked, AreTold, AreValued, IsInterlocked, IsTold};
 ghost use Rattle.bay_device.specs.Scans.{bound_value, leaf_at, meter_value, outputs_put, switch_value};
 
 use crate::meter::BoundMeter;
 use crate::rows::{
     StatusRows, SwitchRows, count_at, is_position, is_quality, is_truth, position_at, put_status,
 };
-use crate::switch::BoundSwitch;
-use crate::values::{Inputs, Truths};
+use crate::switch::{BoundSwitch, Enabled};
+use crate::values::{Inputs, ToldValues, Truths};
 use bay_config::bay::{MeterField, Origin, SwitchPoint};
 use bay_tree::leaf::{Dbpos, Leaf, Quality};
 use bay_tree::tree::Tree;
@@ -134,6 +135,7 @@ fn set_enabled(tree: &mut Tree, rows: StatusRows, value: bool, now: u64)
     requires { AreStatusRows (layout_of tree.old) kind.Truth rows }
     ensures rows { tree.new ≡ with_enabled (status_in (layout_of tree.old) rows) value now tree.old }
     ensures layout { layout_of tree.new ≡ layout_of tree.old }
+    ensures valued { AreValued tree.old (status_in (layout_of tree.old) rows) }
 {
     let is_same = is_truth(tree, rows.value, value);
     let is_good = is_quality(tree, rows.quality, Quality::Good);
@@ -156,25 +158,73 @@ fn output(outputs: &[Value], place: Option<usize>) -> bool
     }
 }
 
-/// Gives a switch's interlocking values new values.
-fn write_output(tree: &mut Tree, rows: SwitchRows, may_open: bool, may_close: bool, now: u64)
-    requires { AreSwitchRows (layout_of tree.old) rows }
-    ensures rows { tree.new ≡ with_output (switch_in (layout_of tree.old) rows) may_open may_close now tree.old }
+/// Gives the interlocking values of the switch at a place new values.
+fn write_output(tree: &mut Tree, rows: &SwitchRows, enabled: Enabled, now: u64)
+    requires { AreSwitchRows (layout_of tree.old) rows.now }
+    ensures rows { tree.new ≡ with_output (switch_in (layout_of tree.old) rows.now) enabled.may_open enabled.may_close now tree.old }
     ensures layout { layout_of tree.new ≡ layout_of tree.old }
+    ensures told { (k : ℕ) → AreEnabling (layout_of tree.old) k rows.now → IsTold tree.new k enabled }
 {
-    set_enabled(tree, rows.ena_opn, may_open, now);
-    set_enabled(tree, rows.ena_cls, may_close, now);
+    set_enabled(tree, rows.ena_opn, enabled.may_open, now);
+    set_enabled(tree, rows.ena_cls, enabled.may_close, now);
+}
+
+/// Whether two answers on a switch are one.
+fn same_enabled(first: Enabled, second: Enabled) -> bool
+    ensures { IsTrue result ↔ (first ≡ second) }
+{
+    first.may_open == second.may_open && first.may_close == second.may_close
+}
+
+/// Gives the interlocking values of the switch at a place new values, where the last scan did not write the same.
+fn tell(
+    tree: &mut Tree,
+    told: &mut ToldValues,
+    place: usize,
+    rows: &SwitchRows,
+    enabled: Enabled,
+    now: u64,
+)
+    requires rows { IsInterlocked (layout_of tree.old) place rows.now }
+    requires told { AreTold tree.old told.old }
+    requires within { place < length told.old }
+    requires few { length told.old < 2 ^ 64 }
+    ensures rows { tree.new ≡ with_output (switch_in (layout_of tree.old) rows.now) enabled.may_open enabled.may_close now tree.old }
+    ensures layout { layout_of tree.new ≡ layout_of tree.old }
+    ensures told { AreTold tree.new told.new }
+    ensures sized { length told.new ≡ length told.old }
+{
+    if let Some(stood) = told.get(place) {
+        if same_enabled(stood, enabled) {
+            return;
+        }
+    }
+    write_output(tree, rows, enabled, now);
+    told.set(place, enabled);
 }
 
 /// Gives each switch's interlocking values the values of their points.
-pub fn write_outputs(tree: &mut Tree, switches: &[BoundSwitch], outputs: &[Value], now: u64)
-    requires { AreKinded (layout_of tree.old) switches.now }
+pub fn write_outputs(
+    tree: &mut Tree,
+    told: &mut ToldValues,
+    switches: &[BoundSwitch],
+    outputs: &[Value],
+    now: u64,
+)
+    requires interlocked { AreInterlocked (layout_of tree.old) switches.now }
+    requires told { AreTold tree.old told.old }
+    requires sized { length told.old ≡ length switches.now }
     ensures rows { tree.new ≡ outputs_put (layout_of tree.old) switches.now outputs.now now tree.old }
     ensures layout { layout_of tree.new ≡ layout_of tree.old }
+    ensures told { AreTold tree.new told.new }
+    ensures sized { length told.new ≡ length switches.now }
 {
-    for bound in switches {
-        let may_open = output(outputs, bound.outputs.ena_opn);
-        let may_close = output(outputs, bound.outputs.ena_cls);
-        write_output(tree, bound.rows, may_open, may_close, now);
+    for place in 0..switches.len() {
+        let bound = &switches[place];
+        let enabled = Enabled {
+            may_open: output(outputs, bound.outputs.ena_opn),
+            may_close: output(outputs, bound.outputs.ena_cls),
+        };
+        tell(tree, told, place, &bound.rows, enabled, now);
     }
 }

@@ -3,10 +3,13 @@ ghost use Rattle.std.specs.Prelude.{◌≡◌, length, map};
 ghost use Rattle.il_scan.specs.Scans.{read_only, type_of_point};
 ghost use Rattle.bay_device.specs.Layout.{layout_of, AreBound, AreMetersBound};
 ghost use Rattle.bay_device.specs.Meaning.{type_of_origin};
+ghost use Rattle.bay_device.specs.Table.{AreTables};
+ghost use Rattle.bay_device.specs.Told.{AreTold};
 
 use crate::meter::BoundMeter;
 use crate::switch::BoundSwitch;
-use crate::values::{Inputs, Truths};
+use crate::table::NameTables;
+use crate::values::{Inputs, ToldValues, Truths};
 use bay_base::listing::Listing;
 use bay_base::text::Text;
 use bay_config::bay::Origin;
@@ -32,6 +35,10 @@ pub struct DeviceState {
     pub input_values: Truths,
     /// The meters, in the order of the bay file.
     pub meters: Listing<BoundMeter>,
+    /// The interlocking values as the last scan wrote them.
+    pub told: ToldValues,
+    /// Where the ids of the switches, the names of the inputs and the ids of the meters stand.
+    pub tables: NameTables,
     /// What the points stand for that the program only reads, and those that it may write, in the order of its points.
     pub reads: Listing<Origin>,
     pub writes: Listing<Origin>,
@@ -46,6 +53,9 @@ pub struct DeviceState {
     pub is_stale: bool,
     ghost bound: { AreBound (layout_of tree) writes switches },
     ghost metered: { AreMetersBound (layout_of tree) meters },
+    ghost told_stands: { AreTold tree told },
+    ghost told_sized: { length told ≡ length switches },
+    ghost tabled: { AreTables switches inputs meters tables },
     ghost typed: { map type_of_origin reads ≡ map type_of_point (read_only machine.image.points) },
     ghost sized: { length room ≡ length reads },
 }

@@ -84,7 +84,13 @@ impl DeviceState {
         );
         let scan = self.machine.scan(self.room.as_slice(), now);
         let steps = scan.steps;
-        write_outputs(&mut self.tree, self.switches.as_slice(), scan.outputs, now);
+        write_outputs(
+            &mut self.tree,
+            &mut self.told,
+            self.switches.as_slice(),
+            scan.outputs,
+            now,
+        );
         self.last_scan = Some(now);
         self.is_stale = false;
         self.moment = now;

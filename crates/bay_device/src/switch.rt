@@ -9,6 +9,13 @@ pub struct SwitchOutputs {
     pub ena_cls: Option<usize>,
 }
 
+/// Whether a switch may be opened, and closed (IEC 61850-7-4, CILO: EnaOpn and EnaCls).
+#[derive(Clone, Copy)]
+pub struct Enabled {
+    pub may_open: bool,
+    pub may_close: bool,
+}
+
 /// A switch, where its values stand in the tree, and where a scan leaves its interlocking values.
 #[derive(Drop)]
 pub struct BoundSwitch {

@@ -1,7 +1,9 @@
 // Values that are never more or fewer than there were at first.
-ghost use Rattle.std.specs.Prelude.{◌≡◌, ◌<◌, length, slice_get, slice_set};
+ghost use Rattle.std.specs.Prelude.{◌≡◌, ◌<◌, length, slice_get, slice_set, Some};
 ghost use Rattle.bay_device.specs.Device.{same_truth};
+ghost use Rattle.bay_device.specs.Told.{told_at};
 
+use crate::switch::Enabled;
 use il_image::value::Value;
 use std::marker::Model;
 
@@ -86,6 +88,46 @@ impl Inputs {
         ensures { self.new ≡ slice_set self.old place value }
     {
         self.values[place] = value;
+    }
+}
+
+/// The interlocking values of the switches as the last scan wrote them; nothing before the first scan.
+#[derive(Drop)]
+pub struct ToldValues {
+    values: Vec<Option<Enabled>>,
+}
+
+impl Model for ToldValues {
+    ghost use Rattle.std.specs.Prelude.{List, Option};
+    ghost use Rattle.bay_device.specs.declared.switch.Enabled.{Enabled};
+
+    ghost Value = { List (Option Enabled) };
+
+    ghost view = { λ v. v.values.items };
+}
+
+impl ToldValues {
+    /// These values. It takes no memory.
+    pub fn new(values: Vec<Option<Enabled>>) -> Self
+        ensures { result ≡ values.items }
+    {
+        ToldValues { values }
+    }
+
+    /// What was written of the switch at a place, if anything was.
+    pub fn get(&self, place: usize) -> Option<Enabled>
+        requires { place < length self.now }
+        ensures { result ≡ told_at self.now place }
+    {
+        self.values[place]
+    }
+
+    /// Keeps what was written of the switch at a place.
+    pub fn set(&mut self, place: usize, enabled: Enabled)
+        requires { place < length self.old }
+        ensures { self.new ≡ slice_set self.old place (Some enabled) }
+    {
+        self.values[place] = Some(enabled);
     }
 }
 

@@ -1,11 +1,13 @@
 use Rattle.std.proofs.Common.{◌≡◌, Some, ap, sym, ◌∙◌, slice_get, option_map}
 use Rattle.std.proofs.lemmas.Option.{slice_get-map}
-use Rattle.bay_device.specs.Device.{contact_outcome}
+use Rattle.bay_device.specs.Device.{contact_outcome, rows_after_contact}
 use Rattle.bay_device.specs.Layout.{layout_of, switch_in, switches_of}
+use Rattle.bay_device.specs.Names.{switch_names}
 use Rattle.bay_device.specs.StateView.{state_view}
 use Rattle.bay_device.specs.declared.switch.BoundSwitch.{BoundSwitch}
 use Rattle.bay_device.proofs.ContactLemmas.{contact-done}
 use Rattle.bay_device.proofs.ListLemmas.{got-some}
+use Rattle.bay_device.proofs.ToldLemmas.{told-kept, keeps-contact}
 use Rattle.bay_device.proofs.state.DeviceState.contact.Goals as goal
 
 pub take_position-changed-requires : goal.take_position-changed-requires
@@ -15,12 +17,22 @@ take_position-changed-requires c =
     (d.bound c.args.switch c.in-Some.bound.now here).kinded
 
 pub invariant_of-self : goal.invariant_of-self
-invariant_of-self c = record {
-  bound = rw c.take_position-changed.ensures.layout c.args.self.now.bound;
-  metered = rw c.take_position-changed.ensures.layout c.args.self.now.metered;
-  typed = c.args.self.now.typed;
-  sized = c.args.self.now.sized;
-}
+invariant_of-self c =
+    let d = c.args.self.now in
+    let bound = c.in-Some.bound.now in
+    let here : slice_get d.switches c.args.switch ≡ Some bound = rw c.as_slice.ensures at (got-some _ c.args.switch c.in-Some.bound c.in-Some.ensures.lookup) in
+    let did = c.take_position-changed.ensures in
+    let written : c.take_position-changed.new.tree ≡ rows_after_contact (switch_names (switches_of d.switches) c.args.switch bound.switch) c.args.position c.args.now d.tree =
+    did.rows ∙ ap (λ n. rows_after_contact n c.args.position c.args.now d.tree) (d.bound c.args.switch bound here).named in
+    record {
+      bound = rw did.layout d.bound;
+      metered = rw did.layout d.metered;
+      told_stands = rw written (told-kept d.tree _ d.told d.told_stands (keeps-contact (switches_of d.switches) c.args.switch bound.switch c.args.position c.args.now d.tree));
+      told_sized = d.told_sized;
+      tabled = d.tabled;
+      typed = d.typed;
+      sized = d.sized;
+    }
 
 pub returns-clause-after : goal.returns-clause-after
 returns-clause-after c =

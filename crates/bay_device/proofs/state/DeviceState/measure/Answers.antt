@@ -1,13 +1,14 @@
 use Rattle.std.proofs.Common.{◌≡◌, Some, ap, sym, ◌∙◌, slice_get, option_map}
 use Rattle.std.proofs.lemmas.Int.{to_z-of_z}
 use Rattle.std.proofs.lemmas.Option.{slice_get-map}
-use Rattle.bay_device.specs.Device.{measure_outcome}
+use Rattle.bay_device.specs.Device.{measure_outcome, rows_after_measure}
 use Rattle.bay_device.specs.Layout.{layout_of, status_in, meters_of}
-use Rattle.bay_device.specs.Names.{field_names}
+use Rattle.bay_device.specs.Names.{field_names, meter_names}
 use Rattle.bay_device.specs.StateView.{state_view}
 use Rattle.bay_device.specs.declared.meter.BoundMeter.{BoundMeter}
 use Rattle.bay_device.proofs.ContactLemmas.{measure-done, field-kinded, field-named}
 use Rattle.bay_device.proofs.ListLemmas.{got-some}
+use Rattle.bay_device.proofs.ToldLemmas.{told-kept, keeps-measure, field-away}
 use Rattle.bay_device.proofs.state.DeviceState.measure.Goals as goal
 
 pub take_measure-changed-requires : goal.take_measure-changed-requires
@@ -18,12 +19,26 @@ take_measure-changed-requires c =
     rw c.field-rows.ensures (field-kinded (layout_of d.tree) bound.rows c.args.field (d.metered c.args.meter bound here).kinded)
 
 pub invariant_of-self : goal.invariant_of-self
-invariant_of-self c = record {
-  bound = rw c.take_measure-changed.ensures.layout c.args.self.now.bound;
-  metered = rw c.take_measure-changed.ensures.layout c.args.self.now.metered;
-  typed = c.args.self.now.typed;
-  sized = c.args.self.now.sized;
-}
+invariant_of-self c =
+    let d = c.args.self.now in
+    let bound = c.in-Some.bound.now in
+    let f = c.args.field in
+    let here : slice_get d.meters c.args.meter ≡ Some bound = rw c.as_slice.ensures at (got-some _ c.args.meter c.in-Some.bound c.in-Some.ensures.lookup) in
+    let named = ap (status_in (layout_of d.tree)) c.field-rows.ensures ∙ field-named (layout_of d.tree) bound.rows f ∙ ap (field_names f) (d.metered c.args.meter bound here).named in
+    let did = c.take_measure-changed.ensures in
+    let fits = c.ranges.value in
+    let rows = simp to_z-of_z at did.rows in
+    let written : c.take_measure-changed.new.tree ≡ rows_after_measure (field_names f (meter_names c.args.meter)) c.args.value c.args.now d.tree =
+    rows ∙ ap (λ n. rows_after_measure n c.args.value c.args.now d.tree) named in
+    record {
+      bound = rw did.layout d.bound;
+      metered = rw did.layout d.metered;
+      told_stands = rw written (told-kept d.tree _ d.told d.told_stands (keeps-measure (field_names f (meter_names c.args.meter)) c.args.value c.args.now d.tree (field-away c.args.meter f)));
+      told_sized = d.told_sized;
+      tabled = d.tabled;
+      typed = d.typed;
+      sized = d.sized;
+    }
 
 pub returns-clause-after : goal.returns-clause-after
 returns-clause-after c =

@@ -4,7 +4,7 @@ use Rattle.il_image.specs.Images.{Image}
 use Rattle.il_scan.specs.Scans.{read_only, type_of_point}
 use Rattle.bay_device.specs.Device.{Ran}
 use Rattle.bay_device.specs.Layout.{layout_of}
-use Rattle.bay_device.proofs.ScanLemmas.{halted, inputs-named, kinded, meters-kinded, ran, scan-done}
+use Rattle.bay_device.proofs.ScanLemmas.{halted, inputs-named, interlocked, kinded, meters-kinded, ran, scan-done}
 use Rattle.bay_device.proofs.state.DeviceState.scan.Goals as goal
 
 pub read_points-requires-clause-switches : goal.read_points-requires-clause-switches
@@ -17,10 +17,10 @@ read_points-requires-clause-meters c =
     let d = c.args.self.now in
     rw c.as_slice-2.ensures (meters-kinded (layout_of d.tree) d.meters d.metered)
 
-pub write_outputs-requires : goal.write_outputs-requires
-write_outputs-requires c =
+pub write_outputs-requires-clause-interlocked : goal.write_outputs-requires-clause-interlocked
+write_outputs-requires-clause-interlocked c =
     let d = c.args.self.now in
-    rw c.as_slice-5.ensures (kinded (layout_of d.tree) d.writes d.switches d.bound)
+    rw c.as_slice-5.ensures (interlocked (layout_of d.tree) d.writes d.switches d.bound)
 
 pub invariant_of-self : goal.invariant_of-self
 invariant_of-self c =
@@ -29,6 +29,9 @@ invariant_of-self c =
     record {
       bound = rw c.write_outputs.ensures.layout d.bound;
       metered = rw c.write_outputs.ensures.layout d.metered;
+      told_stands = c.write_outputs.ensures.told;
+      told_sized = c.write_outputs.ensures.sized ∙ ap length c.as_slice-5.ensures;
+      tabled = d.tabled;
       typed = d.typed ∙ sym (ap (λ (i : Image). map type_of_point (read_only i.points)) did.image);
       sized = ap length c.read_points.ensures.read ∙ length-map c.as_slice-3.result.now _ ∙ ap length c.as_slice-3.ensures;
     }

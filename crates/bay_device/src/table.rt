@@ -1,0 +1,122 @@
+// Where names stand, found without going over all of them.
+ghost use Rattle.std.specs.Prelude.{◌≡◌, ◌<◌, length, map, position};
+ghost use Rattle.bay_base.specs.Names.{same_name};
+ghost use Rattle.bay_device.specs.Table.{IsTable, AreTables, key_of, noted};
+
+use crate::meter::BoundMeter;
+use crate::switch::BoundSwitch;
+use bay_base::names::same_name;
+use bay_base::text::Text;
+
+/// How many keys there are.
+const KEYS: usize = 64;
+
+/// What has a name.
+pub trait Named {
+    ghost use Rattle.std.specs.Prelude.{List, ℕ};
+
+    ghost name: { Self → List ℕ };
+
+    /// The name.
+    fn name(&self) -> &str
+        ensures { result.now ≡ name self.now };
+}
+
+impl Named for Text {
+    ghost name = { λ text. text };
+
+    fn name(&self) -> &str {
+        self.as_str()
+    }
+}
+
+impl Named for BoundSwitch {
+    ghost name = { λ bound. bound.switch.id };
+
+    fn name(&self) -> &str {
+        self.switch.id.as_str()
+    }
+}
+
+impl Named for BoundMeter {
+    ghost name = { λ bound. bound.id };
+
+    fn name(&self) -> &str {
+        self.id.as_str()
+    }
+}
+
+/// The key of a name, which is the same whatever the case of its letters.
+fn key_of(name: &str) -> usize
+    ensures key { result ≡ key_of name.now }
+    ensures within { result < 64 }
+{
+    let mut key = 0;
+    for octet in name.as_bytes() {
+        key = (key * 31 + octet.to_ascii_uppercase() as usize) % KEYS;
+    }
+    key
+}
+
+/// For each key a place before which no name has it.
+#[derive(Drop)]
+pub struct NameTable {
+    pub firsts: [usize; KEYS],
+}
+
+impl NameTable {
+    /// Notes that a name with this key stands at a place.
+    fn note(&mut self, key: usize, place: usize)
+        requires { key < 64 }
+        ensures { self.new.firsts ≡ noted key place self.old.firsts }
+    {
+        if place < self.firsts[key] {
+            self.firsts[key] = place;
+        }
+    }
+
+    /// The table of the names of these items.
+    pub fn new<T: Named>(items: &[T]) -> Self
+        ensures { IsTable (map T.name items.now) result.firsts }
+    {
+        let mut table = NameTable {
+            firsts: [items.len(); KEYS],
+        };
+        for place in 0..items.len() {
+            table.note(key_of(items[place].name()), place);
+        }
+        table
+    }
+
+    /// The place of the first of these items with this name, whatever the case of its letters.
+    pub fn place_of<T: Named>(&self, items: &[T], name: &str) -> Option<usize>
+        requires { IsTable (map T.name items.now) self.now.firsts }
+        ensures { result ≡ position (λ item. same_name (T.name item) name.now) items.now }
+    {
+        for place in self.firsts[key_of(name)]..items.len() {
+            if same_name(items[place].name(), name) {
+                return Some(place);
+            }
+        }
+        None
+    }
+}
+
+/// The tables of a device's names.
+#[derive(Drop)]
+pub struct NameTables {
+    pub switches: NameTable,
+    pub inputs: NameTable,
+    pub meters: NameTable,
+}
+
+/// The tables of the ids of these switches, of these names of inputs, and of the ids of these meters.
+pub fn tables_of(switches: &[BoundSwitch], inputs: &[Text], meters: &[BoundMeter]) -> NameTables
+    ensures { AreTables switches.now inputs.now meters.now result }
+{
+    NameTables {
+        switches: NameTable::new(switches),
+        inputs: NameTable::new(inputs),
+        meters: NameTable::new(meters),
+    }
+}
