@@ -1,5 +1,5 @@
 -- Lemmas on the words and numbers of a line.
-use Rattle.std.proofs.Common.{◌≡◌, ◌≢◌, ℕ, suc, ◌<◌, ◌^◌, ◌&&◌, Bool, true, false, cond, eqb, nat_lt, List, [], ◌∷◌, length, get_or, None, refl, ap, ◌∙◌, arith}
+use Rattle.std.proofs.Common.{◌≡◌, ◌≢◌, ℕ, suc, ◌<◌, ◌^◌, ◌&&◌, Bool, true, false, cond, eqb, nat_lt, List, [], ◌∷◌, length, get_or, Some, None, refl, ap, ◌∙◌, arith}
 use Rattle.std.proofs.lemmas.Bool.Decides.{nat_tests}
 use Rattle.std.proofs.lemmas.List.Splits.{slice_split-cons_no}
 use Rattle.std.proofs.lemmas.Str.Parse.{IsNumeralModel, numerals_by_value, tells_all_ascii_digits}
@@ -20,22 +20,28 @@ one_word [] h = refl
 one_word (b ∷ bs) h =
     slice_split-cons_no is_space b bs (not_space b (h 0 (omega arith))) ∙ ap (onto_first b) (one_word bs (λ i l. h (suc i) (omega arith)))
 
-pub digits_all : (bs : List ℕ) → list_all is_ascii_digit bs ≡ all_ascii_digits bs
-digits_all [] = refl
-digits_all (b ∷ bs) = ap (λ v. is_ascii_digit b && v) (digits_all bs)
-
 -- decimal digits as the standard library reads them
 pub digits : IsNumeralModel (λ ds. all_ascii_digits ds ≡ true) (digits_value 10)
 digits = numerals_by_value _ tells_all_ascii_digits
 
--- digits that write no number below 2 ^ 64
-pub read_number-none : (bs : List ℕ) → all_ascii_digits bs ≡ true → ¬ ((0 < length bs) × (digits_value 10 bs < 2 ^ 64)) → read_number bs ≡ None
-read_number-none bs all none = by_tests (nat_lt 0 (length bs)) (nat_lt (digits_value 10 bs) (2 ^ 64)) refl refl
+-- a word is a number where it is decimal digits that write one below 2 ^ 64
+abbrev pub IsNumber : List ℕ → Type 0
+IsNumber bs = (all_ascii_digits bs ≡ true) × (0 < length bs) × (digits_value 10 bs < 2 ^ 64)
+
+pub read_number-some : (bs : List ℕ) → IsNumber bs → read_number bs ≡ Some (digits_value 10 bs)
+read_number-some bs is =
+    let some : nat_lt 0 (length bs) ≡ true = let lt = is.1 in grind (arith, nat_tests) in
+    let fits : nat_lt (digits_value 10 bs) (2 ^ 64) ≡ true = let lt = is.2 in grind (arith, nat_tests) in
+    rw (is.0, some, fits) refl
+
+pub read_number-none : (bs : List ℕ) → ¬ (IsNumber bs) → read_number bs ≡ None
+read_number-none bs none = by_tests (all_ascii_digits bs) (nat_lt 0 (length bs)) (nat_lt (digits_value 10 bs) (2 ^ 64)) refl refl refl
   where
-    by_tests : (v w : Bool) → nat_lt 0 (length bs) ≡ v → nat_lt (digits_value 10 bs) (2 ^ 64) ≡ w → read_number bs ≡ None
-    by_tests false w e f = rw (all, e)
-    by_tests true false e f = rw (all, e, f)
-    by_tests true true e f = absurd (none (grind (arith, nat_tests), grind (arith, nat_tests)))
+    by_tests : (u v w : Bool) → all_ascii_digits bs ≡ u → nat_lt 0 (length bs) ≡ v → nat_lt (digits_value 10 bs) (2 ^ 64) ≡ w → read_number bs ≡ None
+    by_tests false v w d e f = rw d refl
+    by_tests true false w d e f = rw (d, e)
+    by_tests true true false d e f = rw (d, e, f)
+    by_tests true true true d e f = absurd (none (d, grind (arith, nat_tests), grind (arith, nat_tests)))
 
 -- a list that isn't empty
 abbrev HasFirst : List (List ℕ) → Type 0

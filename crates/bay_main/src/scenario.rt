@@ -3,6 +3,8 @@ ghost use Rattle.std.specs.Prelude.{◌≡◌, ◌+◌, ◌-◌, ◌<◌, ◌≤
 ghost use Rattle.bay_main.specs.Scenario.{is_line_feed, pieces, content, is_separator, part_of, scenario_of, CutsLine};
 ghost use Rattle.bay_main.specs.ScenarioView.{scenario_view};
 
+use memchr::memchr;
+
 /// The three parts of a scenario, as they stand in it.
 #[derive(Clone, Copy)]
 pub struct Scenario<'a> {
@@ -22,7 +24,7 @@ fn first_piece_len(text: &[u8]) -> usize
     ensures before { (k : ℕ) → k + 1 < result → is_line_feed (slice_index text.now k) ≡ false }
     ensures at { result < length text.now → is_line_feed (slice_index text.now (result - 1)) ≡ true }
 {
-    match text.iter().position(|octet| *octet == b'\n') {
+    match memchr(b'\n', text) {
         Some(at) => at + 1,
         None => text.len(),
     }

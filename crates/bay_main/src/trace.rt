@@ -1,7 +1,6 @@
 // What a line of the trace says.
 ghost use Rattle.std.specs.Prelude.{◌≡◌, ◌∷◌, ◌≤◌, ◌^◌, ℕ, option_map, Some, neg_ℤ, pos};
 ghost use Rattle.std.specs.List.{slice_split};
-ghost use Rattle.std.specs.Str.{all_ascii_digits};
 ghost use Rattle.bay_main.specs.Trace.{is_space, rest_words, only_word, read_number, positive_of, negative_of, read_integer, position_of, truth_of, field_of, measure_of, named_of, event_of, words_line, trace_line_of};
 ghost use Rattle.bay_main.specs.TraceView.{named_view, line_view};
 
@@ -60,17 +59,11 @@ fn only_word(text: &str) -> Option<&str>
     }
 }
 
-fn has_only_digits(word: &str) -> bool
-    ensures { result ≡ all_ascii_digits word.now }
-{
-    word.bytes().all(|octet| octet.is_ascii_digit())
-}
-
 /// The number that decimal digits write, if it is below 2^64. There may be leading zeros, and no sign.
 fn number(word: &str) -> Option<u64>
     ensures { result ≡ read_number word.now }
 {
-    if !has_only_digits(word) {
+    if word.starts_with('+') {
         return None;
     }
     match word.parse() {
