@@ -13,7 +13,7 @@ use std::alloc::{AllocError, Global};
 use std::marker::Model;
 
 /// One association, which contracts see as its phase.
-#[derive(Debug, Drop)]
+#[derive(Drop)]
 pub struct Assoc {
     alloc: Global,
     phase: Phase,

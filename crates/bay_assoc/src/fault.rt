@@ -7,7 +7,7 @@ use std::alloc::AllocError;
 use thiserror::Error;
 
 /// Why a TSDU is refused. After any of these the association refuses every later TSDU with `Failed`.
-#[derive(Clone, Copy, Debug, PartialEq, Eq, Error)]
+#[derive(Clone, Copy, Debug, Error)]
 pub enum AssocFault {
     /// The TSDU is no SPDU that is known here (X.225 8.3).
     #[error("the TSDU is no SPDU")]

@@ -18,7 +18,7 @@ use bay_mms::response::{Agreed, write_agreed};
 use std::alloc::{AllocError, Global};
 
 /// The identifiers of the presentation contexts that were accepted.
-#[derive(Clone, Copy, Debug, PartialEq, Eq)]
+#[derive(Clone, Copy)]
 pub struct Accepted {
     /// The context of ACSE.
     pub acse: u16,
@@ -27,7 +27,7 @@ pub struct Accepted {
 }
 
 /// What an open association has agreed on.
-#[derive(Clone, Copy, Debug, PartialEq, Eq)]
+#[derive(Clone, Copy)]
 pub struct Link {
     /// The contexts that values come in.
     pub contexts: Accepted,
@@ -36,7 +36,7 @@ pub struct Link {
 }
 
 /// The phase of an association.
-#[derive(Clone, Copy, Debug, PartialEq, Eq)]
+#[derive(Clone, Copy)]
 pub enum Phase {
     /// Nothing was heard.
     Idle,

@@ -1,5 +1,5 @@
 // Presentation protocol data units (ISO 8823-1 8.2).
-ghost use Rattle.std.specs.Prelude.{◌≡◌, ◌≤◌, ◌++◌, ◌∷◌, ◌||◌, [], length, map, option_map, OnOk, IfOk, IfSome};
+ghost use Rattle.std.specs.Prelude.{◌≡◌, ◌≤◌, ◌++◌, ◌∷◌, ◌&&◌, ◌||◌, [], length, map, option_map, OnOk, IfOk, IfSome};
 ghost use Rattle.std.specs.Option.{option_copied, ForSome};
 ghost use Rattle.bay_base.specs.Exact.{Gives};
 ghost use Rattle.bay_ber.specs.Values.{part_of, each_in};
@@ -30,7 +30,7 @@ const CONTEXTS_MAX: usize = 16;
 const SELECTOR_MAX: usize = 16;
 
 /// A presentation context that is offered: its identifier, and whether it offers ACSE or MMS with the Basic Encoding Rules.
-#[derive(Clone, Copy, Debug)]
+#[derive(Clone, Copy)]
 pub struct Context {
     pub id: u16,
     pub is_acse: bool,
@@ -59,6 +59,12 @@ fn is_ber(value: &Value<'_>) -> Option<bool>
 {
     let name = value.under(Tag::universal(6))?;
     Some(name == BER)
+}
+
+fn both(first: bool, second: bool) -> bool
+    ensures { result ≡ (first && second) }
+{
+    first && second
 }
 
 fn either(first: bool, second: bool) -> bool
@@ -107,8 +113,8 @@ fn context_with(id: &Value<'_>, syntax: &Value<'_>, transfers: &Value<'_>) -> Op
     let ber = offers_ber(list)?;
     Some(Context {
         id,
-        is_acse: ber && name == ACSE,
-        is_mms: ber && name == MMS,
+        is_acse: both(ber, name == ACSE),
+        is_mms: both(ber, name == MMS),
     })
 }
 
@@ -205,10 +211,7 @@ pub(crate) fn carried_of<'a>(parts: &[Value<'a>]) -> Option<Carried<'a>>
 {
     match parts {
         [id, value] => carried_as(id, value),
-        [name, id, value] => {
-            name.under(Tag::universal(6))?;
-            carried_as(id, value)
-        }
+        [name, id, value] if name.tag.is(Tag::universal(6)) => carried_as(id, value),
         _ => None,
     }
 }
@@ -274,8 +277,8 @@ fn connect_with<'a>(
     let octets = list
         .under(Tag::context_constructed(4))
         .ok_or(AssocFault::BadPresentation)?;
-    let contexts = contexts_in(alloc, octets)?;
     let user = carried_under(user).ok_or(AssocFault::BadPresentation)?;
+    let contexts = contexts_in(alloc, octets)?;
     Ok(Connect {
         called,
         contexts,
@@ -286,23 +289,16 @@ fn connect_with<'a>(
 fn connect_of<'a>(alloc: Global, parts: &[Value<'a>]) -> Result<Connect<'a>, AssocFault>
     ensures { Gives AssocFault.OutOfMemory connect_view result (wanted BadPresentation (connect_of (map part_of parts.now))) }
 {
-    match parts {
-        [list, user] => connect_with(alloc, None, list, user),
-        [selector, list, user] => {
-            if selector.tag.is(Tag::context(1)) {
-                connect_with(alloc, None, list, user)
-            } else {
-                connect_with(alloc, Some(selector), list, user)
-            }
+    let (called, list, user) = match parts {
+        [list, user] => (None, list, user),
+        [calling, list, user] if calling.tag.is(Tag::context(1)) => (None, list, user),
+        [called, list, user] => (Some(called), list, user),
+        [calling, called, list, user] if calling.tag.is(Tag::context(1)) => {
+            (Some(called), list, user)
         }
-        [calling, called, list, user] => {
-            calling
-                .under(Tag::context(1))
-                .ok_or(AssocFault::BadPresentation)?;
-            connect_with(alloc, Some(called), list, user)
-        }
-        _ => Err(AssocFault::BadPresentation),
-    }
+        _ => return Err(AssocFault::BadPresentation),
+    };
+    connect_with(alloc, called, list, user)
 }
 
 // The parameters of the normal mode, among other fields.
@@ -349,18 +345,13 @@ fn mode_as(value: &Value<'_>) -> Option<i64>
 fn request_of<'a>(alloc: Global, parts: &[Value<'a>]) -> Result<Connect<'a>, AssocFault>
     ensures { Gives AssocFault.OutOfMemory connect_view result (wanted BadPresentation (request_of (map part_of parts.now))) }
 {
-    match parts {
-        [first, second] => {
-            if first.tag.is(Tag::context_constructed(0)) {
-                mode_as(first).ok_or(AssocFault::BadPresentation)?;
-                normal_as(alloc, second)
-            } else {
-                mode_as(second).ok_or(AssocFault::BadPresentation)?;
-                normal_as(alloc, first)
-            }
-        }
-        _ => Err(AssocFault::BadPresentation),
-    }
+    let (mode, parameters) = match parts {
+        [first, second] if first.tag.is(Tag::context_constructed(0)) => (first, second),
+        [first, second] => (second, first),
+        _ => return Err(AssocFault::BadPresentation),
+    };
+    mode_as(mode).ok_or(AssocFault::BadPresentation)?;
+    normal_as(alloc, parameters)
 }
 
 /// The request for a connection (CP) that octets are, among other fields.

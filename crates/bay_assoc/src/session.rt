@@ -209,13 +209,13 @@ fn finish_of(users: UserData<'_>) -> Option<Spdu<'_>>
 fn spdu_of(unit: Unit<'_>) -> Option<Spdu<'_>>
     ensures { option_map spdu_view result ≡ spdu_of (unit_of unit.entry) }
 {
-    let users = users_in(unit.content);
+    let users = users_in(unit.content)?;
     match unit.identifier {
-        0x0D => connect_of(users?),
-        0x09 => finish_of(users?),
-        0x0E => users.map(|_| Spdu::Accept),
-        0x0A => users.map(|_| Spdu::Disconnect),
-        0x19 => users.map(|_| Spdu::Abort),
+        0x0D => connect_of(users),
+        0x09 => finish_of(users),
+        0x0E => Some(Spdu::Accept),
+        0x0A => Some(Spdu::Disconnect),
+        0x19 => Some(Spdu::Abort),
         _ => None,
     }
 }

@@ -159,6 +159,29 @@ fn put_selector(writer: &mut Writer, called: Option<&[u8]>) -> Result<(), AllocE
     Ok(())
 }
 
+// Writes the parameters of the normal mode, with a value of ACSE.
+fn put_normal(
+    writer: &mut Writer,
+    called: Option<&[u8]>,
+    contexts: &[Context],
+    accepted: Accepted,
+    value: &[u8],
+) -> Result<(), AllocError>
+    requires selector { ForSome called (λ octets. length octets.now ≤ 16) }
+    requires contexts { length contexts.now ≤ 16 }
+    requires short { length value.now < 10_000 }
+    ensures text { OnOk result (writer.new ≡ writer.old ++ element (constructed 2) (selector_text (option_map (λ octets. octets.now) called.entry)
+        ++ (element (constructed 5) (results_text accepted contexts.now) ++ user_text accepted.acse value.now))) }
+    ensures few { OnOk result (length writer.new ≤ length writer.old + length value.now + 274) }
+{
+    let start = writer.len();
+    put_selector(writer, called)?;
+    put_results(writer, accepted, contexts)?;
+    put_user(writer, accepted.acse, value)?;
+    writer.nest_from(start, Tag::context_constructed(2))?;
+    Ok(())
+}
+
 /// The answer to a request for a connection (CPA), with a value of ACSE.
 pub(crate) fn connected(
     alloc: Global,
@@ -175,11 +198,7 @@ pub(crate) fn connected(
 {
     let mut writer = Writer::new(alloc);
     writer.octets(Tag::context_constructed(0), &[0x80, 0x01, 0x01])?;
-    let start = writer.len();
-    put_selector(&mut writer, called)?;
-    put_results(&mut writer, accepted, contexts)?;
-    put_user(&mut writer, accepted.acse, value)?;
-    writer.nest_from(start, Tag::context_constructed(2))?;
+    put_normal(&mut writer, called, contexts, accepted, value)?;
     writer.nest_from(0, Tag::universal_constructed(17))?;
     Ok(writer.finish())
 }

@@ -7,7 +7,7 @@ use crate::fault::BerFault;
 use crate::tlv::number_of;
 
 /// The bits of a bit string.
-#[derive(Clone, Copy, Debug, PartialEq, Eq)]
+#[derive(Clone, Copy, Debug)]
 pub struct Bits<'a> {
     /// The octets that hold the bits, the first bit in bit 8 of the first octet. The last octet may hold up to
     /// seven bits more, of any value.

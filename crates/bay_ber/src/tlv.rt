@@ -7,7 +7,7 @@ use crate::fault::BerFault;
 use crate::tag::{Class, Tag};
 
 /// One value at the front of a list of octets, and the octets behind it.
-#[derive(Clone, Copy, Debug, PartialEq, Eq)]
+#[derive(Clone, Copy)]
 pub struct Tlv<'a> {
     /// The tag.
     pub tag: Tag,

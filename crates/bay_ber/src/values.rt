@@ -54,7 +54,7 @@ pub fn whole_value(octets: &[u8]) -> Option<Value<'_>>
 
 /// The values that stand one after another in octets (X.690 8.9.2, 8.10.2), which contracts see as the octets that are
 /// left.
-#[derive(Debug, Drop)]
+#[derive(Drop)]
 pub struct Values<'a> {
     rest: &'a [u8],
 }
@@ -94,7 +94,7 @@ impl<'a> Values<'a> {
 }
 
 /// At most five values, which contracts see as a list of tags and contents.
-#[derive(Debug, Drop)]
+#[derive(Drop)]
 pub struct Few<'a> {
     values: [Value<'a>; 5],
     count: usize,

@@ -84,7 +84,6 @@ fn append_value(out: &mut Vec<u8>, tag: Tag, content: &[u8]) -> Result<(), Alloc
 }
 
 // Appends a value whose content has three parts. A refused call may leave some of its octets at the end.
-#[tactic(auto, unfolding(crate::specs::Writing::element))]
 fn append(
     out: &mut Vec<u8>,
     tag: Tag,
@@ -155,7 +154,7 @@ pub fn element_length(count: u32) -> u64
 /// A writer of values one after another, which contracts see as the octets written so far. Each value is written under
 /// a tag whose number is below 31, with the shortest length. Where memory is wanting
 /// nothing is appended.
-#[derive(Debug, Drop)]
+#[derive(Drop)]
 pub struct Writer {
     octets: Vec<u8>,
 }

@@ -107,6 +107,10 @@ datum_as (suc depth) part =
 
 -- ---- services
 
+-- the one value inside a value under a tag
+abbrev pub inner_value : Tag → Part → Option Part
+inner_value tag part = under tag part >>= value_in
+
 unfoldable pub place_as : Part → Option Place
 place_as part =
     if same_tag part.tag (context 0) then nothing part.content whole_vmd

@@ -17,7 +17,7 @@ use std::alloc::{AllocError, Global};
 const VARIABLES_MAX: usize = 32;
 
 /// A variable that is named, and whether only a part of it is asked for.
-#[derive(Clone, Copy, Debug)]
+#[derive(Clone, Copy)]
 pub struct Variable<'a> {
     pub name: Name<'a>,
     pub is_alternate: bool,
@@ -76,24 +76,13 @@ pub(crate) fn name_in(octets: &[u8]) -> Option<Name<'_>>
 fn variable_of<'a>(parts: &[Value<'a>]) -> Option<Variable<'a>>
     ensures { option_map variable result ≡ variable_of (map part_of parts.now) }
 {
-    match parts {
-        [name] => {
-            let name = name_in(name.under(Tag::context_constructed(0))?)?;
-            Some(Variable {
-                name,
-                is_alternate: false,
-            })
-        }
-        [name, access] => {
-            let name = name_in(name.under(Tag::context_constructed(0))?)?;
-            access.under(Tag::context_constructed(5))?;
-            Some(Variable {
-                name,
-                is_alternate: true,
-            })
-        }
-        _ => None,
-    }
+    let (name, is_alternate) = match parts {
+        [name] => (name, false),
+        [name, access] if access.tag.is(Tag::context_constructed(5)) => (name, true),
+        _ => return None,
+    };
+    let name = name_in(name.under(Tag::context_constructed(0))?)?;
+    Some(Variable { name, is_alternate })
 }
 
 #[tactic(auto, unfolding(crate::specs::Grammar::variable_as))]
@@ -140,8 +129,10 @@ pub(crate) fn access_as<'a>(alloc: Global, value: &Value<'a>) -> Result<Access<'
         let variables = read_variables(alloc, value.content)?;
         Ok(Access::Variables(variables))
     } else if value.tag.is(Tag::context_constructed(1)) {
-        name_in(value.content).ok_or(Refusal::Bad)?;
-        Ok(Access::NamedList)
+        match name_in(value.content) {
+            Some(_) => Ok(Access::NamedList),
+            None => Err(Refusal::Bad),
+        }
     } else {
         Err(Refusal::Bad)
     }

@@ -6,7 +6,7 @@ use std::alloc::AllocError;
 use thiserror::Error;
 
 /// Why a text is not written.
-#[derive(Clone, Copy, Debug, PartialEq, Eq, Error)]
+#[derive(Clone, Copy, Debug, Error)]
 pub enum WriteFault {
     /// The text would have 2^32 octets or more.
     #[error("the text is too long")]
@@ -27,7 +27,7 @@ impl From<AllocError> for WriteFault {
 }
 
 /// Why octets are no request that is served.
-#[derive(Clone, Copy, Debug, PartialEq, Eq, Error)]
+#[derive(Clone, Copy, Debug, Error)]
 pub enum MmsFault {
     /// The octets are not spelled as a request. With the invoke id, where one can be read.
     #[error("the octets are no request")]
@@ -58,7 +58,7 @@ impl MmsFault {
 }
 
 /// Why a part of a request is not read, before its invoke id is known.
-#[derive(Clone, Copy, Debug, PartialEq, Eq)]
+#[derive(Clone, Copy)]
 pub enum Refusal {
     /// It is badly spelled.
     Bad,

@@ -11,9 +11,9 @@ use bay_ber::known::known_values;
 use bay_ber::tag::Tag;
 use bay_ber::values::Value;
 
-// The integer under a tag.
+/// The integer under a tag.
 #[tactic(auto, unfolding(crate::specs::Grammar::integer_under))]
-fn integer_under(tag: Tag, value: &Value<'_>) -> Option<i64>
+pub(crate) fn integer_under(tag: Tag, value: &Value<'_>) -> Option<i64>
     ensures { result ≡ integer_under tag (part_of value.now) }
 {
     let content = value.under(tag)?;

@@ -16,7 +16,7 @@ use bay_tree::leaf::Dbpos;
 use std::alloc::Global;
 
 /// Who operates (IEC 61850-7-3, Originator).
-#[derive(Clone, Copy, Debug)]
+#[derive(Clone, Copy)]
 pub struct Origin<'a> {
     /// The category, orCat.
     pub category: i8,
@@ -25,7 +25,7 @@ pub struct Origin<'a> {
 }
 
 /// What a control is asked for (IEC 61850-8-1, Oper).
-#[derive(Clone, Copy, Debug)]
+#[derive(Clone, Copy)]
 pub struct Operate<'a> {
     /// On or off, ctlVal.
     pub value: bool,
@@ -40,7 +40,7 @@ pub struct Operate<'a> {
 }
 
 /// Why a control is refused or ended (IEC 61850-8-1, LastApplError). Its Error is 0.
-#[derive(Clone, Copy, Debug)]
+#[derive(Clone, Copy)]
 pub struct ControlError<'a> {
     /// The control, CntrlObj: its domain, `/` and its item.
     pub object: &'a str,

@@ -201,8 +201,10 @@ fn message_as<'a>(
         let parts = few_values(value.content).ok_or(MmsFault::BadPdu(known))?;
         confirmed_of(alloc, known, parts.as_slice())
     } else if value.tag.is(Tag::context_constructed(8)) {
-        let proposal = proposal_in(value.content).ok_or(MmsFault::BadPdu(known))?;
-        Ok(Request::Initiate(proposal))
+        match proposal_in(value.content) {
+            Some(proposal) => Ok(Request::Initiate(proposal)),
+            None => Err(MmsFault::BadPdu(known)),
+        }
     } else if value.tag.is(Tag::context(11)) {
         conclude(known, value.content)
     } else {

@@ -4,21 +4,28 @@ ghost use Rattle.bay_base.specs.Exact.{Gives};
 ghost use Rattle.bay_ber.specs.Values.{part_of};
 ghost use Rattle.bay_mms.specs.Requests as asked;
 ghost use Rattle.bay_mms.specs.Views.{data_in};
-ghost use Rattle.bay_mms.specs.Grammar.{nothing, listing_in, place_as, class_as, scope_as, names_of, attributes_as, read_as, read_of, written_with, write_of, is_unlisted, other_as, service_as};
+ghost use Rattle.bay_mms.specs.Grammar.{inner_value, nothing, listing_in, place_as, class_as, scope_as, names_of, attributes_as, read_as, read_of, written_with, write_of, is_unlisted, other_as, service_as};
 ghost use Rattle.bay_mms.specs.RequestViews.{place, accessed, asking};
 
 use crate::access::{Access, access_as, judged, name_in};
 use crate::data::Data;
 use crate::fault::Refusal;
+use crate::initiate::integer_under;
 use crate::received::read_data;
 use crate::request::{Call, Scope};
-use bay_ber::content::int_of;
 use bay_ber::tag::{Class, Tag};
 use bay_ber::values::{Value, few_values, whole_value};
 use std::alloc::Global;
 
 // Data nests at most so deep.
 const DEPTH_MAX: u8 = 10;
+
+// The one value inside a value of this tag.
+fn inner_value<'a>(tag: Tag, value: &Value<'a>) -> Option<Value<'a>>
+    ensures { option_map part_of result ≡ inner_value tag (part_of value.now) }
+{
+    whole_value(value.under(tag)?)
+}
 
 #[tactic(auto, unfolding(crate::specs::Grammar::place_as))]
 fn place_as<'a>(value: &Value<'a>) -> Option<Scope<'a>>
@@ -43,19 +50,19 @@ fn place_as<'a>(value: &Value<'a>) -> Option<Scope<'a>>
     }
 }
 
-#[tactic(auto, unfolding(crate::specs::Grammar::class_as))]
+#[tactic(auto, unfolding(crate::specs::Grammar::class_as, crate::specs::Grammar::integer_under))]
 fn class_as(value: &Value<'_>) -> Option<i64>
     ensures { result ≡ class_as (part_of value.now) }
 {
-    let class = whole_value(value.under(Tag::context_constructed(0))?)?;
-    int_of(class.under(Tag::context(0))?).ok()
+    let class = inner_value(Tag::context_constructed(0), value)?;
+    integer_under(Tag::context(0), &class)
 }
 
 #[tactic(auto, unfolding(crate::specs::Grammar::scope_as))]
 fn scope_as<'a>(value: &Value<'a>) -> Option<Scope<'a>>
     ensures { option_map place result ≡ scope_as (part_of value.now) }
 {
-    let scope = whole_value(value.under(Tag::context_constructed(1))?)?;
+    let scope = inner_value(Tag::context_constructed(1), value)?;
     place_as(&scope)
 }
 
@@ -63,29 +70,18 @@ fn scope_as<'a>(value: &Value<'a>) -> Option<Scope<'a>>
 fn names_of<'a>(parts: &[Value<'a>]) -> Option<Call<'a>>
     ensures { option_map asking result ≡ names_of (map part_of parts.now) }
 {
-    match parts {
-        [class, scope] => {
-            let class = class_as(class)?;
-            let scope = scope_as(scope)?;
-            let after = None;
-            Some(Call::Names {
-                class,
-                scope,
-                after,
-            })
-        }
-        [class, scope, after] => {
-            let class = class_as(class)?;
-            let scope = scope_as(scope)?;
-            let after = Some(after.under(Tag::context(2))?);
-            Some(Call::Names {
-                class,
-                scope,
-                after,
-            })
-        }
-        _ => None,
-    }
+    let (class, scope, after) = match parts {
+        [class, scope] => (class, scope, None),
+        [class, scope, after] => (class, scope, Some(after.under(Tag::context(2))?)),
+        _ => return None,
+    };
+    let class = class_as(class)?;
+    let scope = scope_as(scope)?;
+    Some(Call::Names {
+        class,
+        scope,
+        after,
+    })
 }
 
 // The variable whose type is asked for (ISO 9506-2, GetVariableAccessAttributes).
@@ -93,14 +89,10 @@ fn names_of<'a>(parts: &[Value<'a>]) -> Option<Call<'a>>
 fn attributes_as<'a>(value: &Value<'a>) -> Result<Call<'a>, Refusal>
     ensures { Gives Refusal.OutOfMemory asking result (attributes_as (part_of value.now)) }
 {
-    if value.tag.is(Tag::context_constructed(0)) {
-        let name = name_in(value.content).ok_or(Refusal::Bad)?;
-        Ok(Call::Attributes(name))
-    } else if value.tag.is(Tag::context_constructed(1)) {
-        name_in(value.content).ok_or(Refusal::Bad)?;
-        Err(Refusal::Unknown)
-    } else {
-        Err(Refusal::Bad)
+    match name_in(value.content) {
+        Some(name) if value.tag.is(Tag::context_constructed(0)) => Ok(Call::Attributes(name)),
+        Some(_) if value.tag.is(Tag::context_constructed(1)) => Err(Refusal::Unknown),
+        _ => Err(Refusal::Bad),
     }
 }
 
@@ -108,10 +100,7 @@ fn attributes_as<'a>(value: &Value<'a>) -> Result<Call<'a>, Refusal>
 fn read_as<'a>(alloc: Global, value: &Value<'a>) -> Result<Call<'a>, Refusal>
     ensures { Gives Refusal.OutOfMemory asking result (read_as (part_of value.now)) }
 {
-    let octets = value
-        .under(Tag::context_constructed(1))
-        .ok_or(Refusal::Bad)?;
-    let spec = whole_value(octets).ok_or(Refusal::Bad)?;
+    let spec = inner_value(Tag::context_constructed(1), value).ok_or(Refusal::Bad)?;
     let access = access_as(alloc, &spec)?;
     let names = judged(alloc, access)?;
     Ok(Call::Read(names))
@@ -123,10 +112,7 @@ fn read_of<'a>(alloc: Global, parts: &[Value<'a>]) -> Result<Call<'a>, Refusal>
 {
     match parts {
         [spec] => read_as(alloc, spec),
-        [flag, spec] => {
-            flag.under(Tag::context(0)).ok_or(Refusal::Bad)?;
-            read_as(alloc, spec)
-        }
+        [flag, spec] if flag.tag.is(Tag::context(0)) => read_as(alloc, spec),
         _ => Err(Refusal::Bad),
     }
 }

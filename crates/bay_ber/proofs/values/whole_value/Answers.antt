@@ -1,9 +1,12 @@
 use Rattle.std.proofs.Common.{sym, ap}
 use Rattle.bay_ber.specs.Reading.{Reading}
 use Rattle.bay_ber.specs.Values.{part_in}
-use Rattle.bay_ber.proofs.ValueLemmas.{whole_begins, not_empty}
+use Rattle.bay_ber.proofs.ValueLemmas.{whole_begins, begins_whole, not_empty}
 use Rattle.bay_ber.proofs.ListingLemmas.{one_is, one_more, one_stop, is_nothing}
 use Rattle.bay_ber.proofs.values.whole_value.Goals as goal
+
+pub returns-then-is_empty-clause-some : goal.returns-then-is_empty-clause-some
+returns-then-is_empty-clause-some c = begins_whole c.args.octets.now _ (is_nothing c.in-Ok.tlv.rest.now c.if-is_empty.ensures) c.in-Ok.ensures.ok
 
 pub returns-then-is_empty-clause-only : goal.returns-then-is_empty-clause-only
 returns-then-is_empty-clause-only c = λ tag content s. ap part_in (c.in-Ok.ensures.only _ (whole_begins c.args.octets.now tag content s))
