@@ -28,7 +28,7 @@ const MAX_INSTRUCTIONS: usize = 4_000;
 const MAX_OPEN: usize = 16;
 
 /// What the lines before a line make of the text.
-#[derive(Clone, Copy, Debug, PartialEq, Eq)]
+#[derive(Clone, Copy)]
 pub(crate) enum Stage {
     /// Before the line of PROGRAM.
     Start,
@@ -521,8 +521,8 @@ struct Declaring {
     scope: Scope,
     tail: Tail,
 }
+
 /// Declares the names of a list, `name {"," name}`.
-#[tactic(auto, using(crate::proofs::ListingLemmas::end_rules))]
 fn declare<'a>(
     declarations: &mut Vec<Declaration<'a>>,
     names: &[Token<'a>],
