@@ -28,7 +28,7 @@ const MAX_LABELS: usize = 256;
 
 /// Where an instruction stands: whether it can be reached, behind how many labels, and how many parentheses
 /// may yet stand around it within one another.
-#[derive(Clone, Copy, Debug, PartialEq, Eq)]
+#[derive(Clone, Copy)]
 pub(crate) struct Place {
     pub(crate) is_reached: bool,
     pub(crate) passed: usize,
@@ -109,7 +109,7 @@ pub(crate) fn note_opening(
 }
 
 /// The operator of a parenthesis, and the type of what the parenthesis gives.
-#[derive(Clone, Copy, Debug, PartialEq, Eq)]
+#[derive(Clone, Copy)]
 pub(crate) struct Closing {
     pub(crate) operator: Operator,
     pub(crate) negated: bool,
