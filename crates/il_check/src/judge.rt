@@ -35,7 +35,6 @@ pub(crate) struct Place {
     pub(crate) room: usize,
 }
 
-#[tactic(auto, using(crate::proofs::NotedLemmas::note_rules))]
 fn note_typing(
     found: Option<CheckFault>,
     place: Place,
@@ -58,7 +57,6 @@ fn note_typing(
     note_if(found, is_back, CheckFault::BackwardJump { line })
 }
 
-#[tactic(auto, using(crate::proofs::NotedLemmas::note_rules))]
 fn note_others(
     found: Option<CheckFault>,
     is_reached: bool,
@@ -80,7 +78,6 @@ fn note_others(
 }
 
 /// The fault that is answered after an instruction.
-#[tactic(auto, using(crate::proofs::NotedLemmas::noted_two))]
 pub(crate) fn note_instruction(
     found: Option<CheckFault>,
     place: Place,
@@ -95,7 +92,6 @@ pub(crate) fn note_instruction(
 }
 
 /// The fault that is answered after an operator with a parenthesis.
-#[tactic(auto, using(crate::proofs::NotedLemmas::note_rules))]
 pub(crate) fn note_opening(
     found: Option<CheckFault>,
     is_reached: bool,

@@ -105,10 +105,6 @@ declare_no_end line scope tail before ts i h = rw (none_after ts i h) refl
 
 pub ruleset some_rules = (some_none, some_some)
 
-pub ruleset item_rules = (view_label, view_instruction, map-append)
-
-pub ruleset leaving_rules = (opened_more, view_block, map-append)
-
 pub ruleset declare_rules = (at_no_name, at_comma, at_no_comma)
 
 and_some : (o : Option Reached) → option_and_then (λ s. Some s) o ≡ o
