@@ -170,7 +170,6 @@ fn is_writable(point: Option<&Point>) -> bool
 
 /// The fault that is answered after a declaration, of which it is known whether its name is declared before,
 /// and whether there is room for one more.
-#[tactic(auto, using(crate::proofs::NotedLemmas::note_rules))]
 fn declaration_fault(
     found: Option<CheckFault>,
     point: Option<&Point>,

@@ -6,7 +6,7 @@ use bay_base::types::ElementaryType;
 use il_text::program::{Condition, Conversion, Input, Operator, StoreKind};
 
 /// What a declared name means.
-#[derive(Clone, Copy, Debug, PartialEq, Eq)]
+#[derive(Clone, Copy)]
 pub enum Meaning {
     /// A variable of a type, and whether the program may write it.
     Variable {
@@ -19,7 +19,7 @@ pub enum Meaning {
 }
 
 /// An operand that has a type, and whether the program may write it.
-#[derive(Clone, Copy, Debug, PartialEq, Eq)]
+#[derive(Clone, Copy)]
 pub struct Source {
     pub operand: TypedOperand,
     pub kind: ElementaryType,
@@ -27,7 +27,7 @@ pub struct Source {
 }
 
 /// What the text gives as an operand or a target.
-#[derive(Clone, Copy, Debug, PartialEq, Eq)]
+#[derive(Clone, Copy)]
 pub enum Given {
     /// A name that is not declared.
     Missing,
@@ -40,7 +40,7 @@ pub enum Given {
 }
 
 /// What a call runs.
-#[derive(Clone, Copy, Debug, PartialEq, Eq)]
+#[derive(Clone, Copy)]
 pub enum Called {
     /// A name that is not declared.
     Missing,
@@ -51,14 +51,14 @@ pub enum Called {
 }
 
 /// What a call gives to one input.
-#[derive(Clone, Copy, Debug, PartialEq, Eq)]
+#[derive(Clone, Copy)]
 pub struct GivenArgument {
     pub input: Input,
     pub given: Given,
 }
 
 /// The arguments of a call, in the order of the text.
-#[derive(Clone, Copy, Debug, PartialEq, Eq)]
+#[derive(Clone, Copy)]
 pub enum GivenArguments {
     None,
     One(GivenArgument),
@@ -66,7 +66,7 @@ pub enum GivenArguments {
 }
 
 /// An instruction with what its names mean (IEC 61131-3:2003, table 52).
-#[derive(Clone, Copy, Debug, PartialEq, Eq)]
+#[derive(Clone, Copy)]
 pub enum Resolved {
     Load {
         negated: bool,

@@ -28,14 +28,13 @@ const MAX_LABELS: usize = 256;
 
 /// Where an instruction stands: whether it can be reached, behind how many labels, and how many parentheses
 /// may yet stand around it within one another.
-#[derive(Clone, Copy, Debug, PartialEq, Eq)]
+#[derive(Clone, Copy)]
 pub(crate) struct Place {
     pub(crate) is_reached: bool,
     pub(crate) passed: usize,
     pub(crate) room: usize,
 }
 
-#[tactic(auto, using(crate::proofs::NotedLemmas::note_rules))]
 fn note_typing(
     found: Option<CheckFault>,
     place: Place,
@@ -58,7 +57,6 @@ fn note_typing(
     note_if(found, is_back, CheckFault::BackwardJump { line })
 }
 
-#[tactic(auto, using(crate::proofs::NotedLemmas::note_rules))]
 fn note_others(
     found: Option<CheckFault>,
     is_reached: bool,
@@ -80,7 +78,6 @@ fn note_others(
 }
 
 /// The fault that is answered after an instruction.
-#[tactic(auto, using(crate::proofs::NotedLemmas::noted_two))]
 pub(crate) fn note_instruction(
     found: Option<CheckFault>,
     place: Place,
@@ -95,7 +92,6 @@ pub(crate) fn note_instruction(
 }
 
 /// The fault that is answered after an operator with a parenthesis.
-#[tactic(auto, using(crate::proofs::NotedLemmas::note_rules))]
 pub(crate) fn note_opening(
     found: Option<CheckFault>,
     is_reached: bool,
@@ -109,7 +105,7 @@ pub(crate) fn note_opening(
 }
 
 /// The operator of a parenthesis, and the type of what the parenthesis gives.
-#[derive(Clone, Copy, Debug, PartialEq, Eq)]
+#[derive(Clone, Copy)]
 pub(crate) struct Closing {
     pub(crate) operator: Operator,
     pub(crate) negated: bool,

@@ -8,7 +8,7 @@ use std::marker::Model;
 
 /// A checked program: its externals, variables and timers, each in the order of their declarations, and its
 /// items. Each name is resolved, and each literal has the type that its instruction works on.
-#[derive(Debug, Drop)]
+#[derive(Drop)]
 pub struct Typed {
     externals: Vec<External>,
     variables: Vec<Variable>,
@@ -33,7 +33,7 @@ impl Model for Typed {
 }
 
 /// What a checked program is made of.
-#[derive(Debug, Drop)]
+#[derive(Drop)]
 pub struct Parts {
     pub externals: Vec<External>,
     pub variables: Vec<Variable>,

@@ -5,7 +5,7 @@ ghost use Rattle.il_check.specs.WellTyped as spec;
 use bay_base::types::ElementaryType;
 
 /// Whether a place can be reached, and the type of the current result there, if it is set.
-#[derive(Clone, Copy, Debug, PartialEq, Eq)]
+#[derive(Clone, Copy)]
 pub struct Reach {
     pub is_reached: bool,
     pub kind: Option<ElementaryType>,

@@ -8,7 +8,7 @@ use il_image::value::Value;
 use il_text::program::{Condition, Conversion, Input, Operator, Output, StoreKind, TimerKind};
 
 /// A variable that is given to the program (IEC 61131-3:2003, 2.4.3, VAR_EXTERNAL): a point of the bay.
-#[derive(Debug, Drop)]
+#[derive(Drop)]
 pub struct External {
     /// Its name, in upper case.
     pub name: Text,
@@ -20,7 +20,7 @@ pub struct External {
 }
 
 /// A variable of the program (IEC 61131-3:2003, 2.4.3, VAR).
-#[derive(Debug, Drop)]
+#[derive(Drop)]
 pub struct Variable {
     /// Its name, in upper case.
     pub name: Text,
@@ -29,7 +29,7 @@ pub struct Variable {
 }
 
 /// A timer of the program (IEC 61131-3:2003, 2.5.2.3.4).
-#[derive(Debug, Drop)]
+#[derive(Drop)]
 pub struct Timer {
     /// Its name, in upper case.
     pub name: Text,
@@ -37,14 +37,14 @@ pub struct Timer {
 }
 
 /// Where a value lives: the external, or the variable, at this place in the order of the declarations.
-#[derive(Clone, Copy, Debug, PartialEq, Eq)]
+#[derive(Clone, Copy, PartialEq, Eq)]
 pub enum Slot {
     External(usize),
     Variable(usize),
 }
 
 /// What an instruction reads.
-#[derive(Clone, Copy, Debug, PartialEq, Eq)]
+#[derive(Clone, Copy, PartialEq, Eq)]
 pub enum TypedOperand {
     Literal(Value),
     Slot(Slot),
@@ -53,7 +53,7 @@ pub enum TypedOperand {
 }
 
 /// An instruction that may stand in a parenthesis (IEC 61131-3:2003, table 52).
-#[derive(Clone, Copy, Debug, PartialEq, Eq)]
+#[derive(Clone, Copy, PartialEq, Eq)]
 pub enum Operation {
     /// `LD`, `LDN`
     Load {
@@ -80,7 +80,7 @@ pub enum Operation {
 
 /// An operation, or a parenthesis: an operator on the result and what its entries give, which are both of
 /// this type.
-#[derive(Debug, Drop)]
+#[derive(Drop)]
 pub enum TypedEntry {
     Operation(Operation),
     Block {
@@ -92,14 +92,14 @@ pub enum TypedEntry {
 }
 
 /// What a call gives to one input of a timer.
-#[derive(Clone, Copy, Debug, PartialEq, Eq)]
+#[derive(Clone, Copy, PartialEq, Eq)]
 pub struct TypedArgument {
     pub input: Input,
     pub operand: TypedOperand,
 }
 
 /// The arguments of a call, in the order of the text.
-#[derive(Clone, Copy, Debug, PartialEq, Eq)]
+#[derive(Clone, Copy, PartialEq, Eq)]
 pub enum TypedArguments {
     None,
     One(TypedArgument),
@@ -107,7 +107,7 @@ pub enum TypedArguments {
 }
 
 /// An instruction that moves on elsewhere, or calls (IEC 61131-3:2003, table 52).
-#[derive(Clone, Copy, Debug, PartialEq, Eq)]
+#[derive(Clone, Copy, PartialEq, Eq)]
 pub enum Transfer {
     /// A jump to the label with this number, which stands below.
     Jump {
@@ -124,7 +124,7 @@ pub enum Transfer {
 }
 
 /// An item of a program. Labels are numbered from 0 in the order of the text.
-#[derive(Debug, Drop)]
+#[derive(Drop)]
 pub enum TypedItem {
     Label(usize),
     Transfer(Transfer),

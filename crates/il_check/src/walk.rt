@@ -39,7 +39,7 @@ pub(crate) struct Judge {
 }
 
 /// The operator of a parenthesis, and the lines of both of its ends.
-#[derive(Clone, Copy, Debug, PartialEq, Eq)]
+#[derive(Clone, Copy)]
 struct Frame {
     line: usize,
     operator: Operator,
@@ -71,6 +71,27 @@ impl Judge {
         let resolved = names.resolve(&mut self.buffer, instruction)?;
         self.found = note_instruction(self.found, place, line, resolved, kind);
         Ok(resolved)
+    }
+
+    /// An instruction in a parenthesis.
+    fn operate(
+        &mut self,
+        names: &Names,
+        place: Place,
+        line: usize,
+        instruction: Instruction<'_>,
+        passed: &mut Passed,
+    ) -> Result<(), AllocError>
+        ensures kind { OnOk result (passed.new.kind ≡ spec.type_behind (names_of names.now) (text.action line (action_of instruction.entry)) passed.old.kind) }
+        ensures left { OnOk result (map entry_view passed.new.entries.items
+            ≡ map entry_view passed.old.entries.items
+            ++ option_to_list (spec.entry_left (names_of names.now) place.room (text.action line (action_of instruction.entry)) passed.old.kind)) }
+        ensures found { OnOk result (self.new.found
+            ≡ noted self.old.found (spec.entry_faults (names_of names.now) place.room place.is_reached place.passed
+            (text.action line (action_of instruction.entry)) passed.old.kind)) }
+    {
+        let resolved = self.instruction(names, place, line, instruction, passed.kind)?;
+        passed.add_operation(resolved)
     }
 
     /// The entries of a parenthesis, or of what is before its end.
@@ -115,8 +136,7 @@ impl Judge {
         match item {
             Item::Label { .. } => Ok(()),
             Item::Instruction { line, instruction } => {
-                let resolved = self.instruction(names, place, *line, *instruction, passed.kind)?;
-                passed.add_operation(resolved)
+                self.operate(names, place, *line, *instruction, passed)
             }
             Item::Block {
                 line,
@@ -202,31 +222,62 @@ fn block_of(
     }
 }
 
+/// What is left of an instruction as an entry.
+#[tactic(auto, using(crate::proofs::ViewLemmas::view_rules))]
+fn entry_in(resolved: Resolved, kind: Option<ElementaryType>) -> Option<TypedEntry>
+    ensures { option_map entry_view result ≡ typing.entry_in resolved kind }
+{
+    match operation_in(resolved, kind) {
+        Some(operation) => Some(TypedEntry::Operation(operation)),
+        None => None,
+    }
+}
+
+/// What is left of an instruction as an item.
+fn item_in(resolved: Resolved, kind: Option<ElementaryType>) -> Option<TypedItem>
+    ensures { option_map item_view result ≡ typing.item_in resolved kind }
+{
+    if let Some(transfer) = transfer_in(resolved) {
+        return Some(TypedItem::Transfer(transfer));
+    }
+    match entry_in(resolved, kind) {
+        Some(entry) => Some(TypedItem::Entry(entry)),
+        None => None,
+    }
+}
+
 impl Passed {
-    /// One instruction more.
+    /// One entry more, if there is one.
     #[tactic(auto, using(crate::proofs::ViewLemmas::view_rules))]
+    fn add(&mut self, entry: Option<TypedEntry>) -> Result<(), AllocError>
+        ensures kind { self.new.kind ≡ self.old.kind }
+        ensures left { OnOk result (map entry_view self.new.entries.items
+            ≡ map entry_view self.old.entries.items ++ option_to_list (option_map entry_view entry)) }
+    {
+        if let Some(entry) = entry {
+            self.entries.push(entry)?;
+        }
+        Ok(())
+    }
+
+    /// One instruction more.
     fn add_operation(&mut self, resolved: Resolved) -> Result<(), AllocError>
         ensures kind { OnOk result (self.new.kind ≡ spec_rules.type_after resolved self.old.kind) }
         ensures left { OnOk result (map entry_view self.new.entries.items
             ≡ map entry_view self.old.entries.items ++ option_to_list (typing.entry_in resolved self.old.kind)) }
     {
-        if let Some(operation) = operation_in(resolved, self.kind) {
-            self.entries.push(TypedEntry::Operation(operation))?;
-        }
+        self.add(entry_in(resolved, self.kind))?;
         self.kind = type_after(resolved, self.kind);
         Ok(())
     }
 
     /// One parenthesis more, if something is left of it.
-    #[tactic(auto, using(crate::proofs::ViewLemmas::view_rules))]
     fn add_block(&mut self, operator: Operator, block: Option<TypedEntry>) -> Result<(), AllocError>
         ensures kind { OnOk result (self.new.kind ≡ option_map (spec_rules.gives operator) self.old.kind) }
         ensures left { OnOk result (map entry_view self.new.entries.items
             ≡ map entry_view self.old.entries.items ++ option_to_list (option_map entry_view block)) }
     {
-        if let Some(entry) = block {
-            self.entries.push(entry)?;
-        }
+        self.add(block)?;
         self.kind = given_type(operator, self.kind);
         Ok(())
     }
@@ -299,20 +350,26 @@ impl Walk {
         self.passed += 1;
     }
 
-    /// What is left of an instruction.
+    /// One item more, if there is one.
     #[tactic(auto, using(crate::proofs::ViewLemmas::view_rules))]
+    fn add(&mut self, item: Option<TypedItem>) -> Result<(), AllocError>
+        ensures items { OnOk result (map item_view self.new.items.items
+            ≡ map item_view self.old.items.items ++ option_to_list (option_map item_view item)) }
+        ensures standing { OnOk result (standing_of self.new ≡ standing_of self.old) }
+    {
+        if let Some(item) = item {
+            self.items.push(item)?;
+        }
+        Ok(())
+    }
+
+    /// What is left of an instruction.
     fn add_instruction(&mut self, resolved: Resolved) -> Result<(), AllocError>
         ensures items { OnOk result (map item_view self.new.items.items
             ≡ map item_view self.old.items.items ++ option_to_list (typing.item_in resolved self.old.reach.kind)) }
         ensures standing { OnOk result (standing_of self.new ≡ standing_of self.old) }
     {
-        if let Some(transfer) = transfer_in(resolved) {
-            self.items.push(TypedItem::Transfer(transfer))?;
-        } else if let Some(operation) = operation_in(resolved, self.reach.kind) {
-            self.items
-                .push(TypedItem::Entry(TypedEntry::Operation(operation)))?;
-        }
-        Ok(())
+        self.add(item_in(resolved, self.reach.kind))
     }
 
     /// A label, by its number.
@@ -380,6 +437,27 @@ impl Judge {
         Ok(())
     }
 
+    /// A parenthesis that stands in no other.
+    fn enclose(
+        &mut self,
+        names: &Names,
+        frame: Frame,
+        items: &[Item<'_>],
+        walk: &mut Walk,
+    ) -> Result<(), AllocError>
+        ensures standing { OnOk result (standing_of walk.new ≡ spec.behind_block frame.operator (standing_of walk.old)) }
+        ensures items { OnOk result (map item_view walk.new.items.items
+            ≡ map item_view walk.old.items.items
+            ++ option_to_list (spec.item_left (names_of names.now)
+            (text.block frame.line frame.operator frame.negated (text.entries_of (map entry_of items.now)) frame.end) (standing_of walk.old))) }
+        ensures found { OnOk result (self.new.found
+            ≡ noted self.old.found (spec.item_faults (names_of names.now)
+            (text.block frame.line frame.operator frame.negated (text.entries_of (map entry_of items.now)) frame.end) (standing_of walk.old))) }
+    {
+        let block = self.block(names, walk.place(), frame, items, walk.reach.kind)?;
+        walk.add_block(frame.operator, block)
+    }
+
     /// One item more.
     #[tactic(auto, using(crate::proofs::EntryLemmas::entry_rules))]
     fn item(&mut self, names: &Names, item: &Item<'_>, walk: &mut Walk) -> Result<(), AllocError>
@@ -407,9 +485,7 @@ impl Judge {
                     negated: *negated,
                     end: *end,
                 };
-                let kind = walk.reach.kind;
-                let block = self.block(names, walk.place(), frame, items.as_slice(), kind)?;
-                walk.add_block(frame.operator, block)
+                self.enclose(names, frame, items.as_slice(), walk)
             }
         }
     }

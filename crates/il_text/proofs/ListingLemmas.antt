@@ -11,7 +11,7 @@ use Rattle.il_text.specs.Declaring.{declared_from}
 use Rattle.il_text.specs.Reading.{Read, has_instruction, bounded, after_parts, after_line}
 use Rattle.il_text.specs.declared.fault.TextFault.TheVariants.{BadLine}
 use Rattle.il_text.specs.Tokens.{Symbol}
-use Rattle.il_text.specs.TokenViews.{symbols_of}
+use Rattle.il_text.specs.TokenViews.{symbol_of, symbols_of}
 use Rattle.il_text.specs.Views.{action_of, entry_of}
 use Rattle.il_text.specs.declared.form.Tail.{Tail}
 use Rattle.il_text.specs.declared.listing.Open.{Open}
@@ -25,6 +25,10 @@ use Rattle.il_text.specs.declared.token.Token.{Token}
 
 pub front_item : {X : Type 0} → (xs : List X) (i : ℕ) (x : X) → i < length xs → x ≡ get_or xs i x → drop i xs ≡ x ∷ drop (i + 1) xs
 front_item {X} xs i x h e = rw (add-one, drop-cons xs i x) (ap (λ (y : X). y ∷ drop (suc i) xs) (sym e))
+
+-- the symbols from a place on
+pub next_symbol : (ts : List Token) (i : ℕ) (t : Token) → i < length ts → symbols_of (drop i ts) ≡ symbol_of (get_or ts i t) ∷ symbols_of (drop (i + 1) ts)
+next_symbol ts i t h = rw (add-one, drop-cons ts i t) refl
 
 pub view_instruction : (line : ℕ) (i : ins.Instruction) → entry_of (Instruction line i) ≡ action line (action_of i)
 view_instruction line i = search (rules, the_lemmas)
@@ -101,13 +105,7 @@ declare_no_end line scope tail before ts i h = rw (none_after ts i h) refl
 
 pub ruleset some_rules = (some_none, some_some)
 
-pub ruleset item_rules = (view_label, view_instruction, map-append)
-
-pub ruleset leaving_rules = (opened_more, view_block, map-append)
-
 pub ruleset declare_rules = (at_no_name, at_comma, at_no_comma)
-
-pub ruleset end_rules = (declare_end, declare_no_end)
 
 and_some : (o : Option Reached) → option_and_then (λ s. Some s) o ≡ o
 and_some None = refl

@@ -25,7 +25,7 @@ pub(crate) enum Statement<'a> {
 }
 
 /// What follows the names of a declaration: its type, and its initial value.
-#[derive(Clone, Copy, Debug, PartialEq, Eq)]
+#[derive(Clone, Copy)]
 pub(crate) struct Tail {
     pub(crate) kind: DeclaredType,
     pub(crate) initial: Option<Literal>,

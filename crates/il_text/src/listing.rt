@@ -28,7 +28,7 @@ const MAX_INSTRUCTIONS: usize = 4_000;
 const MAX_OPEN: usize = 16;
 
 /// What the lines before a line make of the text.
-#[derive(Clone, Copy, Debug, PartialEq, Eq)]
+#[derive(Clone, Copy)]
 pub(crate) enum Stage {
     /// Before the line of PROGRAM.
     Start,
@@ -333,7 +333,7 @@ impl<'a> Draft<'a> {
         Ok(())
     }
 
-    #[tactic(auto, using(crate::proofs::ListingLemmas::item_rules), unfolding(crate::specs::Steps::step))]
+    #[tactic(auto, unfolding(crate::specs::Steps::step))]
     fn take_label(&mut self, name: &'a str, line: usize) -> Result<(), TextFault>
         ensures ok { OnOk result (step line (reached_of self.old) (labelling name.now) ≡ Some (reached_of self.new)) }
         ensures count { OnOk result (self.new.instructions ≡ self.old.instructions) }
@@ -349,7 +349,7 @@ impl<'a> Draft<'a> {
     }
 
     /// Takes an instruction. In a parenthesis the first is a load, and none leaves it.
-    #[tactic(auto, using(crate::proofs::ListingLemmas::item_rules), unfolding(crate::specs::Steps::step))]
+    #[tactic(auto, unfolding(crate::specs::Steps::step))]
     fn take_acting(&mut self, instruction: Instruction<'a>, line: usize) -> Result<(), TextFault>
         ensures ok { OnOk result (step line (reached_of self.old) (acting (action_of instruction.entry)) ≡ Some (reached_of self.new)) }
         ensures count { OnOk result (self.new.instructions ≡ self.old.instructions) }
@@ -365,7 +365,7 @@ impl<'a> Draft<'a> {
     }
 
     /// Takes an operator with `(`.
-    #[tactic(auto, using(crate::proofs::ListingLemmas::opened_more), unfolding(crate::specs::Steps::step))]
+    #[tactic(auto, unfolding(crate::specs::Steps::step))]
     fn take_entering(
         &mut self,
         operator: Operator,
@@ -392,7 +392,7 @@ impl<'a> Draft<'a> {
     }
 
     /// Takes a `)`, before which something has to stand in the parenthesis.
-    #[tactic(auto, using(crate::proofs::ListingLemmas::leaving_rules), unfolding(crate::specs::Steps::step))]
+    #[tactic(auto, unfolding(crate::specs::Steps::step))]
     fn take_leaving(&mut self, line: usize) -> Result<(), TextFault>
         ensures ok { OnOk result (step line (reached_of self.old) leaving ≡ Some (reached_of self.new)) }
         ensures count { OnOk result (self.new.instructions ≡ self.old.instructions) }
@@ -521,8 +521,8 @@ struct Declaring {
     scope: Scope,
     tail: Tail,
 }
+
 /// Declares the names of a list, `name {"," name}`.
-#[tactic(auto, using(crate::proofs::ListingLemmas::end_rules))]
 fn declare<'a>(
     declarations: &mut Vec<Declaration<'a>>,
     names: &[Token<'a>],

@@ -11,7 +11,7 @@ use crate::program::Literal;
 use bay_base::names::{same_letters, same_name};
 
 /// Why a word is no literal.
-#[derive(Clone, Copy, Debug, PartialEq, Eq)]
+#[derive(Clone, Copy)]
 pub(crate) enum LiteralFault {
     /// It is not formed as a literal.
     Malformed,

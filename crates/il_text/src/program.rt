@@ -16,7 +16,7 @@ pub struct Program<'a> {
 }
 
 /// One declared name, with its line counted from 1.
-#[derive(Clone, Copy, Debug, PartialEq, Eq)]
+#[derive(Clone, Copy, Debug)]
 pub struct Declaration<'a> {
     pub line: usize,
     pub scope: Scope,
@@ -27,7 +27,7 @@ pub struct Declaration<'a> {
 }
 
 /// Where a declared variable lives (IEC 61131-3:2003, 2.4.3).
-#[derive(Clone, Copy, Debug, PartialEq, Eq)]
+#[derive(Clone, Copy, Debug)]
 pub enum Scope {
     /// `VAR`: a variable of the program.
     Local,
@@ -36,7 +36,7 @@ pub enum Scope {
 }
 
 /// The type of a declared name.
-#[derive(Clone, Copy, Debug, PartialEq, Eq)]
+#[derive(Clone, Copy, Debug)]
 pub enum DeclaredType {
     /// A variable of this type.
     Elementary(ElementaryType),
@@ -45,7 +45,7 @@ pub enum DeclaredType {
 }
 
 /// A timer (IEC 61131-3:2003, 2.5.2.3.4).
-#[derive(Clone, Copy, Debug, PartialEq, Eq)]
+#[derive(Clone, Copy, Debug)]
 pub enum TimerKind {
     /// `TON`
     OnDelay,
@@ -54,7 +54,7 @@ pub enum TimerKind {
 }
 
 /// A literal: its type, where it has one, and its value (IEC 61131-3:2003, 2.2).
-#[derive(Clone, Copy, Debug, PartialEq, Eq)]
+#[derive(Clone, Copy, Debug)]
 pub enum Literal {
     /// `TRUE`, `FALSE`, or a typed BOOL.
     Truth(bool),
@@ -80,7 +80,7 @@ pub enum Output {
 }
 
 /// What an instruction reads or writes by name, with the spelling of the text.
-#[derive(Clone, Copy, Debug, PartialEq, Eq)]
+#[derive(Clone, Copy, Debug)]
 pub enum Variable<'a> {
     /// A name.
     Name(&'a str),
@@ -89,7 +89,7 @@ pub enum Variable<'a> {
 }
 
 /// What an instruction reads.
-#[derive(Clone, Copy, Debug, PartialEq, Eq)]
+#[derive(Clone, Copy, Debug)]
 pub enum Operand<'a> {
     Literal(Literal),
     Variable(Variable<'a>),
@@ -155,14 +155,14 @@ pub enum Input {
 }
 
 /// What a call gives to one input.
-#[derive(Clone, Copy, Debug, PartialEq, Eq)]
+#[derive(Clone, Copy, Debug)]
 pub struct Argument<'a> {
     pub input: Input,
     pub operand: Operand<'a>,
 }
 
 /// The arguments of a call in the order of the text, of which no two are of one input.
-#[derive(Clone, Copy, Debug, PartialEq, Eq)]
+#[derive(Clone, Copy, Debug)]
 pub enum Arguments<'a> {
     None,
     One(Argument<'a>),
@@ -170,7 +170,7 @@ pub enum Arguments<'a> {
 }
 
 /// An instruction (IEC 61131-3:2003, 3.2 and table 52).
-#[derive(Clone, Copy, Debug, PartialEq, Eq)]
+#[derive(Clone, Copy, Debug)]
 pub enum Instruction<'a> {
     /// `LD`, or with negation `LDN`: the operand becomes the current result.
     Load {

@@ -2,7 +2,7 @@
 use crate::program::{Condition, Conversion, DeclaredType, Literal, Operator, StoreKind};
 
 /// A word of a program's frame.
-#[derive(Clone, Copy, Debug, PartialEq, Eq)]
+#[derive(Clone, Copy)]
 pub(crate) enum Frame {
     Program,
     EndProgram,
@@ -12,7 +12,7 @@ pub(crate) enum Frame {
 }
 
 /// An operator of a line (IEC 61131-3:2003, table 52).
-#[derive(Clone, Copy, Debug, PartialEq, Eq)]
+#[derive(Clone, Copy)]
 pub(crate) enum Mnemonic {
     Load { negated: bool },
     Store(StoreKind),
@@ -24,7 +24,7 @@ pub(crate) enum Mnemonic {
     Call,
 }
 
-#[derive(Clone, Copy, Debug, PartialEq, Eq)]
+#[derive(Clone, Copy)]
 pub(crate) enum Mark {
     Colon,
     Assign,
@@ -36,7 +36,7 @@ pub(crate) enum Mark {
 }
 
 /// A token; a name is a slice of the text.
-#[derive(Clone, Copy, Debug, PartialEq, Eq)]
+#[derive(Clone, Copy)]
 pub(crate) enum Token<'a> {
     Name(&'a str),
     Frame(Frame),

@@ -1,4 +1,5 @@
-use Rattle.std.proofs.Common.{ap, arith, ◌∙◌}
+use Rattle.std.proofs.Common.{ap, append-nil, arith, ◌∙◌}
+use Rattle.il_text.proofs.ListingLemmas.{view_label, view_instruction, view_block}
 use Rattle.il_check.specs.Faults.{noted}
 use Rattle.il_check.specs.NamesView.{names_of}
 use Rattle.il_check.specs.WellTyped.{closing_faults}
@@ -27,3 +28,30 @@ pub entries-returns-clause-left : goal.entries-returns-clause-left
 entries-returns-clause-left t c =
     entries-left (names_of c.args.names.now) c.args.place.room c.args.place.is_reached c.args.place.passed c.args.items.now c.args.self.now.found
     c.loop-item.item-index c.loop-item.self.found c.loop-item.passed (omega arith) c.loop-item.invariant
+
+pub entry-returns-in-Label-clause-kind : goal.entry-returns-in-Label-clause-kind
+entry-returns-in-Label-clause-kind t c = grind (arith, view_label)
+
+pub entry-returns-in-Label-clause-left : goal.entry-returns-in-Label-clause-left
+entry-returns-in-Label-clause-left t c = grind (arith, view_label, append-nil)
+
+pub entry-returns-in-Label-clause-found : goal.entry-returns-in-Label-clause-found
+entry-returns-in-Label-clause-found t c = grind (arith, view_label)
+
+pub entry-returns-in-Instruction-clause-kind : goal.entry-returns-in-Instruction-clause-kind
+entry-returns-in-Instruction-clause-kind t c = grind (arith, view_instruction)
+
+pub entry-returns-in-Instruction-clause-left : goal.entry-returns-in-Instruction-clause-left
+entry-returns-in-Instruction-clause-left t c = grind (arith, view_instruction)
+
+pub entry-returns-in-Instruction-clause-found : goal.entry-returns-in-Instruction-clause-found
+entry-returns-in-Instruction-clause-found t c = grind (arith, view_instruction)
+
+pub entry-returns-in_ok-block-in-Block-clause-kind : goal.entry-returns-in_ok-block-in-Block-clause-kind
+entry-returns-in_ok-block-in-Block-clause-kind t c = grind (arith, view_block)
+
+pub entry-returns-in_ok-block-in-Block-clause-left : goal.entry-returns-in_ok-block-in-Block-clause-left
+entry-returns-in_ok-block-in-Block-clause-left t c = grind (arith, view_block)
+
+pub entry-returns-in_ok-block-in-Block-clause-found : goal.entry-returns-in_ok-block-in-Block-clause-found
+entry-returns-in_ok-block-in-Block-clause-found t c = grind (arith, view_block)
