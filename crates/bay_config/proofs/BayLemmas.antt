@@ -1,37 +1,76 @@
--- A bay's refusal and value, section by section.
-use Rattle.std.proofs.Common.{◌≡◌, [], ◌∷◌, map, Result, Ok, refl}
+-- A bay's refusal and value, section by section, and then the names of its points.
+use Rattle.std.proofs.Common.{◌≡◌, List, [], ◌∷◌, ◌++◌, map, Option, None, Some, Result, Ok, refl}
 use Rattle.toml.specs.Data.{Members}
 use Rattle.bay_config.specs.declared.bay.Bay.{Bay}
 use Rattle.bay_config.specs.declared.fault.BayFault.{BayFault}
 use Rattle.bay_config.specs.declared.names.NameSection.TheVariants.{Input, Meter}
-use Rattle.bay_config.specs.Bay.{bay_section, switch_section, name_section, sections, bay_table, nameplate_in, switches_in, names_in, bay_with, bay_in, bay_of_table}
+use Rattle.bay_config.specs.declared.read.Lists.{Lists}
+use Rattle.bay_config.specs.declared.read.Sections.{Sections}
+use Rattle.bay_config.specs.Bay.{bay_section, switch_section, name_section, sections, bay_table, nameplate_in, switches_in, names_in, bay_in, bay_of_table}
 use Rattle.bay_base.specs.Exact.{judged}
-use Rattle.bay_config.specs.Key.{unknown_refusal}
+use Rattle.bay_config.specs.Key.{first_of, unknown_refusal}
+use Rattle.bay_config.specs.Node.{rows_of_all}
 use Rattle.bay_config.specs.Point.{points_of_all, names_refusal}
 use Rattle.bay_config.specs.Section.{section_refusal}
 use Rattle.bay_config.proofs.KeyLemmas.{then, judged-step}
 
--- the bay, read section by section
-abbrev pub bay_by_sections : Members → Result Bay BayFault
-bay_by_sections f =
-    then (judged {B = Unit {0}} (unknown_refusal (map (λ section. section.name) sections) f) tt)
+abbrev pub sections_in : Members → Sections
+sections_in f = record { nameplate = nameplate_in (bay_table f); switches = switches_in f; inputs = names_in f Input; meters = names_in f Meter }
+
+abbrev pub section_checks : Members → List (Option BayFault)
+section_checks f = unknown_refusal (map (λ s. s.name) sections) f ∷ map (section_refusal f) sections
+
+-- the sections, one after another
+abbrev pub by_section : Members → Result Sections BayFault
+by_section f =
+    then (judged {B = Unit {0}} (unknown_refusal (map (λ s. s.name) sections) f) tt)
     (λ _. then (judged (section_refusal f bay_section) (nameplate_in (bay_table f)))
     (λ nameplate. then (judged (section_refusal f switch_section) (switches_in f))
     (λ switches. then (judged (section_refusal f (name_section Input)) (names_in f Input))
     (λ inputs. then (judged (section_refusal f (name_section Meter)) (names_in f Meter))
-    (λ meters. then (judged {B = Unit {0}} (names_refusal (points_of_all switches inputs meters)) tt)
-    (λ _. Ok (bay_with nameplate switches inputs meters)))))))
+    (λ meters. Ok (record { nameplate = nameplate; switches = switches; inputs = inputs; meters = meters }))))))
 
-pub by_sections : (f : Members) → bay_of_table f ≡ bay_by_sections f
-by_sections f =
-    let names = names_refusal (points_of_all (switches_in f) (names_in f Input) (names_in f Meter)) in
+pub sections_by_section : (f : Members) → judged (first_of (section_checks f)) (sections_in f) ≡ by_section f
+sections_by_section f =
     let bay = section_refusal f bay_section in
     let switches = section_refusal f switch_section in
     let inputs = section_refusal f (name_section Input) in
     let meters = section_refusal f (name_section Meter) in
-    judged-step (unknown_refusal (map (λ section. section.name) sections) f) (bay ∷ switches ∷ inputs ∷ meters ∷ names ∷ []) (tt {0}) (bay_in f) _
-    (judged-step bay (switches ∷ inputs ∷ meters ∷ names ∷ []) (nameplate_in (bay_table f)) (bay_in f) _
-    (judged-step switches (inputs ∷ meters ∷ names ∷ []) (switches_in f) (bay_in f) _
-    (judged-step inputs (meters ∷ names ∷ []) (names_in f Input) (bay_in f) _
-    (judged-step meters (names ∷ []) (names_in f Meter) (bay_in f) _
-    (judged-step names [] (tt {0}) (bay_in f) _ refl)))))
+    judged-step (unknown_refusal (map (λ s. s.name) sections) f) (bay ∷ switches ∷ inputs ∷ meters ∷ []) (tt {0}) (sections_in f) _
+    (judged-step bay (switches ∷ inputs ∷ meters ∷ []) (nameplate_in (bay_table f)) (sections_in f) _
+    (judged-step switches (inputs ∷ meters ∷ []) (switches_in f) (sections_in f) _
+    (judged-step inputs (meters ∷ []) (names_in f Input) (sections_in f) _
+    (judged-step meters [] (names_in f Meter) (sections_in f) _ refl))))
+
+-- the last check, behind the others
+judged-last_of : {S R : Type 0} (checks : List (Option BayFault)) (last : Option BayFault) (x : S) (v : R) (g : S → Result R BayFault) → judged (first_of (last ∷ [])) v ≡ g x → judged (first_of (checks ++ last ∷ [])) v ≡ then (judged (first_of checks) x) g
+judged-last_of [] last x v g e = e
+judged-last_of (None ∷ checks) last x v g e = judged-last_of checks last x v g e
+judged-last_of (Some fault ∷ checks) last x v g e = refl
+
+abbrev pub lists_in : Sections → Lists
+lists_in s = record { points = points_of_all s.switches s.inputs s.meters; rows = rows_of_all s.nameplate s.switches s.meters }
+
+-- the bay: the sections, and then the lists
+abbrev pub bay_by_parts : Members → Result Bay BayFault
+bay_by_parts f =
+    then (judged (first_of (section_checks f)) (sections_in f))
+    (λ s. then (judged (names_refusal (lists_in s).points) (lists_in s))
+    (λ l. Ok (record {
+      domain = s.nameplate.domain;
+      vendor = s.nameplate.vendor;
+      model = s.nameplate.model;
+      revision = s.nameplate.revision;
+      scan_max_age_ms = s.nameplate.scan_max_age_ms;
+      rows = l.rows;
+      points = l.points;
+      switches = s.switches;
+      inputs = s.inputs;
+      meters = s.meters;
+    })))
+
+pub by_parts : (f : Members) → bay_of_table f ≡ bay_by_parts f
+by_parts f =
+    let lists = lists_in (sections_in f) in
+    judged-last_of (section_checks f) (names_refusal lists.points) (sections_in f) (bay_in f) _
+    (judged-step (names_refusal lists.points) [] lists (bay_in f) _ refl)

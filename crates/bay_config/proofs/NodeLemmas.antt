@@ -1,20 +1,17 @@
 -- The rows of the nodes, as they are appended.
-use Rattle.std.proofs.Common.{◌≡◌, ℕ, arith, ◌+◌, ◌<◌, Bool, true, false, cond, List, [], ◌∷◌, ◌++◌, length, map, filter, get_or, drop, codes, None, Some, append_assoc, append-nil, sym, ap, ◌∙◌}
+use Rattle.std.proofs.Common.{◌≡◌, ℕ, arith, ◌+◌, ◌<◌, Bool, true, false, cond, List, [], ◌∷◌, ◌++◌, length, map, filter, get_or, drop, codes, None, Some, append_assoc, append-nil, pos, refl, sym, ap, ◌∙◌}
 use Rattle.std.specs.Borrow.{Bor}
-use Rattle.std.proofs.lemmas.List.{drop_more, get_or_default, map-append}
-use Rattle.std.specs.Fmt.{decimal}
+use Rattle.std.proofs.lemmas.List.{drop_more, map-append}
 use Rattle.std.specs.List.{flat_map, enumerate_from}
 use Rattle.bay_tree.specs.declared.row.Row.{Row}
-use Rattle.bay_tree.specs.declared.leaf.Leaf.TheVariants.{Unsigned32}
+use Rattle.bay_tree.specs.declared.leaf.Leaf.TheVariants.{Int8, Unsigned32}
 use Rattle.bay_config.specs.declared.bay.Control.{Control}
-use Rattle.bay_config.specs.declared.bay.Control.TheVariants.{Status, Direct, Sbo, SboEnhanced}
 use Rattle.bay_config.specs.declared.bay.Switch.{Switch}
 use Rattle.bay_config.specs.declared.bay.SwitchKind.{SwitchKind}
-use Rattle.bay_config.specs.declared.bay.SwitchKind.TheVariants.{Breaker, Disconnector, Earthing}
 use Rattle.bay_config.specs.declared.nameplate.Nameplate.{Nameplate}
 use Rattle.bay_config.specs.declared.tables.InitialValue.{InitialValue}
-use Rattle.bay_config.specs.Node.{Parts, Node, row, rows_of, rows_of_parts, node_rows, device_node, device_parts, physical_node, physical_parts, position_node, position_parts, control_parts, operation, cancelling, is_of}
-use Rattle.bay_config.specs.NodeRows.{line_row, under, table_rows, status_group, type_rows, position_model, group_row, select_row, command_rows, control_group, control_model}
+use Rattle.bay_config.specs.Node.{Part, Parts, Node, row, rows_of, rows_of_parts, parts_of, inside, value, commands, model_of, node_rows, device_node, device_parts, physical_node, physical_parts, position_node, position_parts, control_parts, is_of}
+use Rattle.bay_config.specs.NodeRows.{line_row, under, table_rows, status_group, type_rows, position_model, command_rows, control_group, control_model}
 
 -- one line more of a table
 pub table_turn : (n : Nameplate) (node : List ℕ) (table : List (Bor (List ℕ) × InitialValue)) (i : ℕ) (line : Bor (List ℕ) × InitialValue) (done : List Row) → i < length table → line ≡ get_or table i line → done ++ table_rows n node (drop i table) ≡ (done ++ under node (line_row n line) ∷ []) ++ table_rows n node (drop (i + 1) table)
@@ -37,28 +34,35 @@ device_appended n old device physical d p =
     ∙ append_assoc old first second
     ∙ ap (λ rs. old ++ (first ++ rs)) (sym (append-nil second))
 
+-- groups of rows that are appended one after another
+pub two_groups : (node : List ℕ) (old a b : List Row) → (old ++ map (under node) a) ++ map (under node) b ≡ old ++ map (under node) (a ++ b)
+two_groups node old a b = simp (append_assoc, map-append)
+
+pub four_groups : (node : List ℕ) (old a b c d : List Row) → (((old ++ map (under node) a) ++ map (under node) b) ++ map (under node) c) ++ map (under node) d ≡ old ++ map (under node) (a ++ (b ++ (c ++ d)))
+four_groups node old a b c d = simp (append_assoc, map-append)
+
+-- and behind a node's own row
+node-groups : (node : List ℕ) (old a b c d : List Row) → ((((old ++ row (node ++ []) None ∷ []) ++ map (under node) a) ++ map (under node) b) ++ map (under node) c) ++ map (under node) d ≡ old ++ row node None ∷ map (under node) (a ++ (b ++ (c ++ d)))
+node-groups node old a b c d = simp (append_assoc, append-nil, map-append)
+
 -- what is appended for a switch's position makes its node
 pub position_appended : (old : List Row) (node : List ℕ) (kind : SwitchKind) → (((old ++ row (node ++ []) None ∷ []) ++ map (under node) status_group) ++ map (under node) (type_rows kind)) ++ map (under node) position_model ≡ old ++ node_rows (record { name = node; parts = position_parts kind })
-position_appended old node Breaker = simp (append_assoc, append-nil)
-position_appended old node Disconnector = simp (append_assoc, append-nil)
-position_appended old node Earthing = simp (append_assoc, append-nil)
+position_appended old node kind = sym (append-nil _) ∙ node-groups node old status_group (type_rows kind) position_model []
 
--- what is appended for its commands
-pub direct_appended : (old : List Row) (node : List ℕ) → (old ++ map (under node) group_row) ++ map (under node) (rows_of (codes "$CO$Pos") (operation (codes "Oper"))) ≡ old ++ map (under node) (command_rows Direct)
-direct_appended old node = simp append_assoc
+-- the rows of the first parts, and then those of the others
+rows-of_both : (path : List ℕ) (ps qs : List Part) → rows_of_parts path (parts_of (ps ++ qs)) ≡ rows_of_parts path (parts_of ps) ++ rows_of_parts path (parts_of qs)
+rows-of_both path [] qs = refl
+rows-of_both path (p ∷ ps) qs = ap (λ rs. rows_of path p ++ rs) (rows-of_both path ps qs) ∙ sym (append_assoc (rows_of path p) (rows_of_parts path (parts_of ps)) (rows_of_parts path (parts_of qs)))
 
-pub sbo_appended : (old : List Row) (node : List ℕ) → (((old ++ map (under node) group_row) ++ map (under node) select_row) ++ map (under node) (rows_of (codes "$CO$Pos") (operation (codes "Oper")))) ++ map (under node) (rows_of (codes "$CO$Pos") cancelling) ≡ old ++ map (under node) (command_rows Sbo)
-sbo_appended old node = simp append_assoc
+-- the parts of a control behind its commands
+abbrev pub configuration : Control → ℕ → List Part
+configuration control timeout = inside (codes "CF") (inside (codes "Pos") (value (codes "ctlModel") (Int8 (pos (model_of control))) ∷ value (codes "sboTimeout") (Unsigned32 timeout) ∷ []) ∷ []) ∷ []
 
-pub enhanced_appended : (old : List Row) (node : List ℕ) → (((old ++ map (under node) group_row) ++ map (under node) (rows_of (codes "$CO$Pos") (operation (codes "SBOw")))) ++ map (under node) (rows_of (codes "$CO$Pos") (operation (codes "Oper")))) ++ map (under node) (rows_of (codes "$CO$Pos") cancelling) ≡ old ++ map (under node) (command_rows SboEnhanced)
-enhanced_appended old node = simp append_assoc
-
--- and for its control
+-- what is appended for a control makes its node
 control-appended : (old : List Row) (node : List ℕ) (control : Control) (timeout : ℕ) → ((((old ++ row (node ++ []) None ∷ []) ++ map (under node) control_group) ++ map (under node) (command_rows control)) ++ map (under node) (control_model control)) ++ row (node ++ codes "$CF$Pos$sboTimeout") (Some (Unsigned32 timeout)) ∷ [] ≡ old ++ node_rows (record { name = node; parts = control_parts control timeout })
-control-appended old node Status timeout = simp (append_assoc, append-nil)
-control-appended old node Direct timeout = simp (append_assoc, append-nil)
-control-appended old node Sbo timeout = simp (append_assoc, append-nil)
-control-appended old node SboEnhanced timeout = simp (append_assoc, append-nil)
+control-appended old node control timeout =
+    node-groups node old control_group (command_rows control) (control_model control) (row (codes "$CF$Pos$sboTimeout") (Some (Unsigned32 timeout)) ∷ [])
+    ∙ ap (λ rs. old ++ row node None ∷ map (under node) (control_group ++ rs)) (sym (rows-of_both [] (commands control) (configuration control timeout)))
 
 pub control_appended : (n : Nameplate) (old : List Row) (node : List ℕ) (control : Control) (timeout : ℕ) (first last : List (Bor (List ℕ) × InitialValue)) → map (line_row n) first ≡ control_group → map (line_row n) last ≡ control_model control
     → ((((old ++ row (node ++ []) None ∷ []) ++ table_rows n node first) ++ map (under node) (command_rows control)) ++ table_rows n node last) ++ row (node ++ codes "$CF$Pos$sboTimeout") (Some (Unsigned32 timeout)) ∷ [] ≡ old ++ node_rows (record { name = node; parts = control_parts control timeout })

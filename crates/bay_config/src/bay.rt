@@ -5,7 +5,7 @@ use bay_base::types::ElementaryType;
 use bay_tree::row::Row;
 
 /// A bay: one logical device with its switches, inputs and meters.
-#[derive(Debug, Drop)]
+#[derive(Drop)]
 pub struct Bay {
     /// The name of the logical device: a letter, then letters, digits and `_`, at most 32 characters.
     pub domain: Text,
@@ -67,7 +67,7 @@ pub enum Control {
 }
 
 /// A variable by which the program reads or writes the bay.
-#[derive(Debug, Drop)]
+#[derive(Drop)]
 pub struct Point {
     /// The name in upper case.
     pub name: Text,

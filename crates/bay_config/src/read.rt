@@ -1,52 +1,121 @@
 // Reads a bay.
-ghost use Rattle.std.specs.Prelude.{IfOk};
+ghost use Rattle.std.specs.Prelude.{◌≡◌, ◌∷◌, map, IfOk};
 ghost use Rattle.toml.specs.View.{table_view};
-ghost use Rattle.bay_config.specs.Bay.{bay_of_table, bay_of};
+ghost use Rattle.bay_config.specs.Bay.{bay_table, bay_of_table, bay_of, nameplate_in, names_in, sections, switches_in};
 ghost use Rattle.bay_config.specs.declared.fault.BayFault.TheVariants.{OutOfMemory};
-ghost use Rattle.bay_base.specs.Exact.{Gives};
+ghost use Rattle.bay_config.specs.declared.names.NameSection.TheVariants.{Input, Meter};
+ghost use Rattle.bay_base.specs.Exact.{Gives, judged};
+ghost use Rattle.bay_config.specs.Key.{first_of, unknown_refusal};
 ghost use Rattle.bay_config.specs.Laws.{IsBay};
+ghost use Rattle.bay_config.specs.Node.{rows_of_all};
+ghost use Rattle.bay_config.specs.Point.{names_refusal, points_of_all};
+ghost use Rattle.bay_config.specs.Section.{section_refusal};
 
-use crate::bay::Bay;
+use crate::bay::{Bay, Point, Switch};
 use crate::fault::BayFault;
 use crate::keys::check_keys;
-use crate::nameplate::nameplate_at;
+use crate::nameplate::{Nameplate, nameplate_at};
 use crate::names::{NameSection, names_at};
 use crate::points::{check_names, points_of};
 use crate::rows::rows_of;
 use crate::switches::switches_at;
+use bay_base::listing::Listing;
+use bay_base::text::Text;
+use bay_tree::row::Row;
 use std::alloc::Global;
 use toml::Table;
 
-/// The bay of a file's table.
-fn bay_from(alloc: Global, file: &Table) -> Result<Bay, BayFault>
-    ensures read { Gives OutOfMemory (λ x. x) result (bay_of_table (table_view file.now)) }
-    ensures sound { IfOk result IsBay }
+/// What the sections of a file say.
+#[derive(Drop)]
+struct Sections {
+    nameplate: Nameplate,
+    switches: Listing<Switch>,
+    inputs: Listing<Text>,
+    meters: Listing<Text>,
+}
+
+/// The sections of a file, in their order.
+fn sections_at(alloc: Global, file: &Table) -> Result<Sections, BayFault>
+    ensures { let f = table_view file.now in
+        Gives OutOfMemory (λ x. x) result (judged (first_of (unknown_refusal (map (λ s. s.name) sections) f ∷ map (section_refusal f) sections))
+        (record { nameplate = nameplate_in (bay_table f); switches = switches_in f; inputs = names_in f Input; meters = names_in f Meter })) }
 {
     check_keys(file, &["bay", "switch", "input", "meter"])?;
     let nameplate = nameplate_at(alloc, file)?;
     let switches = switches_at(alloc, file)?;
     let inputs = names_at(alloc, file, NameSection::Input)?;
     let meters = names_at(alloc, file, NameSection::Meter)?;
-    let points = points_of(
-        alloc,
-        switches.as_slice(),
-        inputs.as_slice(),
-        meters.as_slice(),
-    )?;
+    Ok(Sections {
+        nameplate,
+        switches,
+        inputs,
+        meters,
+    })
+}
+
+/// What the sections come to: the points of the program and the rows of the tree.
+#[derive(Drop)]
+struct Lists {
+    points: Listing<Point>,
+    rows: Listing<Row>,
+}
+
+/// The points, no two of one name and none named as a reserved word, and the rows.
+fn lists_of(alloc: Global, sections: &Sections) -> Result<Lists, BayFault>
+    ensures { let s = sections.now in let points = points_of_all s.switches s.inputs s.meters in
+        Gives OutOfMemory (λ x. x) result (judged (names_refusal points) (record { points = points; rows = rows_of_all s.nameplate s.switches s.meters })) }
+{
+    let switches = sections.switches.as_slice();
+    let meters = sections.meters.as_slice();
+    let points = points_of(alloc, switches, sections.inputs.as_slice(), meters)?;
     check_names(points.as_slice())?;
-    let rows = rows_of(alloc, &nameplate, switches.as_slice(), meters.as_slice())?;
-    Ok(Bay {
+    let rows = rows_of(alloc, &sections.nameplate, switches, meters)?;
+    Ok(Lists { points, rows })
+}
+
+/// The bay of sections and lists.
+fn bay_with(sections: Sections, lists: Lists) -> Bay
+    ensures { let n = sections.nameplate in result ≡ record {
+      domain = n.domain;
+      vendor = n.vendor;
+      model = n.model;
+      revision = n.revision;
+      scan_max_age_ms = n.scan_max_age_ms;
+      rows = lists.rows;
+      points = lists.points;
+      switches = sections.switches;
+      inputs = sections.inputs;
+      meters = sections.meters;
+    } }
+{
+    let Sections {
+        nameplate,
+        switches,
+        inputs,
+        meters,
+    } = sections;
+    Bay {
         domain: nameplate.domain,
         vendor: nameplate.vendor,
         model: nameplate.model,
         revision: nameplate.revision,
         scan_max_age_ms: nameplate.scan_max_age_ms,
-        rows,
-        points,
+        rows: lists.rows,
+        points: lists.points,
         switches,
         inputs,
         meters,
-    })
+    }
+}
+
+/// The bay of a file's table.
+fn bay_from(alloc: Global, file: &Table) -> Result<Bay, BayFault>
+    ensures read { Gives OutOfMemory (λ x. x) result (bay_of_table (table_view file.now)) }
+    ensures sound { IfOk result IsBay }
+{
+    let sections = sections_at(alloc, file)?;
+    let lists = lists_of(alloc, &sections)?;
+    Ok(bay_with(sections, lists))
 }
 
 /// Reads a bay from the text of its file, or says why the text is none.

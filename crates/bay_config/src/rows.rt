@@ -1,8 +1,8 @@
 // The rows of a bay's logical nodes, with the values of the start.
 ghost use Rattle.std.specs.Prelude.{◌≡◌, ◌++◌, ◌∷◌, [], codes, map, None, IfOk};
 ghost use Rattle.std.specs.List.{flat_map};
-ghost use Rattle.bay_config.specs.Node.{row, node_rows, position_parts, control_parts, interlocking_parts, meter_parts, class_of, node_name, device_node, physical_node, position_node, position_nodes, control_node, control_nodes, interlocking_nodes, meter_nodes, rows_of_all};
-ghost use Rattle.bay_config.specs.NodeRows.{leaf_from, under, table_rows, command_rows};
+ghost use Rattle.bay_config.specs.Node.{row, rows_of, node_rows, operation, cancelling, position_parts, control_parts, interlocking_parts, meter_parts, class_of, node_name, device_node, physical_node, position_node, position_nodes, control_node, control_nodes, interlocking_nodes, meter_nodes, rows_of_all};
+ghost use Rattle.bay_config.specs.NodeRows.{leaf_from, line_row, under, table_rows, group_row, command_rows};
 
 use crate::bay::{Control, Switch, SwitchKind};
 use crate::nameplate::Nameplate;
@@ -118,6 +118,24 @@ fn push_position_node(
     Ok(())
 }
 
+/// What may be written to a switch that is selected by the rows of a table.
+fn push_selection(
+    alloc: Global,
+    rows: &mut Vec<Row>,
+    nameplate: &Nameplate,
+    node: &str,
+    select: &[(&str, InitialValue)],
+) -> Result<(), AllocError>
+    ensures { let operate = rows_of (codes "$CO$Pos") (operation (codes "Oper")) in let cancel = rows_of (codes "$CO$Pos") cancelling in
+        IfOk result (λ _. rows.new.items ≡ rows.old.items ++ map (under node.now) (group_row ++ (map (line_row nameplate.now) select.now ++ (operate ++ cancel)))) }
+{
+    push_table(alloc, rows, nameplate, node, tables::group_table())?;
+    push_table(alloc, rows, nameplate, node, select)?;
+    push_table(alloc, rows, nameplate, node, tables::operate_table())?;
+    push_table(alloc, rows, nameplate, node, tables::cancel_table())?;
+    Ok(())
+}
+
 /// What may be written to a switch with this kind of control.
 fn push_commands(
     alloc: Global,
@@ -135,26 +153,14 @@ fn push_commands(
             push_table(alloc, rows, nameplate, node, tables::operate_table())?;
             Ok(())
         }
-        Control::Sbo => {
-            push_table(alloc, rows, nameplate, node, tables::group_table())?;
-            push_table(alloc, rows, nameplate, node, tables::select_table())?;
-            push_table(alloc, rows, nameplate, node, tables::operate_table())?;
-            push_table(alloc, rows, nameplate, node, tables::cancel_table())?;
-            Ok(())
-        }
-        Control::SboEnhanced => {
-            push_table(alloc, rows, nameplate, node, tables::group_table())?;
-            push_table(
-                alloc,
-                rows,
-                nameplate,
-                node,
-                tables::select_with_value_table(),
-            )?;
-            push_table(alloc, rows, nameplate, node, tables::operate_table())?;
-            push_table(alloc, rows, nameplate, node, tables::cancel_table())?;
-            Ok(())
-        }
+        Control::Sbo => push_selection(alloc, rows, nameplate, node, tables::select_table()),
+        Control::SboEnhanced => push_selection(
+            alloc,
+            rows,
+            nameplate,
+            node,
+            tables::select_with_value_table(),
+        ),
     }
 }
 

@@ -6,6 +6,7 @@ pub mod ImageLemmas
 pub mod InstrLemmas
 pub mod ItemLemmas
 pub mod KindLemmas
+pub mod MapLemmas
 pub mod NameLemmas
 pub mod OctetLemmas
 pub mod PlaceLemmas

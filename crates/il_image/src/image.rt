@@ -9,7 +9,7 @@ use bay_base::types::ElementaryType;
 use std::marker::Model;
 
 /// A point that the code reads, or reads and writes.
-#[derive(Debug, Drop)]
+#[derive(Drop)]
 pub struct ImagePoint {
     /// Its name in upper case: 1 to 64 letters, digits and underscores.
     pub name: Text,
@@ -21,7 +21,7 @@ pub struct ImagePoint {
 /// A program's code in octets, and what it uses. Slots are the points and then the variables, in their order. An image
 /// holds only what its format can say: at most 65,535 points, variables, timers and octets of code, names that are names,
 /// values of their types, and code that is instructions one behind the other.
-#[derive(Debug, Drop)]
+#[derive(Drop)]
 pub struct Image {
     points: Listing<ImagePoint>,
     variables: Listing<Value>,

@@ -66,7 +66,7 @@ pub enum TimerUse {
 }
 
 /// The first octet of an instruction. What the instruction needs besides stands in the octets behind it.
-#[derive(Clone, Copy, Debug, PartialEq, Eq)]
+#[derive(Clone, Copy)]
 pub enum Opcode {
     Halt,
     Push(ElementaryType),

@@ -7,7 +7,7 @@ use bay_base::types::ElementaryType;
 use std::alloc::AllocError;
 
 /// How many octets a signed number has.
-#[derive(Clone, Copy, Debug, PartialEq, Eq)]
+#[derive(Clone, Copy)]
 pub(crate) enum Size {
     One,
     Two,

@@ -43,10 +43,6 @@ first_none : (a b : Option VerifyFault) → (a or_else b) ≡ None → (a ≡ No
 first_none None b e = (refl, e)
 first_none (Some f) b e = absurd cc
 
-both_none : (a b : Option VerifyFault) → a ≡ None → b ≡ None → (a or_else b) ≡ None
-both_none None b e f = f
-both_none (Some x) b e f = absurd cc
-
 not_so : (b : Bool) (f : VerifyFault) → where_so b f ≡ None → b ≡ false
 not_so true f e = absurd cc
 not_so false f e = refl
@@ -196,16 +192,33 @@ undivided_some types timers (Timer timer_use n) kinds gives e = e
 fits_all : (a b : Option (List Kind)) (x y : List Kind) → a ≡ Some x → b ≡ Some y → unfit a b ≡ None
 fits_all a b x y e f = rw (e, f) refl
 
+-- ---- the faults behind an effect
+
+behind_none : (a b r : Option VerifyFault) → a ≡ None → b ≡ r → (a or_else b) ≡ r
+behind_none None b r e f = f
+behind_none (Some x) b r e f = absurd cc
+
+-- where an instruction is allowed on the kinds, what is behind the first faults is its fault
+allowed_behind : (slots : List UsedSlot) (timers : ℕ) (i : Instr) (kinds gives : List Kind) (r : Option VerifyFault) → effect (types_of slots) timers i kinds ≡ Some gives
+    → (where_so (writes_read_only slots i) BadBinding or_else where_so (is_full (Some gives)) StackFull) ≡ r → fault_of slots timers i kinds ≡ r
+unfolding fault_of
+allowed_behind slots timers i kinds gives r e last =
+    let many : operands i ≤ length kinds = enough (types_of slots) timers i kinds gives e in
+    behind_none (missing (length slots) timers i) _ r (nothing_missing slots timers i kinds gives e)
+    (behind_none (where_so (nat_lt (length kinds) (operands i)) StackEmpty) _ r (not_where _ StackEmpty (le-ltb (length kinds) (operands i) many))
+    (behind_none (misfit slots timers i kinds) _ r (fits_all _ _ gives gives (undivided_some (types_of slots) timers i kinds gives e) e) (rw e last)))
+
 pub allowed_faultless : (slots : List UsedSlot) (timers : ℕ) (i : Instr) (kinds gives : List Kind) → effect (types_of slots) timers i kinds ≡ Some gives → writes_read_only slots i ≡ false → length gives ≤ 32
     → fault_of slots timers i kinds ≡ None
-unfolding fault_of
-allowed_faultless slots timers i kinds gives e writes room =
-    let many : operands i ≤ length kinds = enough (types_of slots) timers i kinds gives e in
-    both_none (missing (length slots) timers i) _ (nothing_missing slots timers i kinds gives e)
-    (both_none (where_so (nat_lt (length kinds) (operands i)) StackEmpty) _ (not_where _ StackEmpty (le-ltb (length kinds) (operands i) many))
-    (both_none (misfit slots timers i kinds) _ (fits_all _ _ gives gives (undivided_some (types_of slots) timers i kinds gives e) e)
-    (both_none (where_so (writes_read_only slots i) BadBinding) _ (not_where _ BadBinding writes)
-    (not_where _ StackFull (rw e (le-ltb 32 (length gives) room))))))
+allowed_faultless slots timers i kinds gives e writes room = allowed_behind slots timers i kinds gives None e (rw (writes, le-ltb 32 (length gives) room) refl)
+
+pub write_fault : (slots : List UsedSlot) (timers : ℕ) (i : Instr) (kinds gives : List Kind) → effect (types_of slots) timers i kinds ≡ Some gives → writes_read_only slots i ≡ true
+    → fault_of slots timers i kinds ≡ Some BadBinding
+write_fault slots timers i kinds gives e writes = allowed_behind slots timers i kinds gives (Some BadBinding) e (rw writes refl)
+
+pub room_fault : (slots : List UsedSlot) (timers : ℕ) (i : Instr) (kinds gives : List Kind) → effect (types_of slots) timers i kinds ≡ Some gives → writes_read_only slots i ≡ false → 32 < length gives
+    → fault_of slots timers i kinds ≡ Some StackFull
+room_fault slots timers i kinds gives e writes many = allowed_behind slots timers i kinds gives (Some StackFull) e (rw (writes, lt-ltb 32 (length gives) many) refl)
 
 -- ---- what having no fault says
 

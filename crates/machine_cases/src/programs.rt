@@ -1,8 +1,10 @@
 // Programs from their text to the image, and to the machine that runs it.
-use crate::first_word;
+use crate::images::{machine_of, verified_of};
+use crate::words::first_word;
 use anyhow::{Context, Result, bail};
 use bay_config::bay::Point;
 use il_check::check::check;
+use il_check::program::Typed;
 use il_compile::compile::compile;
 use il_compile::fault::CompileFault;
 use il_image::encode::encode;
@@ -10,19 +12,40 @@ use il_image::image::Image;
 use il_image::read::instr_at;
 use il_scan::machine::Machine;
 use il_text::read::read_program;
-use il_verify::verify::verify;
+use il_verify::verify::Verified;
 use std::alloc::Global;
+
+/// Appends a line so many times.
+fn push_line(text: &mut String, times: u32, line: &str) -> Result<()> {
+    for _ in 0..times {
+        text.push_str(line)?;
+        text.push_str("\n")?;
+    }
+    Ok(())
+}
 
 /// Appends the lines of a text.
 fn push_lines(text: &mut String, lines: &str) -> Result<()> {
     for part in lines.split(" / ") {
         let (times, line) = part.split_once(" * ").unwrap_or(("1", part));
-        for _ in 0..times.parse::<u32>()? {
-            text.push_str(line)?;
-            text.push_str("\n")?;
-        }
+        push_line(text, times.parse::<u32>()?, line)?;
     }
     Ok(())
+}
+
+/// Appends the program of declarations and lines.
+fn push_program(text: &mut String, declared: &str, lines: &str) -> Result<()> {
+    text.push_str("PROGRAM P\n")?;
+    push_lines(text, declared)?;
+    push_lines(text, lines)?;
+    text.push_str("END_PROGRAM\n")?;
+    Ok(())
+}
+
+/// The program of a text, if it has no fault.
+fn typed(alloc: Global, points: &[Point], text: &str) -> Result<Typed> {
+    let program = read_program(alloc, text)?;
+    Ok(check(alloc, &program, points)?)
 }
 
 /// The image of the program of declarations and lines, or why it is not compiled.
@@ -32,13 +55,18 @@ fn compiled(
     declared: &str,
     lines: &str,
 ) -> Result<Result<Image, CompileFault>> {
-    let mut text = String::from_str(alloc, "PROGRAM P\n")?;
-    push_lines(&mut text, declared)?;
-    push_lines(&mut text, lines)?;
-    text.push_str("END_PROGRAM\n")?;
-    let program = read_program(alloc, text.as_str())?;
-    let typed = check(alloc, &program, points)?;
+    let mut text = String::new(alloc);
+    push_program(&mut text, declared, lines)?;
+    let typed = typed(alloc, points, text.as_str())?;
     Ok(compile(alloc, &typed))
+}
+
+/// What is told of a program.
+#[derive(Clone, Copy, PartialEq, Eq)]
+struct Report {
+    instructions: u32,
+    depth: u32,
+    budget: u32,
 }
 
 /// How many instructions code has.
@@ -54,47 +82,46 @@ fn instructions(code: &[u8]) -> u32 {
     count
 }
 
-/// The machine of a program, whose report is this one.
-fn reported(alloc: Global, points: &[Point], declared: &str, line: &str) -> Result<Machine> {
-    let (wanted, rest) = first_word(line);
-    let (depth, rest) = first_word(rest);
-    let (budget, lines) = first_word(rest);
-    let image = compiled(alloc, points, declared, lines)??;
-    let count = instructions(image.code());
-    match verify(alloc, image, points) {
-        Ok(verified) => {
-            let is_so = count == wanted.parse::<u32>()?
-                && verified.depth() == depth.parse::<u32>()?
-                && verified.budget() == budget.parse::<u32>()?;
-            if !is_so {
-                bail!("{line}");
-            }
-            match Machine::new(alloc, verified) {
-                Ok(machine) => Ok(machine),
-                Err(_) => bail!("out of memory"),
-            }
-        }
-        Err(refused) => Err(refused.fault.into()),
+fn report_of(verified: &Verified) -> Report {
+    Report {
+        instructions: instructions(verified.image().code()),
+        depth: verified.depth(),
+        budget: verified.budget(),
     }
 }
 
-/// Whether a program comes to an image of these octets, of so many, or is refused.
-fn comes_to(
+/// The report that a line tells, and the program's lines behind it.
+fn report_in(line: &str) -> Result<(Report, &str)> {
+    let (count, rest) = first_word(line);
+    let (depth, rest) = first_word(rest);
+    let (budget, lines) = first_word(rest);
+    let report = Report {
+        instructions: count.parse::<u32>()?,
+        depth: depth.parse::<u32>()?,
+        budget: budget.parse::<u32>()?,
+    };
+    Ok((report, lines))
+}
+
+/// The machine of a program, whose report is this one.
+pub(crate) fn reported(
     alloc: Global,
     points: &[Point],
     declared: &str,
-    word: &str,
     line: &str,
-) -> Result<bool> {
-    let (wanted, lines) = first_word(line);
-    let image = match compiled(alloc, points, declared, lines)? {
-        Ok(image) => image,
-        Err(fault) => {
-            let code = fault.code().context("out of memory")?;
-            return Ok(word == "fault" && code == wanted.parse::<u8>()?);
-        }
-    };
-    let octets = encode(alloc, &image)?;
+) -> Result<Machine> {
+    let (wanted, lines) = report_in(line)?;
+    let image = compiled(alloc, points, declared, lines)??;
+    let verified = verified_of(alloc, points, image)?;
+    if report_of(&verified) != wanted {
+        bail!("{line}");
+    }
+    machine_of(alloc, verified)
+}
+
+/// Whether an image has these octets, or so many.
+fn is_spelled(alloc: Global, image: &Image, word: &str, wanted: &str) -> Result<bool> {
+    let octets = encode(alloc, image)?;
     Ok(match word {
         "image" => octets.as_slice() == hex::decode(alloc, wanted)?.as_slice(),
         "size" => octets.len() == wanted.parse::<usize>()?,
@@ -102,20 +129,26 @@ fn comes_to(
     })
 }
 
-/// The case of a line on a program: what it comes to, or its report, whose machine is scanned from then on.
-pub(crate) fn program(
+/// Whether a program is refused with this number.
+fn is_refused(fault: CompileFault, word: &str, wanted: &str) -> Result<bool> {
+    let code = fault.code().context("out of memory")?;
+    Ok(word == "fault" && code == wanted.parse::<u8>()?)
+}
+
+/// The case of a line on what a program comes to: an image of these octets, or of so many, or a refusal.
+pub(crate) fn check_program(
     alloc: Global,
     points: &[Point],
     declared: &str,
     line: &str,
-    machine: &mut Machine,
 ) -> Result<()> {
     let (word, rest) = first_word(line);
-    if word == "report" {
-        *machine = reported(alloc, points, declared, rest)?;
-        return Ok(());
-    }
-    if !comes_to(alloc, points, declared, word, rest)? {
+    let (wanted, lines) = first_word(rest);
+    let is_so = match compiled(alloc, points, declared, lines)? {
+        Ok(image) => is_spelled(alloc, &image, word, wanted)?,
+        Err(fault) => is_refused(fault, word, wanted)?,
+    };
+    if !is_so {
         bail!("it comes to something else");
     }
     Ok(())
