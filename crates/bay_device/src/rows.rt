@@ -34,6 +34,7 @@ pub struct SwitchRows {
 }
 
 /// Writes a value of the kind that stands there.
+#[inline(always)]
 pub fn put(tree: &mut Tree, handle: Handle, leaf: Leaf)
     requires { HasKind (layout_of tree.old) handle (kind_of leaf) }
     ensures rows { tree.new ≡ with_leaf_of (name_in (layout_of tree.old) handle) leaf tree.old }
@@ -46,6 +47,7 @@ pub fn put(tree: &mut Tree, handle: Handle, leaf: Leaf)
 }
 
 /// Writes a value, its quality and its moment.
+#[inline(always)]
 pub fn put_status(tree: &mut Tree, rows: StatusRows, value: Leaf, quality: Quality, now: u64)
     requires { AreStatusRows (layout_of tree.old) (kind_of value) rows }
     ensures rows { tree.new ≡ with_status (status_in (layout_of tree.old) rows) value quality now tree.old }

@@ -1,46 +1,105 @@
 -- Lemmas on the words and numbers of a line.
-use Rattle.std.proofs.Common.{◌≡◌, ◌≢◌, ℕ, suc, ◌<◌, ◌^◌, Bool, true, false, cond, eqb, nat_lt, List, [], ◌∷◌, length, get_or, Some, None, refl, ap, ◌∙◌, arith}
+use Rattle.std.proofs.Common.{◌≡◌, ◌≢◌, if◌then◌else◌, take, drop, subst, ℕ, suc, ◌+◌, ◌-◌, ◌*◌, ◌<◌, ◌≤◌, ◌^◌, Bool, true, false, ◌&&◌, cond, eqb, nat_lt, List, Option, [], ◌∷◌, length, Some, None, refl, ap, ◌∙◌, arith}
+use Rattle.std.proofs.lemmas.Grind.{common_steps}
 use Rattle.std.proofs.lemmas.Bool.Decides.{nat_tests}
-use Rattle.std.proofs.lemmas.List.Splits.{slice_split-cons_no}
-use Rattle.std.proofs.lemmas.Str.Parse.{IsNumeralModel, numerals_by_value, tells_all_ascii_digits}
-use Rattle.std.specs.List.{slice_split, onto_first}
+use Rattle.std.proofs.lemmas.List.{take_all}
+use Rattle.std.proofs.lemmas.List.Splits.{slice_split-cons_no, slice_split_first}
+use Rattle.std.proofs.lemmas.Str.{digit_value_digit}
+use Rattle.std.specs.Char.{digit_value, is_ascii_digit}
+use Rattle.std.specs.List.{slice_split, onto_first, position, position_or_len}
 use Rattle.std.specs.Str.{all_ascii_digits}
-use Rattle.std.specs.Str.Parse.{digits_value}
+use Rattle.std.specs.Str.Parse.{digits_value_after}
 use Rattle.std.specs.Str.{is_utf8, IsUtf8}
 use Rattle.std.proofs.lemmas.Str.{IsUtf8-from_is_utf8, is_utf8-from_IsUtf8}
-use Rattle.bay_main.specs.Trace.{is_space, only_word, read_number, read_integer, words_line, trace_line_of}
+use Rattle.bay_main.specs.Trace.{is_space, only_word, with_digit, read_number, read_integer, name_of}
 
-not_space : (b : ℕ) → b ≢ 32 → is_space b ≡ false
-not_space b h = grind (arith, nat_tests)
+-- what is left of a list is all of it
+pub take_rest : (xs : List ℕ) (n : ℕ) → take (length xs - n) (drop n xs) ≡ drop n xs
+take_rest xs n = take_all (length xs - n) (drop n xs) (grind (arith, common_steps))
 
--- a text without a space is one word
-pub one_word : (bs : List ℕ) → ((i : ℕ) → i < length bs → get_or bs i 0 ≢ 32) → slice_split is_space bs ≡ bs ∷ []
-one_word [] h = refl
-one_word (b ∷ bs) h =
-    slice_split-cons_no is_space b bs (not_space b (h 0 (omega arith))) ∙ ap (onto_first b) (one_word bs (λ i l. h (suc i) (omega arith)))
-
--- decimal digits as the standard library reads them
-pub digits : IsNumeralModel (λ ds. all_ascii_digits ds ≡ true) (digits_value 10)
-digits = numerals_by_value _ tells_all_ascii_digits
-
--- a word is a number where it is decimal digits that write one below 2 ^ 64
-abbrev pub IsNumber : List ℕ → Type 0
-IsNumber bs = (all_ascii_digits bs ≡ true) × (0 < length bs) × (digits_value 10 bs < 2 ^ 64)
-
-pub read_number-some : (bs : List ℕ) → IsNumber bs → read_number bs ≡ Some (digits_value 10 bs)
-read_number-some bs is =
-    let some : nat_lt 0 (length bs) ≡ true = let lt = is.1 in grind (arith, nat_tests) in
-    let fits : nat_lt (digits_value 10 bs) (2 ^ 64) ≡ true = let lt = is.2 in grind (arith, nat_tests) in
-    rw (is.0, some, fits) refl
-
-pub read_number-none : (bs : List ℕ) → ¬ (IsNumber bs) → read_number bs ≡ None
-read_number-none bs none = by_tests (all_ascii_digits bs) (nat_lt 0 (length bs)) (nat_lt (digits_value 10 bs) (2 ^ 64)) refl refl refl
+-- a text with a space is the word before it and what follows
+pub some_space : (bs : List ℕ) (at : ℕ) → position is_space bs ≡ Some at → slice_split is_space bs ≡ take at bs ∷ slice_split is_space (drop (at + 1) bs)
+some_space bs at e = by_test (nat_lt (position_or_len is_space bs) (length bs)) refl
   where
-    by_tests : (u v w : Bool) → all_ascii_digits bs ≡ u → nat_lt 0 (length bs) ≡ v → nat_lt (digits_value 10 bs) (2 ^ 64) ≡ w → read_number bs ≡ None
-    by_tests false v w d e f = rw d refl
-    by_tests true false w d e f = rw (d, e)
-    by_tests true true false d e f = rw (d, e, f)
-    by_tests true true true d e f = absurd (none (d, grind (arith, nat_tests), grind (arith, nat_tests)))
+    by_test : (v : Bool) → nat_lt (position_or_len is_space bs) (length bs) ≡ v → slice_split is_space bs ≡ take at bs ∷ slice_split is_space (drop (at + 1) bs)
+    by_test true l =
+        let is : position_or_len is_space bs ≡ at = let some : Some (position_or_len is_space bs) ≡ Some at = rw l at e in cc in
+        subst (λ k. slice_split is_space bs ≡ take k bs ∷ slice_split is_space (drop (k + 1) bs)) is (slice_split_first is_space bs 0 (grind (arith, nat_tests)))
+    by_test false l = let none : None ≡ Some at = rw l at e in absurd cc
+
+alone : (bs : List ℕ) → length bs ≤ position_or_len is_space bs → slice_split is_space bs ≡ bs ∷ []
+alone [] l = refl
+alone (b ∷ bs) l = by_test (λ h. alone bs h) (is_space b) refl
+  where
+    by_test : (length bs ≤ position_or_len is_space bs → slice_split is_space bs ≡ bs ∷ []) → (v : Bool) → is_space b ≡ v → slice_split is_space (b ∷ bs) ≡ (b ∷ bs) ∷ []
+    by_test rest true e = absurd (let le : suc (length bs) ≤ 0 = rw e at l in omega (arith, le))
+    by_test rest false e =
+        let le : suc (length bs) ≤ 1 + position_or_len is_space bs = rw e at l in
+        slice_split-cons_no is_space b bs e ∙ ap (onto_first b) (rest (omega (arith, le)))
+
+-- a text without one is one word
+pub no_space : (bs : List ℕ) → position is_space bs ≡ None → slice_split is_space bs ≡ bs ∷ []
+no_space bs e = by_test (nat_lt (position_or_len is_space bs) (length bs)) refl
+  where
+    by_test : (v : Bool) → nat_lt (position_or_len is_space bs) (length bs) ≡ v → slice_split is_space bs ≡ bs ∷ []
+    by_test true l = let some : Some (position_or_len is_space bs) ≡ None = rw l at e in absurd cc
+    by_test false l = alone bs (grind (arith, nat_tests))
+
+-- the number that decimal digits write behind those of a number, below 2 ^ 64
+abbrev pub number_from : ℕ → List ℕ → Option ℕ
+number_from n ds = if all_ascii_digits ds && nat_lt (digits_value_after 10 n ds) (2 ^ 64) then Some (digits_value_after 10 n ds) else None
+
+without_true : (o : Option ℕ) (u v w : Bool) → v ≡ true → cond (u && v && w) o None ≡ cond (u && w) o None
+without_true o u false w e = absurd cc
+without_true o false true w e = refl
+without_true o true true false e = refl
+without_true o true true true e = refl
+
+pub read_number-some : (bs : List ℕ) → eqb (length bs) 0 ≡ false → read_number bs ≡ number_from 0 bs
+read_number-some bs some = without_true _ (all_ascii_digits bs) (nat_lt 0 (length bs)) (nat_lt (digits_value_after 10 0 bs) (2 ^ 64)) (grind (arith, nat_tests))
+
+pub digit_value-digit : (b : ℕ) → is_ascii_digit b ≡ true → digit_value b ≡ b - 48
+digit_value-digit b is = omega (arith, digit_value_digit b (grind (arith, nat_tests)))
+
+-- a number with its digits behind it
+after_ge : (n : ℕ) (ds : List ℕ) → n ≤ digits_value_after 10 n ds
+after_ge n [] = omega arith
+after_ge n (c ∷ cs) = omega (arith, after_ge (n * 10 + digit_value c) cs)
+
+pub number_from-end : (n : ℕ) → n < 2 ^ 64 → number_from n [] ≡ Some n
+number_from-end n lt = let is : nat_lt n (2 ^ 64) ≡ true = grind (arith, nat_tests) in rw is refl
+
+-- a digit moves to the number
+abbrev pub AddsDigit : ℕ → ℕ → ℕ → Type 0
+AddsDigit n b m = (is_ascii_digit b ≡ true) × (m ≡ n * 10 + (b - 48)) × (m < 2 ^ 64)
+
+pub with_digit-some : (n b m : ℕ) → with_digit n b ≡ Some m → AddsDigit n b m
+with_digit-some n b m e = by_tests (is_ascii_digit b) (nat_lt (n * 10 + (b - 48)) (2 ^ 64)) refl refl
+  where
+    by_tests : (u v : Bool) → is_ascii_digit b ≡ u → nat_lt (n * 10 + (b - 48)) (2 ^ 64) ≡ v → AddsDigit n b m
+    by_tests false v d f = let none : None ≡ Some m = rw d at e in absurd cc
+    by_tests true false d f = let none : None ≡ Some m = rw (d, f) at e in absurd cc
+    by_tests true true d f =
+        let is : Some (n * 10 + (b - 48)) ≡ Some m = rw (d, f) at e in
+        let same : n * 10 + (b - 48) ≡ m = cc in
+        (d, cc, subst (λ k. k < 2 ^ 64) same (grind (arith, nat_tests)))
+
+pub number_from-step : (n b : ℕ) (bs : List ℕ) (m : ℕ) → with_digit n b ≡ Some m → number_from n (b ∷ bs) ≡ number_from m bs
+number_from-step n b bs m e = let is = with_digit-some n b m e in rw (is.0, digit_value-digit b is.0, is.1) refl
+
+pub number_from-none : (n b : ℕ) (bs : List ℕ) → with_digit n b ≡ None → number_from n (b ∷ bs) ≡ None
+number_from-none n b bs e = by_tests (is_ascii_digit b) (nat_lt (n * 10 + (b - 48)) (2 ^ 64)) refl refl
+  where
+    by_tests : (u v : Bool) → is_ascii_digit b ≡ u → nat_lt (n * 10 + (b - 48)) (2 ^ 64) ≡ v → number_from n (b ∷ bs) ≡ None
+    by_tests false v d f = rw d refl
+    by_tests true false d f =
+        let over : nat_lt (digits_value_after 10 (n * 10 + (b - 48)) bs) (2 ^ 64) ≡ false = let ge = after_ge (n * 10 + (b - 48)) bs in grind (arith, nat_tests) in
+        rw (d, digit_value-digit b d) (no_more (all_ascii_digits bs) over)
+      where
+        no_more : {v : Bool} (u : Bool) → v ≡ false → cond (u && v) (Some (digits_value_after 10 (n * 10 + (b - 48)) bs)) None ≡ None
+        no_more true e = rw e refl
+        no_more false e = refl
+    by_tests true true d f = let none : Some (n * 10 + (b - 48)) ≡ None = rw (d, f) at e in absurd cc
 
 -- a list that isn't empty
 abbrev HasFirst : List (List ℕ) → Type 0
@@ -66,13 +125,13 @@ is_utf8_false bs bad = by_test (is_utf8 bs) refl
     by_test true e = absurd (bad (IsUtf8-from_is_utf8 bs e))
     by_test false e = refl
 
-pub trace_line_of-text : (bs : List ℕ) → eqb (length bs) 0 ≡ false → IsUtf8 bs → trace_line_of bs ≡ words_line (slice_split is_space bs)
-trace_line_of-text [] e text = absurd (grind (arith, nat_tests))
-trace_line_of-text (b ∷ bs) e text = ap (λ v. cond v (words_line (slice_split is_space (b ∷ bs))) None) (is_utf8-from_IsUtf8 (b ∷ bs) text)
+pub name_of-text : (bs : List ℕ) → eqb (length bs) 0 ≡ false → IsUtf8 bs → name_of bs ≡ Some bs
+name_of-text [] e text = absurd (grind (arith, nat_tests))
+name_of-text (b ∷ bs) e text = ap (λ v. cond v (Some (b ∷ bs)) None) (is_utf8-from_IsUtf8 (b ∷ bs) text)
 
-pub trace_line_of-no_text : (bs : List ℕ) → eqb (length bs) 0 ≡ false → ¬ (IsUtf8 bs) → trace_line_of bs ≡ None
-trace_line_of-no_text [] e bad = absurd (grind (arith, nat_tests))
-trace_line_of-no_text (b ∷ bs) e bad = ap (λ v. cond v (words_line (slice_split is_space (b ∷ bs))) None) (is_utf8_false (b ∷ bs) bad)
+pub name_of-no_text : (bs : List ℕ) → eqb (length bs) 0 ≡ false → ¬ (IsUtf8 bs) → name_of bs ≡ None
+name_of-no_text [] e bad = absurd (grind (arith, nat_tests))
+name_of-no_text (b ∷ bs) e bad = ap (λ v. cond v (Some (b ∷ bs)) None) (is_utf8_false (b ∷ bs) bad)
 
 -- what doesn't begin with `-` and is no number is no integer
 pub read_integer-none : (bs : List ℕ) → ((rest : List ℕ) → bs ≢ 45 ∷ rest) → read_number bs ≡ None → read_integer bs ≡ None

@@ -1,6 +1,7 @@
 -- What a line of the trace says: words parted by one space.
-use Rattle.std.specs.Prelude.{ℕ, ℤ, pos, neg_ℤ, ◌==◌, ◌&&◌, ◌^◌, Bool, true, false, nat_lt, nat_le, List, [], ◌∷◌, length, codes, Option, None, Some, option_map, option_and_then, if◌then◌else◌}
+use Rattle.std.specs.Prelude.{ℕ, ℤ, pos, neg_ℤ, ◌==◌, ◌&&◌, ◌+◌, ◌-◌, ◌*◌, ◌^◌, Bool, true, false, nat_lt, nat_le, List, [], ◌∷◌, length, codes, Option, None, Some, option_map, option_and_then, if◌then◌else◌}
 use Rattle.std.specs.List.{slice_split}
+use Rattle.std.specs.Char.{is_ascii_digit}
 use Rattle.std.specs.Str.{all_ascii_digits, bytes_eq, is_utf8}
 use Rattle.std.specs.Str.Parse.{digits_value}
 use Rattle.bay_config.specs.declared.bay.MeterField.{MeterField}
@@ -33,6 +34,10 @@ abbrev pub only_word : List (List ℕ) → Option (List ℕ)
 only_word [] = None
 only_word (word ∷ []) = Some word
 only_word (word ∷ next ∷ others) = None
+
+-- a number with one more decimal digit behind its own, below 2 ^ 64
+abbrev pub with_digit : ℕ → ℕ → Option ℕ
+with_digit n b = if is_ascii_digit b && nat_lt (n * 10 + (b - 48)) (2 ^ 64) then Some (n * 10 + (b - 48)) else None
 
 -- the number that decimal digits write, below 2 ^ 64
 abbrev pub read_number : List ℕ → Option ℕ
@@ -83,6 +88,11 @@ measure_of id [] = None
 measure_of id (field ∷ value) =
     option_and_then (λ f. option_map (measure id f) (option_and_then read_integer (only_word value))) (field_of field)
 
+-- a word that is a name: it is UTF-8, and not empty
+abbrev pub name_of : List ℕ → Option (List ℕ)
+name_of [] = None
+name_of (b ∷ bs) = if is_utf8 (b ∷ bs) then Some (b ∷ bs) else None
+
 -- what is told of what has this name: `contact` a position, `input` a truth value, `measure` a field and its value
 abbrev pub named_of : List ℕ → List ℕ → List (List ℕ) → Option NamedData
 named_of verb name values =
@@ -91,18 +101,18 @@ named_of verb name values =
     else if bytes_eq verb (codes "measure") then measure_of name values
     else None
 
--- `scan` stands alone; the other verbs stand before a name, which is not empty, and what is told
+-- `scan` stands alone; the other verbs stand before a name and what is told
 abbrev pub event_of : List (List ℕ) → Option NamedData
 event_of [] = None
 event_of (verb ∷ []) = if bytes_eq verb (codes "scan") then Some scan else None
-event_of (verb ∷ name ∷ values) = if nat_lt 0 (length name) then named_of verb name values else None
+event_of (verb ∷ word ∷ values) = option_and_then (λ name. named_of verb name values) (name_of word)
 
 -- a moment, and what happens then
 abbrev pub words_line : List (List ℕ) → Option LineData
 words_line [] = None
 words_line (first ∷ words) = option_and_then (λ moment. option_map (at_moment moment) (event_of words)) (read_number first)
 
--- an empty line says nothing, and what is no text can't be read
+-- an empty line says nothing; a line that is not UTF-8 can't be read, since all words but a name are ASCII
 abbrev pub trace_line_of : List ℕ → Option LineData
 trace_line_of [] = Some blank
-trace_line_of (b ∷ bs) = if is_utf8 (b ∷ bs) then words_line (slice_split is_space (b ∷ bs)) else None
+trace_line_of (b ∷ bs) = words_line (slice_split is_space (b ∷ bs))

@@ -1,7 +1,7 @@
 // What a line of the trace says.
-ghost use Rattle.std.specs.Prelude.{◌≡◌, ◌∷◌, ◌≤◌, ◌^◌, ℕ, option_map, Some, neg_ℤ, pos};
+ghost use Rattle.std.specs.Prelude.{◌≡◌, ◌∷◌, ◌≤◌, ◌^◌, ◌<◌, ℕ, length, option_map, Some, neg_ℤ, pos};
 ghost use Rattle.std.specs.List.{slice_split};
-ghost use Rattle.bay_main.specs.Trace.{is_space, rest_words, only_word, read_number, positive_of, negative_of, read_integer, position_of, truth_of, field_of, measure_of, named_of, event_of, words_line, trace_line_of};
+ghost use Rattle.bay_main.specs.Trace.{is_space, rest_words, only_word, with_digit, read_number, positive_of, negative_of, read_integer, position_of, truth_of, field_of, name_of, measure_of, named_of, event_of, words_line, trace_line_of};
 ghost use Rattle.bay_main.specs.TraceView.{named_view, line_view};
 
 use bay_config::bay::MeterField;
@@ -40,17 +40,17 @@ pub enum TraceLine<'a> {
 }
 
 /// The first word of a text, and what follows the space after it.
-fn cut_word(text: &str) -> (&str, Option<&str>)
+fn cut_word(text: &[u8]) -> (&[u8], Option<&[u8]>)
     ensures { slice_split is_space text.now ≡ result.0.now ∷ rest_words (option_map (λ rest. rest.now) result.1) }
 {
-    match text.split_once(' ') {
-        Some((word, rest)) => (word, Some(rest)),
+    match text.iter().position(|octet| *octet == b' ') {
+        Some(at) => (&text[..at], Some(&text[at + 1..])),
         None => (text, None),
     }
 }
 
 /// The text, if it is one word.
-fn only_word(text: &str) -> Option<&str>
+fn only_word(text: &[u8]) -> Option<&[u8]>
     ensures { option_map (λ word. word.now) result ≡ only_word (slice_split is_space text.now) }
 {
     match cut_word(text) {
@@ -59,17 +59,28 @@ fn only_word(text: &str) -> Option<&str>
     }
 }
 
-/// The number that decimal digits write, if it is below 2^64. There may be leading zeros, and no sign.
-fn number(word: &str) -> Option<u64>
-    ensures { result ≡ read_number word.now }
+/// A number with one more decimal digit behind its own, if the octet is a digit and it stays below 2^64.
+fn with_digit(number: u64, octet: u8) -> Option<u64>
+    ensures { result ≡ with_digit number octet }
 {
-    if word.starts_with('+') {
+    if !octet.is_ascii_digit() {
         return None;
     }
-    match word.parse() {
-        Ok(number) => Some(number),
-        Err(_) => None,
+    number.checked_mul(10)?.checked_add(u64::from(octet - b'0'))
+}
+
+/// The number that decimal digits write, if it is below 2^64. There may be leading zeros, and no sign.
+fn number(word: &[u8]) -> Option<u64>
+    ensures { result ≡ read_number word.now }
+{
+    if word.is_empty() {
+        return None;
     }
+    let mut number = 0;
+    for octet in word {
+        number = with_digit(number, *octet)?;
+    }
+    Some(number)
 }
 
 /// The number as a value, if it is below 2^31.
@@ -95,56 +106,75 @@ fn negative(number: u64) -> Option<i32>
 }
 
 /// The value that decimal digits write, before which a `-` may stand.
-fn integer(word: &str) -> Option<i32>
+fn integer(word: &[u8]) -> Option<i32>
     ensures { result ≡ read_integer word.now }
 {
-    match word.strip_prefix('-') {
+    match word.strip_prefix(b"-") {
         Some(digits) => negative(number(digits)?),
         None => positive(number(word)?),
     }
 }
 
 /// The position that a digit stands for.
-fn position(word: &str) -> Option<Dbpos>
+fn position(word: &[u8]) -> Option<Dbpos>
     ensures { result ≡ position_of word.now }
 {
     match word {
-        "0" => Some(Dbpos::Intermediate),
-        "1" => Some(Dbpos::Off),
-        "2" => Some(Dbpos::On),
-        "3" => Some(Dbpos::Bad),
+        b"0" => Some(Dbpos::Intermediate),
+        b"1" => Some(Dbpos::Off),
+        b"2" => Some(Dbpos::On),
+        b"3" => Some(Dbpos::Bad),
         _ => None,
     }
 }
 
 /// The truth value that a digit stands for.
-fn truth(word: &str) -> Option<bool>
+fn truth(word: &[u8]) -> Option<bool>
     ensures { result ≡ truth_of word.now }
 {
     match word {
-        "0" => Some(false),
-        "1" => Some(true),
+        b"0" => Some(false),
+        b"1" => Some(true),
         _ => None,
     }
 }
 
 /// The field of a meter with this name.
-fn field(word: &str) -> Option<MeterField>
+fn field(word: &[u8]) -> Option<MeterField>
     ensures { result ≡ field_of word.now }
 {
-    match word {
-        "TOTW" => Some(MeterField::TotW),
-        "TOTVAR" => Some(MeterField::TotVAr),
-        "HZ" => Some(MeterField::Hz),
-        "AA" => Some(MeterField::PhaseA),
-        "AB" => Some(MeterField::PhaseB),
-        "AC" => Some(MeterField::PhaseC),
-        _ => None,
+    if word == b"TOTW".as_slice() {
+        Some(MeterField::TotW)
+    } else if word == b"TOTVAR".as_slice() {
+        Some(MeterField::TotVAr)
+    } else if word == b"HZ".as_slice() {
+        Some(MeterField::Hz)
+    } else if word == b"AA".as_slice() {
+        Some(MeterField::PhaseA)
+    } else if word == b"AB".as_slice() {
+        Some(MeterField::PhaseB)
+    } else if word == b"AC".as_slice() {
+        Some(MeterField::PhaseC)
+    } else {
+        None
+    }
+}
+
+/// A name, which is UTF-8 and not empty.
+fn name(word: &[u8]) -> Option<&str>
+    ensures { option_map (λ name. name.now) result ≡ name_of word.now }
+{
+    if word.is_empty() {
+        return None;
+    }
+    match std::str::from_utf8(word) {
+        Ok(name) => Some(name),
+        Err(_) => None,
     }
 }
 
 /// What is told of a meter: a field and its value.
-fn measure<'a>(id: &'a str, text: &str) -> Option<NamedEvent<'a>>
+fn measure<'a>(id: &'a str, text: &[u8]) -> Option<NamedEvent<'a>>
     ensures { option_map named_view result ≡ measure_of id.entry.now (slice_split is_space text.now) }
 {
     let (name, rest) = cut_word(text);
@@ -154,47 +184,43 @@ fn measure<'a>(id: &'a str, text: &str) -> Option<NamedEvent<'a>>
 }
 
 /// What is told of the switch, input or meter with this name, by the verb before it.
-fn named<'a>(verb: &str, name: &'a str, values: &str) -> Option<NamedEvent<'a>>
+fn named<'a>(verb: &[u8], name: &'a str, values: &[u8]) -> Option<NamedEvent<'a>>
     ensures { option_map named_view result ≡ named_of verb.now name.entry.now (slice_split is_space values.now) }
 {
-    match verb {
-        "contact" => {
-            let position = position(only_word(values)?)?;
-            Some(NamedEvent::Contact { id: name, position })
-        }
-        "input" => {
-            let value = truth(only_word(values)?)?;
-            Some(NamedEvent::Input { name, value })
-        }
-        "measure" => measure(name, values),
-        _ => None,
+    if verb == b"contact".as_slice() {
+        let position = position(only_word(values)?)?;
+        Some(NamedEvent::Contact { id: name, position })
+    } else if verb == b"input".as_slice() {
+        let value = truth(only_word(values)?)?;
+        Some(NamedEvent::Input { name, value })
+    } else if verb == b"measure".as_slice() {
+        measure(name, values)
+    } else {
+        None
     }
 }
 
-/// What a verb says that has a name behind it, which is not empty.
-fn verb_event<'a>(verb: &str, text: &'a str) -> Option<NamedEvent<'a>>
+/// What a verb says that has a name behind it.
+fn verb_event<'a>(verb: &[u8], text: &'a [u8]) -> Option<NamedEvent<'a>>
     ensures { option_map named_view result ≡ event_of (verb.now ∷ slice_split is_space text.entry.now) }
 {
-    let (name, values) = cut_word(text);
-    if name.is_empty() {
-        return None;
-    }
-    named(verb, name, values?)
+    let (word, values) = cut_word(text);
+    named(verb, name(word)?, values?)
 }
 
 /// What happens, by the words after the moment.
-fn event(text: &str) -> Option<NamedEvent<'_>>
+fn event(text: &[u8]) -> Option<NamedEvent<'_>>
     ensures { option_map named_view result ≡ event_of (slice_split is_space text.now) }
 {
     match cut_word(text) {
         (verb, Some(rest)) => verb_event(verb, rest),
-        ("scan", None) => Some(NamedEvent::Scan),
+        (verb, None) if verb == b"scan".as_slice() => Some(NamedEvent::Scan),
         (_, None) => None,
     }
 }
 
 /// What a text says that is not empty.
-fn moment_line(text: &str) -> Option<TraceLine<'_>>
+fn moment_line(text: &[u8]) -> Option<TraceLine<'_>>
     ensures { option_map line_view result ≡ words_line (slice_split is_space text.now) }
 {
     let (first, rest) = cut_word(text);
@@ -210,8 +236,5 @@ pub fn read_trace_line(line: &[u8]) -> Option<TraceLine<'_>>
     if line.is_empty() {
         return Some(TraceLine::Blank);
     }
-    match std::str::from_utf8(line) {
-        Ok(text) => moment_line(text),
-        Err(_) => None,
-    }
+    moment_line(line)
 }

@@ -66,6 +66,7 @@ pub enum Kind {
 
 impl Leaf {
     /// The type of this value.
+    #[inline(always)]
     pub fn kind(&self) -> Kind
         ensures { result ≡ kind_of self.now }
     {

@@ -73,6 +73,7 @@ impl Tree {
     }
 
     /// The value of a row; None for a structure.
+    #[inline(always)]
     pub fn get(&self, handle: Handle) -> Option<&Leaf>
         requires { IsHandle self.now handle }
         ensures value { option_copied result ≡ leaf_at self.now handle }
@@ -82,6 +83,7 @@ impl Tree {
     }
 
     /// Whether a row has a value of this kind.
+    #[inline(always)]
     fn has_kind(&self, handle: Handle, kind: Kind) -> bool
         requires { IsHandle self.now handle }
         ensures { IsTrue result ↔ (kind_at self.now handle ≡ Some kind) }
@@ -93,6 +95,7 @@ impl Tree {
     }
 
     /// Gives a row a new value of the same type. A refused call changes nothing.
+    #[inline(always)]
     pub fn set(&mut self, handle: Handle, leaf: Leaf) -> Result<(), TreeFault>
         requires { IsHandle self.old handle }
         ensures accepted { IsOk result ↔ (kind_at self.old handle ≡ Some (kind_of leaf)) }

@@ -8,7 +8,7 @@ use Rattle.bay_main.proofs.replay.replay_trace.Goals as goal
 pub returns-in_err-put : goal.returns-in_err-put
 returns-in_err-put g c =
     Prints-err g.W.Write.contents (HeadReport c.args.head.now c.args.device.now (lines_of c.args.trace.now)) c.args.writer.now c.put.new.writer c.from_residual.result c.from_residual.ensures.0
-    (Progress-load_cut _ _ _ _ _ _ c.new-outbox.ensures c.in_err-put.ensures.0)
+    (Progress-load_cut _ c.args.device.now (lines_of c.args.trace.now) _ _ _ c.new-outbox.ensures c.in_err-put.ensures.0)
     (sym c.in_err-put.ensures.1)
 
 pub returns-in_err-answer_line : goal.returns-in_err-answer_line

@@ -1,22 +1,33 @@
-use Rattle.std.proofs.Common.{◌≡◌, ◌≢◌, ℕ, Some, Bool, true, false, lit<, sym, ap, ◌∙◌}
-use Rattle.std.specs.Bool.{Decides}
-use Rattle.std.proofs.lemmas.Str.Parse.{parse_plain}
-use Rattle.std.proofs.lemmas.Str.Pattern.{starts_char}
-use Rattle.bay_main.proofs.WordLemmas.{digits, read_number-some, read_number-none}
+use Rattle.std.proofs.Common.{◌≡◌, ℕ, suc, ◌+◌, drop, get_or, sym, ap, ◌∙◌, arith}
+use Rattle.std.proofs.Math.Seq.{drop-cons}
+use Rattle.std.proofs.lemmas.List.{drop_all}
+use Rattle.bay_main.proofs.WordLemmas.{with_digit-some, number_from, number_from-step, number_from-none, number_from-end, read_number-some}
 use Rattle.bay_main.proofs.trace.number.Goals as goal
 
-no-plus : (b : Bool) (n : ℕ) → Decides b (n ≡ 43) → b ≡ false → n ≢ 43
-no-plus b n asked is e = let both : true ≡ false = sym (asked.1 e) ∙ is in absurd cc
+next : (i : ℕ) → i + 1 ≡ suc i
+next i = omega arith
 
-pub returns-in-Ok : goal.returns-in-Ok
-returns-in-Ok c =
-    let plain = no-plus _ _ (starts_char 43 c.args.word.now _ c.starts_with.ensures.cases (lit< tt) (lit< tt)) c.if-starts_with.false in
-    let read = parse_plain digits 64 c.args.word.now _ c.parse.ensures.value.0 plain in
-    let is = rw c.in-Ok.is at read in
-    ap (λ n. Some n) is.1 ∙ sym (read_number-some c.args.word.now is.0)
+pub returns-in_err-number : goal.returns-in_err-number
+returns-in_err-number c =
+    let word = c.args.word.now in
+    let i = c.loop-octet.octet-index in
+    let none = number_from-none c.loop-octet.number (get_or word i 0) (drop (suc i) word) (sym c.with_digit.ensures ∙ c.in_err-number.was) in
+    let here = ap (number_from c.loop-octet.number) (drop-cons word i 0 c.loop-octet-test.true) in
+    let first = read_number-some word (sym c.is_empty.ensures ∙ c.if-is_empty.false) in
+    c.from_residual.ensures ∙ sym (first ∙ sym c.loop-octet.invariant.read ∙ here ∙ none)
 
-pub returns-in-Err : goal.returns-in-Err
-returns-in-Err c =
-    let plain = no-plus _ _ (starts_char 43 c.args.word.now _ c.starts_with.ensures.cases (lit< tt) (lit< tt)) c.if-starts_with.false in
-    let read = parse_plain digits 64 c.args.word.now _ c.parse.ensures.value.0 plain in
-    sym (read_number-none c.args.word.now (rw c.in-Err.is at read))
+pub loop-octet-preserved : goal.loop-octet-preserved
+loop-octet-preserved c =
+    let word = c.args.word.now in
+    let i = c.loop-octet.octet-index in
+    let told = sym c.with_digit.ensures ∙ c.in_ok-number.was in
+    let step = number_from-step c.loop-octet.number (get_or word i 0) (drop (suc i) word) c.in_ok-number.number told in
+    let here = ap (number_from c.loop-octet.number) (drop-cons word i 0 c.loop-octet-test.true) in
+    record { within = (with_digit-some c.loop-octet.number (get_or word i 0) c.in_ok-number.number told).2; read = ap (λ k. number_from c.in_ok-number.number (drop k word)) (next i) ∙ sym step ∙ sym here ∙ c.loop-octet.invariant.read }
+
+pub returns : goal.returns
+returns c =
+    let word = c.args.word.now in
+    let end = ap (number_from c.loop-octet.number) (drop_all c.loop-octet.octet-index word c.loop-octet-test.false) in
+    let first = read_number-some word (sym c.is_empty.ensures ∙ c.if-is_empty.false) in
+    sym (first ∙ sym c.loop-octet.invariant.read ∙ end ∙ number_from-end c.loop-octet.number c.loop-octet.invariant.within)
