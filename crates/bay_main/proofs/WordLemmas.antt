@@ -1,9 +1,9 @@
 -- Lemmas on the words and numbers of a line.
-use Rattle.std.proofs.Common.{◌≡◌, ◌≢◌, if◌then◌else◌, take, drop, subst, ℕ, suc, ◌+◌, ◌-◌, ◌*◌, ◌<◌, ◌≤◌, ◌^◌, Bool, true, false, ◌&&◌, cond, eqb, nat_lt, List, Option, [], ◌∷◌, length, Some, None, refl, ap, ◌∙◌, arith}
+use Rattle.std.proofs.Common.{◌≡◌, ◌≢◌, if◌then◌else◌, take, drop, subst, ℕ, suc, ◌+◌, ◌-◌, ◌*◌, ◌<◌, ◌≤◌, ◌^◌, Bool, true, false, ◌&&◌, cond, eqb, nat_lt, List, Option, option_map, [], ◌∷◌, length, get_or, Some, None, refl, ap, ◌∙◌, arith}
 use Rattle.std.proofs.lemmas.Grind.{common_steps}
 use Rattle.std.proofs.lemmas.Bool.Decides.{nat_tests}
 use Rattle.std.proofs.lemmas.List.{take_all}
-use Rattle.std.proofs.lemmas.List.Splits.{slice_split-cons_no, slice_split_first}
+use Rattle.std.proofs.lemmas.List.Splits.{slice_split-cons_no, slice_split-cons_yes, slice_split_first}
 use Rattle.std.proofs.lemmas.Str.{digit_value_digit}
 use Rattle.std.specs.Char.{digit_value, is_ascii_digit}
 use Rattle.std.specs.List.{slice_split, onto_first, position, position_or_len}
@@ -11,7 +11,7 @@ use Rattle.std.specs.Str.{all_ascii_digits}
 use Rattle.std.specs.Str.Parse.{digits_value_after}
 use Rattle.std.specs.Str.{is_utf8, IsUtf8}
 use Rattle.std.proofs.lemmas.Str.{IsUtf8-from_is_utf8, is_utf8-from_IsUtf8}
-use Rattle.bay_main.specs.Trace.{is_space, only_word, with_digit, read_number, read_integer, name_of}
+use Rattle.bay_main.specs.Trace.{is_space, only_word, with_digit, read_number, first_number, read_integer, name_of}
 
 -- what is left of a list is all of it
 pub take_rest : (xs : List ℕ) (n : ℕ) → take (length xs - n) (drop n xs) ≡ drop n xs
@@ -113,6 +113,61 @@ some_first b (p ∷ ps) false = (b ∷ p, ps, refl)
 some_word : (bs : List ℕ) → HasFirst (slice_split is_space bs)
 some_word [] = ([], [], refl)
 some_word (b ∷ bs) = some_first b (slice_split is_space bs) (is_space b)
+
+-- the number that the first of several words is behind a number, and the words behind it
+abbrev pub number_behind : ℕ → List (List ℕ) → Option (ℕ × List (List ℕ))
+number_behind n [] = None
+number_behind n (word ∷ []) = None
+number_behind n (word ∷ next ∷ words) = option_map (λ m. (m, next ∷ words)) (number_from n word)
+
+behind-some : (n b m : ℕ) (ws : List (List ℕ)) → with_digit n b ≡ Some m → number_behind n (onto_first b ws) ≡ number_behind m ws
+behind-some n b m [] e = refl
+behind-some n b m (word ∷ []) e = refl
+behind-some n b m (word ∷ next ∷ ws) e = ap (option_map (λ k. (k, next ∷ ws))) (number_from-step n b word m e)
+
+behind-none : (n b : ℕ) (ws : List (List ℕ)) → with_digit n b ≡ None → number_behind n (onto_first b ws) ≡ None
+behind-none n b [] e = refl
+behind-none n b (word ∷ []) e = refl
+behind-none n b (word ∷ next ∷ ws) e = ap (option_map (λ k. (k, next ∷ ws))) (number_from-none n b word e)
+
+first-behind : (b : ℕ) (ws : List (List ℕ)) → first_number (onto_first b ws) ≡ number_behind 0 (onto_first b ws)
+first-behind b [] = refl
+first-behind b (word ∷ []) = refl
+first-behind b (word ∷ next ∷ ws) = ap (option_map (λ k. (k, next ∷ ws))) (read_number-some (b ∷ word) (grind (arith, nat_tests)))
+
+no_digit_first : (ws : List (List ℕ)) → first_number ([] ∷ ws) ≡ None
+no_digit_first [] = refl
+no_digit_first (word ∷ ws) = refl
+
+not_space : (b : ℕ) → is_ascii_digit b ≡ true → is_space b ≡ false
+not_space b h = grind (arith, nat_tests)
+
+-- the first octet of a text is the first digit of its number, or there is no number
+pub first_number-some : (b m : ℕ) (bs : List ℕ) → with_digit 0 b ≡ Some m → first_number (slice_split is_space (b ∷ bs)) ≡ number_behind m (slice_split is_space bs)
+first_number-some b m bs e =
+    let no = slice_split-cons_no is_space b bs (not_space b (with_digit-some 0 b m e).0) in
+    ap first_number no ∙ first-behind b (slice_split is_space bs) ∙ behind-some 0 b m (slice_split is_space bs) e
+
+pub first_number-none : (b : ℕ) (bs : List ℕ) → with_digit 0 b ≡ None → first_number (slice_split is_space (b ∷ bs)) ≡ None
+first_number-none b bs e = by_test (is_space b) refl
+  where
+    by_test : (v : Bool) → is_space b ≡ v → first_number (slice_split is_space (b ∷ bs)) ≡ None
+    by_test true s = ap first_number (slice_split-cons_yes is_space b bs s) ∙ no_digit_first (slice_split is_space bs)
+    by_test false s = ap first_number (slice_split-cons_no is_space b bs s) ∙ first-behind b (slice_split is_space bs) ∙ behind-none 0 b (slice_split is_space bs) e
+
+-- a later octet is a digit, the space, or neither
+pub behind-digit : (n b m : ℕ) (bs : List ℕ) → is_space b ≡ false → with_digit n b ≡ Some m → number_behind n (slice_split is_space (b ∷ bs)) ≡ number_behind m (slice_split is_space bs)
+behind-digit n b m bs s e = ap (number_behind n) (slice_split-cons_no is_space b bs s) ∙ behind-some n b m (slice_split is_space bs) e
+
+pub behind-other : (n : ℕ) (bs : List ℕ) → 0 < length bs → get_or bs 0 0 ≢ 32 → with_digit n (get_or bs 0 0) ≡ None → number_behind n (slice_split is_space bs) ≡ None
+behind-other n [] l other e = absurd (omega (arith, l))
+behind-other n (b ∷ bs) l other e = ap (number_behind n) (slice_split-cons_no is_space b bs (grind (arith, nat_tests))) ∙ behind-none n b (slice_split is_space bs) e
+
+pub behind-space : (n b : ℕ) (bs : List ℕ) → n < 2 ^ 64 → is_space b ≡ true → number_behind n (slice_split is_space (b ∷ bs)) ≡ Some (n, slice_split is_space bs)
+behind-space n b bs lt s = ap (number_behind n) (slice_split-cons_yes is_space b bs s) ∙ by_words (some_word bs)
+  where
+    by_words : HasFirst (slice_split is_space bs) → number_behind n ([] ∷ slice_split is_space bs) ≡ Some (n, slice_split is_space bs)
+    by_words h = rw h.2 (ap (option_map (λ k. (k, h.0 ∷ h.1))) (number_from-end n lt))
 
 -- a word with others behind it stands not alone
 pub only_word-more : (word bs : List ℕ) → only_word (word ∷ slice_split is_space bs) ≡ None

@@ -44,6 +44,12 @@ abbrev pub read_number : List ℕ → Option ℕ
 read_number digits =
     if all_ascii_digits digits && nat_lt 0 (length digits) && nat_lt (digits_value 10 digits) (2 ^ 64) then Some (digits_value 10 digits) else None
 
+-- the number that the first of several words is, and the words behind it
+abbrev pub first_number : List (List ℕ) → Option (ℕ × List (List ℕ))
+first_number [] = None
+first_number (word ∷ []) = None
+first_number (word ∷ next ∷ words) = option_map (λ n. (n, next ∷ words)) (read_number word)
+
 -- a number and its opposite, from -(2 ^ 31) to 2 ^ 31 - 1
 abbrev pub positive_of : ℕ → Option ℤ
 positive_of n = if nat_lt n (2 ^ 31) then Some (pos n) else None
@@ -109,8 +115,7 @@ event_of (verb ∷ word ∷ values) = option_and_then (λ name. named_of verb na
 
 -- a moment, and what happens then
 abbrev pub words_line : List (List ℕ) → Option LineData
-words_line [] = None
-words_line (first ∷ words) = option_and_then (λ moment. option_map (at_moment moment) (event_of words)) (read_number first)
+words_line words = option_and_then (λ cut. option_map (at_moment cut.0) (event_of cut.1)) (first_number words)
 
 -- an empty line says nothing; a line that is not UTF-8 can't be read, since all words but a name are ASCII
 abbrev pub trace_line_of : List ℕ → Option LineData

@@ -1,7 +1,7 @@
 // What a line of the trace says.
 ghost use Rattle.std.specs.Prelude.{◌≡◌, ◌∷◌, ◌≤◌, ◌^◌, ◌<◌, ℕ, length, option_map, Some, neg_ℤ, pos};
 ghost use Rattle.std.specs.List.{slice_split};
-ghost use Rattle.bay_main.specs.Trace.{is_space, rest_words, only_word, with_digit, read_number, positive_of, negative_of, read_integer, position_of, truth_of, field_of, name_of, measure_of, named_of, event_of, words_line, trace_line_of};
+ghost use Rattle.bay_main.specs.Trace.{is_space, rest_words, only_word, with_digit, read_number, first_number, positive_of, negative_of, read_integer, position_of, truth_of, field_of, name_of, measure_of, named_of, event_of, words_line, trace_line_of};
 ghost use Rattle.bay_main.specs.TraceView.{named_view, line_view};
 
 use bay_config::bay::MeterField;
@@ -219,13 +219,31 @@ fn event(text: &[u8]) -> Option<NamedEvent<'_>>
     }
 }
 
+/// The number before the first space, and what follows that space.
+fn cut_number(text: &[u8]) -> Option<(u64, &[u8])>
+    ensures { option_map (λ cut. (cut.0, slice_split is_space cut.1.now)) result ≡ first_number (slice_split is_space text.now) }
+{
+    let [first, others @ ..] = text else {
+        return None;
+    };
+    let mut number = with_digit(0, *first)?;
+    let mut rest = others;
+    while let [octet, others @ ..] = rest {
+        if *octet == b' ' {
+            return Some((number, others));
+        }
+        number = with_digit(number, *octet)?;
+        rest = others;
+    }
+    None
+}
+
 /// What a text says that is not empty.
 fn moment_line(text: &[u8]) -> Option<TraceLine<'_>>
     ensures { option_map line_view result ≡ words_line (slice_split is_space text.now) }
 {
-    let (first, rest) = cut_word(text);
-    let moment = number(first)?;
-    let event = event(rest?)?;
+    let (moment, rest) = cut_number(text)?;
+    let event = event(rest)?;
     Some(TraceLine::At { moment, event })
 }
 

@@ -1,6 +1,8 @@
 // What becomes of bay files: with one part replaced, or with many entries.
 use crate::words::first_word;
 use anyhow::{Context, Result};
+use bay_device::device::Device;
+use bay_device::fault::LoadFault;
 use bay_device::load::load;
 use std::alloc::{AllocError, Global};
 
@@ -40,12 +42,17 @@ fn bay_file(
     )
 }
 
-/// What becomes of a bay file, with a program of no instructions: `accepted`, or its fault.
-fn verdict(alloc: Global, bay: &str) -> Result<String, AllocError> {
-    match load(alloc, bay, "PROGRAM P\nEND_PROGRAM\n") {
+/// `accepted`, or the fault for which it was refused.
+fn loaded_text(alloc: Global, loaded: &Result<Device, LoadFault>) -> Result<String, AllocError> {
+    match loaded {
         Ok(_) => String::from_str(alloc, "accepted"),
         Err(fault) => format!(in alloc; "{fault}"),
     }
+}
+
+/// What becomes of a bay file, with a program of no instructions.
+fn verdict(alloc: Global, bay: &str) -> Result<String, AllocError> {
+    loaded_text(alloc, &load(alloc, bay, "PROGRAM P\nEND_PROGRAM\n"))
 }
 
 /// What becomes of a bay file with one part replaced, `OLD|NEW`.

@@ -14,6 +14,7 @@ use Rattle.il_verify.specs.Verdicts.{IsBudget, IsDepth, KeepsReadOnly}
 use Rattle.il_image.specs.declared.image.ImagePoint.{ImagePoint}
 use Rattle.il_image.specs.Values.{value_of}
 use Rattle.il_scan.specs.Scans.{Held, IsWithin, writable_count}
+use Rattle.il_scan.specs.Places.{read_places, write_places}
 use Rattle.il_scan.specs.Words.{AreTyped, StandFor, Words, value_at, values_of, words, words_of}
 
 -- Each value is of the kind at its place, and a value of its type.
@@ -90,9 +91,11 @@ pub record RunsTo (image : Image) (now : ℕ) (slots : List ℤ) (timers : List 
 abbrev pub held : Image → List ℤ → List Timer → Held
 held image slots timers = record { image = image; slots = values_of (slot_types image) slots; timers = timers }
 
--- what a machine keeps: there is an output for each point that may be written
-pub record IsKept (image : Image) (slots : List ℤ) (timers : List Timer) (outputs : List Value) : Type 0 where
+-- what a machine keeps: it knows the places of its points, and there is an output for each point that may be written
+pub record IsKept (image : Image) (slots : List ℤ) (timers : List Timer) (reads writes : List ℕ) (outputs : List Value) : Type 0 where
   pub held : IsHeld image slots timers
+  pub read : reads ≡ read_places 0 image.points
+  pub written : writes ≡ write_places 0 image.points
   pub room : length outputs ≡ writable_count image.points
 
 -- There is a word for each point, and it stands for a value of its type.

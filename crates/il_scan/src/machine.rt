@@ -1,15 +1,16 @@
 // The machine, which runs a verified image scan by scan.
-ghost use Rattle.std.specs.Prelude.{◌≡◌, ◌↔◌, IfErr, IfOk, IsTrue, length};
+ghost use Rattle.std.specs.Prelude.{◌≡◌, ◌↔◌, IfErr, IfOk, IsTrue};
 ghost use Rattle.std.specs.Borrow.{sem};
 ghost use Rattle.std.specs.Io.BufRead.{Rests};
-ghost use Rattle.il_scan.specs.Scans.{AreInputs, Scans, held_first, writable_count};
-ghost use Rattle.il_scan.specs.Standing.{IsHeld, held};
+ghost use Rattle.il_scan.specs.Scans.{AreInputs, Scans, held_first};
+ghost use Rattle.il_scan.specs.Standing.{IsKept, held};
 ghost use Rattle.il_scan.specs.contracts.machine.Machine.{the_row};
 ghost use Rattle.il_verify.specs.Verdicts.{IsSafe};
 
 use crate::run::run;
 use crate::slots::{
-    are_inputs, first_slots, first_timers, give_outputs, room_for_outputs, take_inputs,
+    Places, are_inputs, first_slots, first_timers, give_outputs, places_of, room_for_outputs,
+    take_inputs,
 };
 use il_image::image::Image;
 use il_image::timer::Timer;
@@ -24,6 +25,7 @@ pub struct Machine {
     verified: Verified,
     slots: Vec<i64>,
     timers: Vec<Timer>,
+    places: Places,
     outputs: Vec<Value>,
 }
 
@@ -35,7 +37,7 @@ impl Model for Machine {
 
     ghost view = { λ m. held m.verified m.slots.items m.timers.items };
 
-    ghost invariant = { λ m. IsKept m.verified m.slots.items m.timers.items m.outputs.items };
+    ghost invariant = { λ m. IsKept m.verified m.slots.items m.timers.items m.places.reads.items m.places.writes.items m.outputs.items };
 }
 
 /// What a scan gives.
@@ -47,26 +49,28 @@ pub struct Scan<'a> {
     pub outputs: &'a [Value],
 }
 
-/// The slots, the timers and the room for outputs of a machine.
+/// The slots and the timers of a machine, where its inputs go and its outputs come from, and the room for outputs.
 #[derive(Drop)]
 struct Memory {
     slots: Vec<i64>,
     timers: Vec<Timer>,
+    places: Places,
     outputs: Vec<Value>,
 }
 
 /// The memory of a machine at first.
 fn memory_of(alloc: Global, image: &Image) -> Result<Memory, AllocError>
     ensures first { IfOk result (λ m. held image.now m.slots.items m.timers.items ≡ held_first image.now) }
-    ensures held { IfOk result (λ m. IsHeld image.now m.slots.items m.timers.items) }
-    ensures room { IfOk result (λ m. length m.outputs.items ≡ writable_count image.now.points) }
+    ensures kept { IfOk result (λ m. IsKept image.now m.slots.items m.timers.items m.places.reads.items m.places.writes.items m.outputs.items) }
 {
     let slots = first_slots(alloc, image)?;
     let timers = first_timers(alloc, image.timers())?;
+    let places = places_of(alloc, image.points())?;
     let outputs = room_for_outputs(alloc, image.points())?;
     Ok(Memory {
         slots,
         timers,
+        places,
         outputs,
     })
 }
@@ -78,19 +82,18 @@ fn run_once(
     now: u64,
     slots: &mut [i64],
     timers: &mut [Timer],
+    places: &Places,
     outputs: &mut [Value],
 ) -> u32
     requires safe { IsSafe image.now }
     requires inputs { AreInputs image.now.points inputs.now }
-    requires held { IsHeld image.now slots.old timers.old }
-    requires room { length outputs.old ≡ writable_count image.now.points }
+    requires kept { IsKept image.now slots.old timers.old places.now.reads.items places.now.writes.items outputs.old }
     ensures scans { Scans (held image.now slots.old timers.old) inputs.now now (held image.now slots.new timers.new) result outputs.new }
-    ensures held { IsHeld image.now slots.new timers.new }
+    ensures kept { IsKept image.now slots.new timers.new places.now.reads.items places.now.writes.items outputs.new }
 {
-    let points = image.points();
-    take_inputs(points, inputs, slots);
+    take_inputs(places.reads.as_slice(), inputs, slots);
     let steps = run(image, now, slots, timers);
-    give_outputs(points, slots, outputs);
+    give_outputs(image.points(), places.writes.as_slice(), slots, outputs);
     steps
 }
 
@@ -106,12 +109,14 @@ impl Machine {
                 Memory {
                     slots,
                     timers,
+                    places,
                     outputs,
                 },
             ) => Ok(Machine {
                 verified,
                 slots,
                 timers,
+                places,
                 outputs,
             }),
             Err(_) => Err(verified),
@@ -145,6 +150,7 @@ impl Machine {
             now,
             self.slots.as_mut_slice(),
             self.timers.as_mut_slice(),
+            &self.places,
             self.outputs.as_mut_slice(),
         );
         Scan {

@@ -3,8 +3,9 @@ ghost use Rattle.std.specs.Prelude.{◌≡◌, ◌+◌, ◌<◌, ◌≤◌, ◌+
 ghost use Rattle.il_image.specs.Timers.{first_state};
 ghost use Rattle.il_image.specs.Values as values;
 ghost use Rattle.il_scan.specs.Scans as scans;
-ghost use Rattle.il_scan.specs.Scans.{first_input, with_inputs, writable_count};
-ghost use Rattle.il_scan.specs.Standing.{AreWords, given_by};
+ghost use Rattle.il_scan.specs.Scans.{writable_count};
+ghost use Rattle.il_scan.specs.Standing.{AreWords};
+ghost use Rattle.il_scan.specs.Places.{AllBelow, output_value, read_places, with_words, write_places};
 ghost use Rattle.il_scan.specs.Words.{slot_at, value_at, words_of};
 
 use bay_base::types::ElementaryType;
@@ -58,28 +59,48 @@ pub(crate) fn are_inputs(points: &[ImagePoint], inputs: &[Value]) -> bool
     left.len() == 0
 }
 
-/// Puts the first of the inputs into the slot of a point that may only be read, and gives the inputs that are left.
-fn take_input<'a>(point: &ImagePoint, inputs: &'a [Value], slot: &mut i64) -> &'a [Value]
-    ensures slot { slot.new ≡ (if point.now.writable then slot.old else first_input (words_of inputs.now) slot.old) }
-    ensures left { result.now ≡ (if point.now.writable then inputs.now else drop 1 inputs.now) }
-{
-    match inputs {
-        [input, later @ ..] if !point.writable => {
-            *slot = input.number();
-            later
-        }
-        _ => inputs,
-    }
+/// Where inputs go and outputs come from.
+#[derive(Drop)]
+pub(crate) struct Places {
+    /// The places of the points that may only be read.
+    pub reads: Vec<usize>,
+    /// The places of the points that may be written.
+    pub writes: Vec<usize>,
 }
 
-/// Puts the inputs into the slots of the points that may only be read, one for each in their order.
-pub(crate) fn take_inputs(points: &[ImagePoint], inputs: &[Value], slots: &mut [i64])
-    requires { length points.now ≤ length slots.old }
-    ensures { slots.new ≡ with_inputs points.now (words_of inputs.now) slots.old }
+/// The places of the points.
+pub(crate) fn places_of(alloc: Global, points: &[ImagePoint]) -> Result<Places, AllocError>
+    ensures reads { IfOk result (λ places. places.reads.items ≡ read_places 0 points.now) }
+    ensures writes { IfOk result (λ places. places.writes.items ≡ write_places 0 points.now) }
 {
-    let mut left = inputs;
+    let mut reads = Vec::new(alloc);
+    let mut writes = Vec::new(alloc);
     for place in 0..points.len() {
-        left = take_input(&points[place], left, &mut slots[place]);
+        if points[place].writable {
+            writes.push(place)?;
+        } else {
+            reads.push(place)?;
+        }
+    }
+    Ok(Places { reads, writes })
+}
+
+/// Puts an input into the slot at a place.
+fn take_input(slots: &mut [i64], place: usize, input: Value)
+    requires { place < length slots.old }
+    ensures { slots.new ≡ slice_set slots.old place (values.number_of input) }
+{
+    slots[place] = input.number();
+}
+
+/// Puts inputs into the slots at these places, one for each in their order.
+pub(crate) fn take_inputs(reads: &[usize], inputs: &[Value], slots: &mut [i64])
+    requires within { AllBelow (length slots.old) reads.now }
+    requires sized { length inputs.now ≡ length reads.now }
+    ensures { slots.new ≡ with_words reads.now (words_of inputs.now) slots.old }
+{
+    for k in 0..reads.len() {
+        take_input(slots, reads[k], inputs[k]);
     }
 }
 
@@ -94,37 +115,29 @@ fn value_of(elementary: ElementaryType, word: i64) -> Value
     }
 }
 
-/// Puts the value of a point that may be written, whose slot is at a place, into the next output, and gives the number of the output
-/// behind it.
-fn give_output(
-    point: &ImagePoint,
-    slots: &[i64],
-    place: usize,
-    outputs: &mut [Value],
-    next: usize,
-) -> usize
-    requires there { place < length slots.now }
-    requires word { IsSome (values.value_of point.now.elementary (slot_at slots.now place)) }
-    requires room { next + (if point.now.writable then 1 else 0) ≤ length outputs.old }
-    ensures outputs { outputs.new ≡ (if point.now.writable then slice_set outputs.old next (value_at point.now.elementary (slot_at slots.now place)) else outputs.old) }
-    ensures next { result ≡ next + (if point.now.writable then 1 else 0) }
+/// The value of the point at a place.
+fn output_value(points: &[ImagePoint], slots: &[i64], place: usize) -> Value
+    requires words { AreWords points.now slots.now }
+    requires within { place < length points.now }
+    ensures { result ≡ output_value points.now slots.now place }
 {
-    if point.writable {
-        outputs[next] = value_of(point.elementary, slots[place]);
-        return next + 1;
-    }
-    next
+    value_of(points[place].elementary, slots[place])
 }
 
-/// Puts the values of the points that may be written into the outputs, of which there is one for each.
-pub(crate) fn give_outputs(points: &[ImagePoint], slots: &[i64], outputs: &mut [Value])
+/// Puts the values of the points at these places into the outputs, of which there is one for each.
+pub(crate) fn give_outputs(
+    points: &[ImagePoint],
+    writes: &[usize],
+    slots: &[i64],
+    outputs: &mut [Value],
+)
     requires words { AreWords points.now slots.now }
-    requires room { length outputs.old ≡ writable_count points.now }
-    ensures { outputs.new ≡ given_by points.now slots.now }
+    requires within { AllBelow (length points.now) writes.now }
+    requires room { length outputs.old ≡ length writes.now }
+    ensures { outputs.new ≡ map (output_value points.now slots.now) writes.now }
 {
-    let mut next = 0;
-    for place in 0..points.len() {
-        next = give_output(&points[place], slots, place, outputs, next);
+    for k in 0..writes.len() {
+        outputs[k] = output_value(points, slots, writes[k]);
     }
 }
 

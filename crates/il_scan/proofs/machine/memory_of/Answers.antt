@@ -1,7 +1,10 @@
 use Rattle.std.proofs.Common.{ap, ◌∙◌, List}
 use Rattle.std.specs.Prelude.{map}
+use Rattle.il_image.specs.declared.image.ImagePoint.{ImagePoint}
 use Rattle.il_image.specs.declared.timer.TimerKind.{TimerKind}
 use Rattle.il_image.specs.Timers.{first_state}
+use Rattle.il_scan.specs.Places.{read_places, write_places}
+use Rattle.il_scan.specs.Scans.{writable_count}
 use Rattle.il_scan.proofs.ScanLemmas.{first_held, held_at_first}
 use Rattle.il_scan.proofs.machine.memory_of.Goals as goal
 
@@ -10,7 +13,12 @@ returns-clause-first c =
     first_held c.args.image.now c.timers.ensures.kept c.in_ok-slots.slots.items c.in_ok-timers.timers.items c.in_ok-slots.ensures
     (c.in_ok-timers.ensures ∙ ap (λ (kinds : List TimerKind). map first_state kinds) c.timers.ensures.value)
 
-pub returns-clause-held : goal.returns-clause-held
-returns-clause-held c =
-    held_at_first c.args.image.now c.timers.ensures.kept c.in_ok-slots.slots.items c.in_ok-timers.timers.items c.in_ok-slots.ensures
-    (c.in_ok-timers.ensures ∙ ap (λ (kinds : List TimerKind). map first_state kinds) c.timers.ensures.value)
+pub returns-clause-kept : goal.returns-clause-kept
+returns-clause-kept c = record {
+  held =
+      held_at_first c.args.image.now c.timers.ensures.kept c.in_ok-slots.slots.items c.in_ok-timers.timers.items c.in_ok-slots.ensures
+      (c.in_ok-timers.ensures ∙ ap (λ (kinds : List TimerKind). map first_state kinds) c.timers.ensures.value);
+  read = c.in_ok-places.ensures.reads ∙ ap (λ (ps : List ImagePoint). read_places 0 ps) c.points.ensures.value;
+  written = c.in_ok-places.ensures.writes ∙ ap (λ (ps : List ImagePoint). write_places 0 ps) c.points.ensures.value;
+  room = c.in_ok-outputs.ensures ∙ ap (λ (ps : List ImagePoint). writable_count ps) c.points-2.ensures.value;
+}

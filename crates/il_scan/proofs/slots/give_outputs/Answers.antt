@@ -1,7 +1,6 @@
-use Rattle.il_scan.proofs.SlotLemmas.{giving_at}
+use Rattle.std.proofs.Common.{length}
+use Rattle.il_scan.proofs.PlaceLemmas.{below_at}
 use Rattle.il_scan.proofs.slots.give_outputs.Goals as goal
 
-pub loop-place-preserved : goal.loop-place-preserved
-loop-place-preserved c =
-    giving_at c.args.points.now c.args.slots.now c.index-points-place.result c.loop-place.place c.loop-place.next c.loop-place.outputs c.loop-place-test.true c.index-points-place.is c.loop-place.invariant
-    c.give_output-next.new.outputs c.give_output-next.result c.give_output-next.ensures.outputs c.give_output-next.ensures.next
+pub output_value-requires-clause-within : goal.output_value-requires-clause-within
+output_value-requires-clause-within c = below_at (length c.args.points.now) c.args.writes.now c.loop-k.k c.requires.within c.loop-k-test.true

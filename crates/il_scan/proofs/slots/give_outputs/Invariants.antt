@@ -1,6 +1,9 @@
-use Rattle.std.proofs.Common.{drop}
-use Rattle.il_scan.proofs.SlotLemmas.{Giving}
+use Rattle.std.proofs.Common.{◌≡◌, ◌++◌, drop, length, map, take}
+use Rattle.il_scan.specs.Places.{output_value}
 use Rattle.il_scan.proofs.slots.give_outputs.Given as goal
 
-abbrev pub invariant-loop-place : goal.invariant-loop-place
-invariant-loop-place l = Giving l.points l.slots (drop l.place l.points) l.place l.next l.outputs
+abbrev pub invariant-loop-k : goal.invariant-loop-k
+invariant-loop-k l = record {
+  given : map (output_value l.points l.slots) l.writes ≡ take l.k l.outputs ++ map (output_value l.points l.slots) (drop l.k l.writes);
+  sized : length l.outputs ≡ length l.writes;
+}
