@@ -1,5 +1,5 @@
 -- From the keys of a map to the members that it stands for, and what a check says of its parts.
-use Rattle.std.proofs.Common.{◌≡◌, ℕ, Bool, true, false, not, ◌||◌, cond, List, [], ◌∷◌, map, Option, None, Some, is_some, Result, Ok, Err, string_bytes, Bor, Ordering, Less, Equal, Greater, nat_cmp, refl, ap, ◌∙◌}
+use Rattle.std.proofs.Common.{◌≡◌, ◌⊎◌, inl, inr, ℕ, Bool, true, false, not, ◌||◌, cond, List, [], ◌∷◌, map, Option, None, Some, is_some, Result, Ok, Err, string_bytes, Bor, Ordering, Less, Equal, Greater, nat_cmp, refl, ap, ◌∙◌}
 use Rattle.std.proofs.lemmas.Bool.{not-false}
 use Rattle.std.proofs.lemmas.Map.Lookups.{exact_bytes}
 use Rattle.std.specs.Cmp.Lexicographic.{slice_cmp}
@@ -11,6 +11,7 @@ use Rattle.toml.specs.Data.{Data, Members, no_members, member, get_member}
 use Rattle.toml.specs.View.{members_view}
 use Rattle.toml.proofs.Views.{Entry}
 use Rattle.bay_config.specs.declared.fault.BayFault.{BayFault}
+use Rattle.bay_config.specs.declared.fault.BayFault.TheVariants.{OutOfMemory}
 use Rattle.bay_base.specs.Exact.{judged}
 use Rattle.bay_config.specs.Key.{first_of, is_among, has_unknown, named}
 
@@ -42,6 +43,11 @@ judged-Ok (Some f) x y h = cc
 abbrev pub then : {S R : Type 0} → Result S BayFault → (S → Result R BayFault) → Result R BayFault
 then (Ok x) f = f x
 then (Err e) f = Err e
+
+-- what a step is refused for, or what it lacked, is what the whole is refused for
+pub then-refused : {S R : Type 0} (r : Result S BayFault) (e : BayFault) (g : S → Result R BayFault) → ((e ≡ OutOfMemory) ⊎ (r ≡ Err e)) → (e ≡ OutOfMemory) ⊎ (then r g ≡ Err e)
+then-refused r e g (inl m) = inl m
+then-refused r e g (inr h) = inr (ap (λ x. then x g) h)
 
 -- the first check, and then what the rest gives
 pub judged-step : {S R : Type 0} (check : Option BayFault) (rest : List (Option BayFault)) (x : S) (v : R) (g : S → Result R BayFault) → judged (first_of rest) v ≡ g x → judged (first_of (check ∷ rest)) v ≡ then (judged check x) g

@@ -4,6 +4,7 @@ pub mod LawLemmas
 pub mod ListLemmas
 pub mod NameLemmas
 pub mod NamedLemmas
+pub mod NameplateLemmas
 pub mod NodeLemmas
 pub mod NumberLemmas
 pub mod PathLemmas

@@ -16,7 +16,7 @@ use std::alloc::Global;
 use toml::{Table, Value};
 
 /// A section that lists names.
-#[derive(Clone, Copy, Debug, PartialEq, Eq)]
+#[derive(Clone, Copy)]
 pub enum NameSection {
     /// The inputs, each with its `name`.
     Input,

@@ -8,7 +8,7 @@ ghost use Rattle.bay_config.specs.declared.nameplate.Nameplate.{Nameplate};
 use crate::bay::{Control, SwitchKind};
 
 /// What a row begins with.
-#[derive(Clone, Copy, Debug, PartialEq, Eq)]
+#[derive(Clone, Copy)]
 pub enum InitialValue {
     /// No value: the row is a structure.
     Structure,

@@ -19,33 +19,33 @@ struct Example<'a> {
     scenario: &'a str,
 }
 
+/// What the replay of a scenario writes is put behind the octets; gives the exit status, if there is one.
+fn replayed(alloc: Global, scenario: &str, written: &mut Vec<u8>) -> Option<u8> {
+    let mut reader = WatchedReader::new(scenario.as_bytes());
+    let mut writer = WatchedWriter::new(written);
+    replay_run(alloc, &mut reader, &mut writer).ok()
+}
+
 /// Replays an example, and fails where it ends with another report or status.
 fn check(alloc: Global, example: &Example, status: u8, report: &str) -> Result<()> {
     let (name, scenario) = (example.name, example.scenario);
     let scenario = format!(in alloc; "{scenario}\n")?;
-    let report = format!(in alloc; "{report}\n")?;
-    let mut reader = WatchedReader::new(scenario.as_str().as_bytes());
-    let mut taken = Vec::new(alloc);
-    let mut writer = WatchedWriter::new(&mut taken);
-    let found = replay_run(alloc, &mut reader, &mut writer);
-    if found.ok() != Some(status) || taken.as_slice() != report.as_str().as_bytes() {
+    let mut written = Vec::new(alloc);
+    let found = replayed(alloc, scenario.as_str(), &mut written);
+    if found != Some(status) || written.as_slice().strip_suffix(b"\n") != Some(report.as_bytes()) {
         bail!("{name} ends with another report or status, as examples/check shows");
     }
     Ok(())
 }
 
-fn main(rt: HostRuntime) -> Result<()> {
-    let alloc = rt.alloc();
-    let mut text = String::new(alloc);
-    rt.reader().read_to_string(&mut text)?;
-    let text = text.as_str().strip_prefix("== ").context("no section")?;
-    let text = text.strip_suffix("\n").unwrap_or(text);
+/// Replays the examples of sections, and gives how many there were.
+fn check_all(alloc: Global, sections: &str) -> Result<u32> {
     let mut example = Example {
         name: "",
         scenario: "",
     };
     let mut count = 0u32;
-    for section in text.split("\n== ") {
+    for section in sections.split("\n== ") {
         let (head, body) = section.split_once("\n").context(section)?;
         if let Some(name) = head.strip_prefix("scenario ") {
             example.name = name;
@@ -56,6 +56,15 @@ fn main(rt: HostRuntime) -> Result<()> {
             count = count.saturating_add(1);
         }
     }
+    Ok(count)
+}
+
+fn main(rt: HostRuntime) -> Result<()> {
+    let alloc = rt.alloc();
+    let mut text = String::new(alloc);
+    rt.reader().read_to_string(&mut text)?;
+    let text = text.as_str().strip_prefix("== ").context("no section")?;
+    let count = check_all(alloc, text.strip_suffix("\n").unwrap_or(text))?;
     println!(&rt; "{count} examples agree")?;
     Ok(())
 }

@@ -1,9 +1,9 @@
 -- Reading an item: what is read is spelled so, and what is spelled is read back whatever follows.
-use Rattle.std.proofs.Common.{◌≡◌, ℕ, zero, suc, ◌^◌, ◌<◌, ℤ, FitsSigned, Bool, true, false, cond, ltb, List, [], ◌∷◌, ◌++◌, length, take, drop, Option, Some, None, refl, subst, sym, ap, ◌∙◌, arith}
+use Rattle.std.proofs.Common.{◌≡◌, ℕ, zero, suc, ◌-◌, ◌^◌, ◌<◌, ◌≤◌, ℤ, FitsSigned, Bool, true, false, cond, ltb, List, [], ◌∷◌, ◌++◌, length, take, drop, Option, Some, None, refl, subst, sym, ap, ◌∙◌, arith}
 use Rattle.std.specs.Prelude.{Result, Ok, Err}
 use Rattle.std.specs.Int.{w16, cast_signed, from_be_bytes}
 use Rattle.std.proofs.lemmas.Bool.{le-ltb, ltb-false}
-use Rattle.std.proofs.lemmas.List.{take-append-drop, length-take-le, get_or-take}
+use Rattle.std.proofs.lemmas.List.{take-append-drop, length-take-le, get_or-take, take_rest}
 use Rattle.il_image.specs.declared.fault.ImageFault.{ImageFault}
 use Rattle.il_image.specs.declared.fault.ImageFault.TheVariants.{Truncated}
 use Rattle.il_image.specs.declared.write.Size.{Size}
@@ -92,6 +92,13 @@ took_signed size octets z rest e =
     let p = chosen_ok (ltb (length octets) n) (cast_signed w (from_be_bytes w octets), drop n octets) (z, rest) e in
     let number : cast_signed w (from_be_bytes w (take n octets)) ≡ z = ap (cast_signed w) (from_front size octets) ∙ ap (λ q. q.0) p.1 in
     taken n (signed_octets size z) octets rest p.0 (ap (λ q. q.1) p.1) (λ fits len. sym (read_signed size (take n octets) len fits) ∙ ap (signed_octets size) number)
+
+-- a number that is whole, and what is left behind it
+pub whole_signed : (size : Size) (octets : List ℕ) (z : ℤ) → octet_count size ≤ length octets → z ≡ cast_signed (bits_of_size size) (from_be_bytes (bits_of_size size) octets)
+    → signed_at size octets ≡ Ok (z, take (length octets - octet_count size) (drop (octet_count size) octets))
+whole_signed size octets z enough is =
+    let n = octet_count size in
+    rw (le-ltb (length octets) n enough) (ap (λ (x : ℤ). Ok (x, drop n octets)) (sym is) ∙ ap (λ (xs : List ℕ). Ok (z, xs)) (sym (take_rest octets n)))
 
 -- ---- back again
 

@@ -8,7 +8,7 @@ use crate::value::Value;
 use bay_base::types::ElementaryType;
 
 /// The type of both operands of an arithmetic operation, and of its result.
-#[derive(Clone, Copy, Debug, PartialEq, Eq)]
+#[derive(Clone, Copy, PartialEq, Eq)]
 pub enum Width {
     /// 16 bits.
     Int,
@@ -19,7 +19,7 @@ pub enum Width {
 }
 
 /// An arithmetic operation. Results wrap at the width.
-#[derive(Clone, Copy, Debug, PartialEq, Eq)]
+#[derive(Clone, Copy, PartialEq, Eq)]
 pub enum Operation {
     Add,
     Sub,
@@ -31,7 +31,7 @@ pub enum Operation {
 }
 
 /// A comparison of two values of one type.
-#[derive(Clone, Copy, Debug, PartialEq, Eq)]
+#[derive(Clone, Copy, PartialEq, Eq)]
 pub enum Comparison {
     Gt,
     Ge,

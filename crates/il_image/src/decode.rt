@@ -247,17 +247,17 @@ fn check_code(version: Version, code: &[u8]) -> Result<(), ImageFault>
 
 // The octets of the code, which are all that is left.
 #[tactic(auto, unfolding(crate::specs::Decoding::code_at))]
-fn code_at(version: Version, octets: &[u8]) -> Result<&[u8], ImageFault>
-    ensures { Gives (λ r. r.now) result (code_at version octets.now) }
+fn code_at(alloc: Global, version: Version, octets: &[u8]) -> Result<Listing<u8>, ImageFault>
+    ensures { GivesButMemory ImageFault.OutOfMemory (λ c. c) result (code_at version octets.now) }
 {
     let (count, code) = number_at(octets)?;
     let count = usize::from(count);
     let (front, _) = code.split_at(count.min(code.len()));
-    match check_code(version, front) {
-        Ok(()) if code.len() == count => Ok(code),
-        Ok(()) => Err(ImageFault::Truncated),
-        Err(fault) => Err(fault),
+    check_code(version, front)?;
+    if code.len() == count {
+        return Ok(Listing::new(Vec::from_slice(alloc, code)?));
     }
+    Err(ImageFault::Truncated)
 }
 
 /// The image that octets spell, in version 1 or 2 of the format, or their first fault from the left. The memory that is
@@ -271,7 +271,6 @@ pub fn decode(alloc: Global, octets: &[u8]) -> Result<Image, ImageFault>
     let (points, rest) = points_at(alloc, version, rest)?;
     let (variables, rest) = variables_at(alloc, version, rest)?;
     let (timers, rest) = timers_at(alloc, version, rest)?;
-    let code = code_at(version, rest)?;
-    let code = Listing::new(Vec::from_slice(alloc, code)?);
+    let code = code_at(alloc, version, rest)?;
     Ok(Image::new(points, variables, timers, code))
 }

@@ -11,7 +11,7 @@ use std::alloc::AllocError;
 
 /// An instruction of the stack machine. Slots and timers are numbered from 0. A distance counts octets forward from the next
 /// instruction.
-#[derive(Clone, Copy, Debug, PartialEq, Eq)]
+#[derive(Clone, Copy, PartialEq, Eq)]
 pub enum Instr {
     /// Ends the run.
     Halt,

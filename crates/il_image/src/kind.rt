@@ -7,7 +7,7 @@ use bay_base::types::ElementaryType;
 
 /// What is known of a value on the operand stack. That a number is not zero says more than its type, and a type more than
 /// nothing.
-#[derive(Clone, Copy, Debug, PartialEq, Eq)]
+#[derive(Clone, Copy, PartialEq, Eq)]
 pub enum Kind {
     /// Some value.
     Any,

@@ -6,14 +6,14 @@ use crate::arithmetic::{Comparison, Operation, Width};
 use bay_base::types::ElementaryType;
 
 /// A version of the format. Version 2 has LINT and TOF beside all that version 1 has.
-#[derive(Clone, Copy, Debug, PartialEq, Eq)]
+#[derive(Clone, Copy, PartialEq, Eq)]
 pub enum Version {
     One,
     Two,
 }
 
 /// A connective of two BOOLs.
-#[derive(Clone, Copy, Debug, PartialEq, Eq)]
+#[derive(Clone, Copy, PartialEq, Eq)]
 pub enum Connective {
     And,
     Or,
@@ -21,7 +21,7 @@ pub enum Connective {
 }
 
 /// What an instruction does with a slot.
-#[derive(Clone, Copy, Debug, PartialEq, Eq)]
+#[derive(Clone, Copy, PartialEq, Eq)]
 pub enum SlotUse {
     /// Puts the slot's value on the stack.
     Load,
@@ -34,14 +34,14 @@ pub enum SlotUse {
 }
 
 /// A conversion of an integer type to the next wider one.
-#[derive(Clone, Copy, Debug, PartialEq, Eq)]
+#[derive(Clone, Copy, PartialEq, Eq)]
 pub enum Widening {
     IntToDint,
     DintToLint,
 }
 
 /// When a jump is taken.
-#[derive(Clone, Copy, Debug, PartialEq, Eq)]
+#[derive(Clone, Copy, PartialEq, Eq)]
 pub enum When {
     Always,
     /// Where the top is TRUE.
@@ -51,7 +51,7 @@ pub enum When {
 }
 
 /// What an instruction does with a timer.
-#[derive(Clone, Copy, Debug, PartialEq, Eq)]
+#[derive(Clone, Copy, PartialEq, Eq)]
 pub enum TimerUse {
     /// Takes the top as IN.
     SetInput,

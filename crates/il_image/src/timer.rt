@@ -3,7 +3,7 @@ ghost use Rattle.std.specs.Prelude.{◌≡◌};
 ghost use Rattle.il_image.specs.Timers.{called, elapsed_of, first_state, output_of, phase_after};
 
 /// A kind of timer.
-#[derive(Clone, Copy, Debug, PartialEq, Eq)]
+#[derive(Clone, Copy, PartialEq, Eq)]
 pub enum TimerKind {
     /// TON: Q follows a TRUE of IN after the time PT.
     OnDelay,
@@ -12,7 +12,7 @@ pub enum TimerKind {
 }
 
 /// Where a timer stands in its delay.
-#[derive(Clone, Copy, Debug, PartialEq, Eq)]
+#[derive(Clone, Copy)]
 pub enum Phase {
     /// No delay runs, and the timer has nothing to delay: IN of a TON is FALSE, or IN of a TOF was never TRUE.
     Idle,
@@ -23,7 +23,7 @@ pub enum Phase {
 }
 
 /// A timer: what its next call finds, and what its last call gave.
-#[derive(Clone, Copy, Debug, PartialEq, Eq)]
+#[derive(Clone, Copy)]
 pub struct Timer {
     pub kind: TimerKind,
     /// IN.

@@ -1,15 +1,18 @@
 -- The instruction at a place, by the parts in which it is read.
-use Rattle.std.proofs.Common.{◌≡◌, ℕ, suc, ◌+◌, ◌-◌, ◌<◌, ◌≤◌, List, ◌∷◌, ◌++◌, length, drop, get_or, refl, sym, ap, ◌∙◌, arith, Option, Some, None}
+use Rattle.std.proofs.Common.{◌≡◌, ℕ, suc, false, ltb, ◌+◌, ◌-◌, ◌<◌, ◌≤◌, List, [], ◌∷◌, ◌++◌, length, drop, get_or, refl, sym, ap, ◌∙◌, arith, ℤ, Option, Some, None}
 use Rattle.std.specs.Prelude.{IsOk, IsSome, Result, Ok, Err}
+use Rattle.std.specs.Int.{w16, cast_signed, from_be_bytes}
+use Rattle.std.proofs.lemmas.Bool.{le-ltb}
 use Rattle.std.proofs.lemmas.List.{length-drop}
 use Rattle.std.proofs.Math.Seq.{drop-drop}
+use Rattle.bay_base.specs.declared.types.ElementaryType.{ElementaryType}
 use Rattle.il_image.specs.declared.fault.ImageFault.{ImageFault}
 use Rattle.il_image.specs.declared.instr.Instr.{Instr}
 use Rattle.il_image.specs.declared.opcode.Opcode.{Opcode}
 use Rattle.il_image.specs.declared.opcode.Version.TheVariants.{Two}
-use Rattle.il_image.specs.Octets.{AreOctets}
+use Rattle.il_image.specs.Octets.{AreOctets, bits_of_size, octet_count, size_of}
 use Rattle.il_image.specs.Opcodes.{octet_of, opcode_of}
-use Rattle.il_image.specs.Reading.{instr_at, instr_from, operand_from}
+use Rattle.il_image.specs.Reading.{instr_at, instr_from, operand_from, signed_at, with_number}
 use Rattle.il_image.specs.Spelling.{opcode_of_instr, operand_of}
 use Rattle.il_image.proofs.InstrLemmas.{back_instr, opcode_back}
 use Rattle.il_image.proofs.PlaceLemmas.{stands}
@@ -24,6 +27,41 @@ there (Some x) h = (x, refl)
 is_ok_of : {A : Type 0} (r : Result A ImageFault) (x : A) → r ≡ Ok x → IsOk r
 is_ok_of (Ok y) x e = refl
 is_ok_of (Err f) x e = absurd cc
+
+-- ---- numbers that are whole
+
+whole : (n at : ℕ) (code : List ℕ) → at + n ≤ length code → ltb (length (drop at code)) n ≡ false
+whole n at code h = le-ltb (length (drop at code)) n (let d : length (drop at code) ≡ length code - at = length-drop at code in omega arith)
+
+-- an operand that is a number of two octets
+pub record Numbered (make : ℕ → Instr) (code : List ℕ) (at n : ℕ) : Type 0 where
+  pub value : with_number make (drop at code) ≡ Ok (make n, drop (at + 2) code)
+  pub within : at + 2 ≤ length code
+
+enough : (make : ℕ → Instr) (octets : List ℕ) → IsOk (with_number make octets) → 2 ≤ length octets
+enough make [] h = absurd cc
+enough make (x ∷ []) h = absurd cc
+enough make (x ∷ y ∷ octets) h = omega arith
+
+pub numbered : (make : ℕ → Instr) (code : List ℕ) (at n : ℕ) → at ≤ length code → IsOk (with_number make (drop at code)) → n ≡ from_be_bytes w16 (drop at code) → Numbered make code at n
+numbered make code at n below h is =
+    let two = enough make (drop at code) h in
+    let d : length (drop at code) ≡ length code - at = length-drop at code in
+    let fits : at + 2 ≤ length code = omega arith in
+    record {
+      value = rw (whole 2 at code fits) (ap (λ (xs : List ℕ). Ok (make (from_be_bytes w16 (drop at code)), xs)) (drop-drop 2 at code) ∙ ap (λ (m : ℕ). Ok (make m, drop (at + 2) code)) (sym is));
+      within = fits;
+    }
+
+pub signed_there : (t : ElementaryType) (code : List ℕ) (at : ℕ) (z : ℤ) → at + octet_count (size_of t) ≤ length code → z ≡ cast_signed (bits_of_size (size_of t)) (from_be_bytes (bits_of_size (size_of t)) (drop at code))
+    → signed_at (size_of t) (drop at code) ≡ Ok (z, drop (at + octet_count (size_of t)) code)
+signed_there t code at z h is =
+    let n = octet_count (size_of t) in
+    let w = bits_of_size (size_of t) in
+    rw (whole n at code h)
+    (ap (λ (xs : List ℕ). Ok (cast_signed w (from_be_bytes w (drop at code)), xs)) (drop-drop n at code) ∙ ap (λ (x : ℤ). Ok (x, drop (at + n) code)) (sym is))
+
+-- ---- the instruction
 
 operand_is : (o : Opcode) (rest : List ℕ) → instr_from Two (octet_of o ∷ rest) ≡ operand_from Two o rest
 unfolding instr_from

@@ -1,6 +1,7 @@
 -- Inputs, outputs and first values, told by words and by the values that they stand for.
-use Rattle.std.proofs.Common.{◌≡◌, ℕ, zero, suc, ◌≤◌, ℤ, pos, Bool, true, false, not, cond, List, [], ◌∷◌, ◌++◌, length, map, drop, refl, sym, ap, subst, ◌∙◌, arith, Option, Some, None, ◌&&◌}
-use Rattle.std.specs.Prelude.{IsSome, slice_get}
+use Rattle.std.proofs.Common.{◌≡◌, ℕ, zero, suc, ◌+◌, ◌<◌, ◌≤◌, ℤ, pos, Bool, true, false, not, cond, List, [], ◌∷◌, ◌++◌, length, get_or, map, take, drop, refl, sym, ap, subst, ◌∙◌, arith, Option, Some, None, ◌&&◌}
+use Rattle.std.specs.Prelude.{IsSome, slice_get, slice_set, slice_index_or}
+use Rattle.std.proofs.lemmas.List.{take-append-drop}
 use Rattle.bay_base.specs.declared.types.ElementaryType.{ElementaryType}
 use Rattle.bay_base.specs.declared.types.ElementaryType.TheVariants as elementary
 use Rattle.il_image.specs.declared.image.ImagePoint.{ImagePoint}
@@ -14,13 +15,20 @@ use Rattle.il_image.specs.Tables.{slot_types}
 use Rattle.il_verify.specs.Judging.{is_read_only}
 use Rattle.il_verify.specs.Slots.{point_slot, slots_of, variable_slot}
 use Rattle.il_verify.proofs.EffectLemmas.{some_same}
+use Rattle.il_image.specs.declared.value.Value.TheVariants.{Truth}
 use Rattle.il_image.proofs.KindLemmas.{same_is, same_self}
+use Rattle.il_image.proofs.MapLemmas.{mapped_turn}
 use Rattle.bay_base.specs.Types.{same_type}
 use Rattle.std.proofs.lemmas.Bool.{and_parts}
 use Rattle.std.specs.Prelude.{is_some}
 use Rattle.il_scan.specs.Scans.{AreInputs, are_inputs, begins_with, first_input, first_slots, first_value, is_of, outputs_of, read_only, type_of_point, with_inputs}
 use Rattle.il_scan.specs.Standing.{AreWords, IsHeld, IsTimer, given_by}
 use Rattle.il_scan.specs.Words.{AreTyped, StandFor, value_at, values_of, words_of}
+
+-- ---- first words, variable by variable
+
+pub number_turn : (variables : List Value) (i : ℕ) (y : ℤ) (first done new : List ℤ) → done ≡ first ++ words_of (take i variables) → i < length variables → new ≡ done ++ y ∷ [] → y ≡ number_of (get_or variables i (Truth false)) → new ≡ first ++ words_of (take (i + 1) variables)
+number_turn variables i y first done new so_far within more is = mapped_turn number_of variables i (Truth false) y first done new so_far within is more
 
 -- ---- words and values of slots
 

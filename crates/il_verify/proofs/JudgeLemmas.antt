@@ -220,6 +220,23 @@ pub room_fault : (slots : List UsedSlot) (timers : ℕ) (i : Instr) (kinds gives
     → fault_of slots timers i kinds ≡ Some StackFull
 room_fault slots timers i kinds gives e writes many = allowed_behind slots timers i kinds gives (Some StackFull) e (rw (writes, lt-ltb 32 (length gives) many) refl)
 
+-- ---- the first faults
+
+pub missing_fault : (slots : List UsedSlot) (timers : ℕ) (i : Instr) (kinds : List Kind) (f : VerifyFault) → missing (length slots) timers i ≡ Some f → fault_of slots timers i kinds ≡ Some f
+unfolding fault_of
+missing_fault slots timers i kinds f e = rw e refl
+
+pub empty_fault : (slots : List UsedSlot) (timers : ℕ) (i : Instr) (kinds : List Kind) → missing (length slots) timers i ≡ None → length kinds < operands i → fault_of slots timers i kinds ≡ Some StackEmpty
+unfolding fault_of
+empty_fault slots timers i kinds e less = rw (e, lt-ltb (length kinds) (operands i) less) refl
+
+pub misfit_fault : (slots : List UsedSlot) (timers : ℕ) (i : Instr) (kinds : List Kind) (f : VerifyFault) → missing (length slots) timers i ≡ None → operands i ≤ length kinds → misfit slots timers i kinds ≡ Some f
+    → fault_of slots timers i kinds ≡ Some f
+unfolding fault_of
+misfit_fault slots timers i kinds f e many is =
+    behind_none (missing (length slots) timers i) _ (Some f) e
+    (behind_none (where_so (nat_lt (length kinds) (operands i)) StackEmpty) _ (Some f) (not_where _ StackEmpty (le-ltb (length kinds) (operands i) many)) (rw is refl))
+
 -- ---- what having no fault says
 
 pub record IsFine (slots : List UsedSlot) (timers : ℕ) (i : Instr) (kinds : List Kind) : Type 0 where

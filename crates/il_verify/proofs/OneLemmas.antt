@@ -1,6 +1,6 @@
 -- An image has one first fault.
 use Rattle.std.proofs.Common.{◌≡◌, ℕ, ◌<◌, List, [], ◌∷◌, length, true, refl, sym, ap, subst, ◌∙◌, arith, Option, Some, None, ◌⊎◌, inl, inr}
-use Rattle.std.specs.Prelude.{zero, suc, IsTrue}
+use Rattle.std.specs.Prelude.{zero, suc}
 use Rattle.std.proofs.lemmas.Bool.{cases_lt}
 use Rattle.bay_base.specs.declared.types.ElementaryType.{ElementaryType}
 use Rattle.bay_config.specs.declared.bay.Point.{Point}
@@ -21,7 +21,7 @@ use Rattle.il_verify.specs.declared.fault.VerifyFault.{VerifyFault}
 use Rattle.il_verify.specs.declared.fault.VerifyFault.TheVariants.{StackEmpty, StackFull, WrongKind, ZeroDivisor, NoSlot, NoTimer, BadTarget, Unreachable, DepthClash, NoHalt, BadBinding, OutOfMemory}
 use Rattle.il_verify.specs.Judging.{fault_of}
 use Rattle.il_verify.specs.Slots.{slots_of}
-use Rattle.il_verify.specs.Refusals.{after, Arrives, Clashes, Comes, ComesFrom, FailsAt, GoesPast, HasOwn, IsFaultAt, IsFront, IsMerge, IsRefusal, JumpsBadly, JumpsTo, Passes, own_fault}
+use Rattle.il_verify.specs.Refusals.{after, Arrives, Clashes, Comes, FailsAt, GoesPast, HasOwn, IsFaultAt, IsFront, IsMerge, IsRefusal, JumpsBadly, JumpsTo, Passes, own_fault}
 use Rattle.il_verify.proofs.EffectLemmas.{some_same}
 
 -- ---- kinds

@@ -8,7 +8,7 @@ use il_image::value::Value;
 use std::alloc::{AllocError, Global};
 
 /// A slot: its type, and whether the code may write it.
-#[derive(Clone, Copy, Debug, PartialEq, Eq)]
+#[derive(Clone, Copy)]
 pub(crate) struct Slot {
     pub elementary: ElementaryType,
     pub writable: bool,

@@ -34,6 +34,15 @@ fn encode_often(alloc: Global, image: &Image, rounds: u32) -> Result<u64> {
     Ok(total)
 }
 
+// What comes of a job.
+fn total_of(alloc: Global, job: &str, octets: &[u8], rounds: u32) -> Result<u64> {
+    match job {
+        "decode" => decode_often(alloc, octets, rounds),
+        "encode" => encode_often(alloc, &decode(alloc, octets)?, rounds),
+        _ => bail!("{USAGE}"),
+    }
+}
+
 fn run(rt: &(impl Input + AllocGlobal + Print), words: &[&str]) -> Result<()> {
     let (job, rounds) = match words {
         [_, job, rounds] => (*job, rounds.parse::<u32>().context(USAGE)?),
@@ -41,11 +50,7 @@ fn run(rt: &(impl Input + AllocGlobal + Print), words: &[&str]) -> Result<()> {
     };
     let mut octets = Vec::new(rt.alloc());
     rt.reader().read_to_end(&mut octets)?;
-    let total = match job {
-        "decode" => decode_often(rt.alloc(), octets.as_slice(), rounds)?,
-        "encode" => encode_often(rt.alloc(), &decode(rt.alloc(), octets.as_slice())?, rounds)?,
-        _ => bail!("{USAGE}"),
-    };
+    let total = total_of(rt.alloc(), job, octets.as_slice(), rounds)?;
     println!(rt; "octets {total}")?;
     Ok(())
 }

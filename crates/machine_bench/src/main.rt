@@ -7,11 +7,9 @@
 #![tactic(auto)]
 
 use anyhow::{Context, Result, bail};
-use bay_config::bay::Point;
 use il_image::decode::decode;
-use il_image::value::Value;
 use il_scan::machine::Machine;
-use il_verify::verify::verify;
+use il_verify::verify::{Verified, verify};
 use std::alloc::Global;
 use std::env;
 use std::io::Read;
@@ -29,41 +27,53 @@ fn decode_often(alloc: Global, octets: &[u8], rounds: u32) -> Result<u64> {
     Ok(total)
 }
 
+// The image that the octets spell, verified for a bay without points.
+fn verified(alloc: Global, octets: &[u8]) -> Result<Verified> {
+    match verify(alloc, decode(alloc, octets)?, &[]) {
+        Ok(verified) => Ok(verified),
+        Err(refused) => Err(refused.fault.into()),
+    }
+}
+
 // Reads and verifies the octets so many times, and gives the sum of the budgets.
 fn verify_often(alloc: Global, octets: &[u8], rounds: u32) -> Result<u64> {
-    let points: Vec<Point> = Vec::new(alloc);
     let mut total = 0_u64;
     for _ in 0..rounds {
-        let image = decode(alloc, octets)?;
-        match verify(alloc, image, points.as_slice()) {
-            Ok(verified) => total = total.wrapping_add(u64::from(verified.budget())),
-            Err(refused) => return Err(refused.fault.into()),
+        let verified = verified(alloc, octets)?;
+        total = total.wrapping_add(u64::from(verified.budget()));
+    }
+    Ok(total)
+}
+
+// Scans so many times, and gives the sum of the steps.
+fn scan_often(machine: &mut Machine, rounds: u32) -> Result<u64> {
+    let mut total = 0_u64;
+    for round in 0..rounds {
+        if !machine.fits(&[]) {
+            bail!("the image has points");
         }
+        let scan = machine.scan(&[], u64::from(round));
+        total = total.wrapping_add(u64::from(scan.steps));
     }
     Ok(total)
 }
 
 // Verifies the octets, and scans them so many times, and gives the sum of the steps.
-fn scan_often(alloc: Global, octets: &[u8], rounds: u32) -> Result<u64> {
-    let points: Vec<Point> = Vec::new(alloc);
-    let inputs: Vec<Value> = Vec::new(alloc);
-    let verified = match verify(alloc, decode(alloc, octets)?, points.as_slice()) {
-        Ok(verified) => verified,
-        Err(refused) => return Err(refused.fault.into()),
-    };
-    let mut machine = match Machine::new(alloc, verified) {
-        Ok(machine) => machine,
+fn verify_and_scan(alloc: Global, octets: &[u8], rounds: u32) -> Result<u64> {
+    match Machine::new(alloc, verified(alloc, octets)?) {
+        Ok(mut machine) => scan_often(&mut machine, rounds),
         Err(_) => bail!("out of memory"),
-    };
-    let mut total = 0_u64;
-    for round in 0..rounds {
-        if !machine.fits(inputs.as_slice()) {
-            bail!("the image has points");
-        }
-        let scan = machine.scan(inputs.as_slice(), u64::from(round));
-        total = total.wrapping_add(u64::from(scan.steps));
     }
-    Ok(total)
+}
+
+// What comes of a job.
+fn total_of(alloc: Global, job: &str, octets: &[u8], rounds: u32) -> Result<u64> {
+    match job {
+        "decode" => decode_often(alloc, octets, rounds),
+        "verify" => verify_often(alloc, octets, rounds),
+        "scan" => verify_and_scan(alloc, octets, rounds),
+        _ => bail!("{USAGE}"),
+    }
 }
 
 fn run(rt: &(impl Input + AllocGlobal + Print), words: &[&str]) -> Result<()> {
@@ -73,12 +83,7 @@ fn run(rt: &(impl Input + AllocGlobal + Print), words: &[&str]) -> Result<()> {
     };
     let mut octets = Vec::new(rt.alloc());
     rt.reader().read_to_end(&mut octets)?;
-    let total = match job {
-        "decode" => decode_often(rt.alloc(), octets.as_slice(), rounds)?,
-        "verify" => verify_often(rt.alloc(), octets.as_slice(), rounds)?,
-        "scan" => scan_often(rt.alloc(), octets.as_slice(), rounds)?,
-        _ => bail!("{USAGE}"),
-    };
+    let total = total_of(rt.alloc(), job, octets.as_slice(), rounds)?;
     println!(rt; "total {total}")?;
     Ok(())
 }

@@ -1,4 +1,5 @@
-use Rattle.std.proofs.Common.{◌≡◌, ◌<◌, ◌+◌, ◌∙◌, length, drop, ap, sym, inl, inr, Err, arith, rules}
+use Rattle.std.proofs.Common.{◌≡◌, ◌<◌, ◌+◌, ◌∙◌, length, drop, ap, sym, inl, inr, arith}
+use Rattle.std.proofs.lemmas.Result.{err_from_is_err_and}
 use Rattle.toml.specs.View.{table_view, items_view}
 use Rattle.bay_config.specs.Section.{tables_of}
 use Rattle.bay_config.specs.Switch.{switch_in}
@@ -11,13 +12,12 @@ pub returns-in_err-switch : goal.returns-in_err-switch
 returns-in_err-switch c =
     let vs = c.args.values.now in
     let h : c.loop-i.i < length vs = omega arith in
-    elim c.in_err-switch.ensures [
-      | inl m ↦ search rules
+    let p = err_from_is_err_and c.from_residual.result c.from_residual.ensures.1 in
+    rw (p.1, p.2) (elim c.in_err-switch.ensures [
+      | inl m ↦ inl m
       | inr read ↦
-          let e : read_all switch_check switch_in (tables_of (items_view vs)) ≡ Err c.in_err-switch.field-0.0 =
-          c.loop-i.invariant ∙ turn_refused switch_check switch_in vs c.loop-i.i c.index-values-i.result c.loop-i.switches.items (table_view c.in-Some.table.now) c.in_err-switch.field-0.0 h c.index-values-i.is c.in-Some.ensures read in
-          rw e (search rules)
-    ]
+          inr (c.loop-i.invariant ∙ turn_refused switch_check switch_in vs c.loop-i.i c.index-values-i.result c.loop-i.switches.items (table_view c.in-Some.table.now) c.in_err-switch.field-0.0 h c.index-values-i.is c.in-Some.ensures read)
+    ])
 
 pub loop-i-preserved : goal.loop-i-preserved
 loop-i-preserved c =

@@ -1,16 +1,19 @@
-use Rattle.std.proofs.Common.{◌≡◌, Err, rules, inl, inr}
-use Rattle.il_image.specs.Decoding.{counted_at, point_at}
-use Rattle.il_image.proofs.ItemLemmas.{going_err, going_turn}
+use Rattle.std.proofs.Common.{inl, inr}
+use Rattle.std.proofs.lemmas.Result.{err_from_is_err_and}
+use Rattle.il_image.specs.Decoding.{point_at}
+use Rattle.il_image.proofs.ItemLemmas.{going_err, going_turn, going_end}
 use Rattle.il_image.proofs.decode.points_at.Goals as goal
 
 pub returns-in_err-point : goal.returns-in_err-point
 returns-in_err-point c =
-    elim c.in_err-point.ensures [
-      | inl m ↦ search rules
-      | inr read ↦
-          let e : counted_at (point_at c.args.version) c.args.octets.now ≡ Err c.in_err-point.field-0.0 = going_err (point_at c.args.version) c.args.octets.now c.in_ok-count.count c.items.counter c.items.points.items c.items.rest.now c.in_err-point.field-0.0 c.items.invariant c.items-test.true read in
-          rw e (search rules)
-    ]
+    let p = err_from_is_err_and c.from_residual-in_err-point.result c.from_residual-in_err-point.ensures.1 in
+    rw (p.1, p.2) (elim c.in_err-point.ensures [
+      | inl m ↦ inl m
+      | inr read ↦ inr (going_err (point_at c.args.version) c.args.octets.now c.in_ok-count.count c.items.counter c.items.points.items c.items.rest.now c.in_err-point.field-0.0 c.items.invariant c.items-test.true read)
+    ])
 
 pub items-preserved : goal.items-preserved
 items-preserved c = going_turn (point_at c.args.version) c.args.octets.now c.in_ok-count.count c.items.counter c.items.points.items c.push.new.self.items c.items.rest.now c.in_ok-point.behind.now c.in_ok-point.point c.items.invariant c.items-test.true c.in_ok-point.ensures c.in_ok-push.ensures.items
+
+pub returns : goal.returns
+returns c = rw c.new.ensures (going_end (point_at c.args.version) c.args.octets.now c.in_ok-count.count c.items.counter c.items.points.items c.items.rest.now c.items.invariant c.items-test.false)

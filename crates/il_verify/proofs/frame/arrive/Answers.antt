@@ -1,4 +1,4 @@
-use Rattle.std.proofs.Common.{Option, Some, refl, subst, sym}
+use Rattle.std.proofs.Common.{Option, refl, subst, sym}
 use Rattle.std.specs.Prelude.{option_map}
 use Rattle.std.proofs.lemmas.Result.{on_ok_weaker}
 use Rattle.il_verify.specs.declared.frame.Frame.{Frame}
