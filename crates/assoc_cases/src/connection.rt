@@ -46,27 +46,52 @@ fn wrapped(assoc: &Assoc, pdu: &[u8]) -> Result<Vec<u8>> {
     Ok(assoc.wrap(pdu)?)
 }
 
-/// The TSDU that answers a TSDU, if one does.
-fn reply(
-    alloc: Global,
-    assoc: &mut Assoc,
-    tsdu: &[u8],
-    log: &mut Vec<u8>,
-) -> Result<Option<Vec<u8>>> {
+/// What a connection does of a TSDU or an end.
+#[derive(Drop)]
+enum Reply {
+    /// Nothing is sent.
+    Nothing,
+    /// A TSDU is sent.
+    Sent(Vec<u8>),
+    /// The connection is over.
+    Over,
+}
+
+/// The TSDU that answers a PDU of MMS.
+fn answered(alloc: Global, assoc: &Assoc, pdu: &[u8]) -> Result<Reply> {
+    let response = response_to(alloc, pdu)?;
+    Ok(Reply::Sent(wrapped(assoc, response.as_slice())?))
+}
+
+/// What is done of a TSDU.
+fn heard(alloc: Global, assoc: &mut Assoc, tsdu: &[u8], log: &mut Vec<u8>) -> Result<Reply> {
     match assoc.on_tsdu(tsdu) {
-        Ok(Heard::Answer(octets)) => Ok(Some(octets)),
-        Ok(Heard::Released(octets)) => Ok(Some(octets)),
-        Ok(Heard::Mms(pdu)) => {
-            let response = response_to(alloc, pdu)?;
-            Ok(Some(wrapped(assoc, response.as_slice())?))
-        }
+        Ok(Heard::Answer(octets)) | Ok(Heard::Released(octets)) => Ok(Reply::Sent(octets)),
+        Ok(Heard::Mms(pdu)) => answered(alloc, assoc, pdu),
         Ok(Heard::Aborted) => {
             log.push(b'A')?;
-            Ok(None)
+            Ok(Reply::Nothing)
         }
         Err(fault) => {
             log.extend_from_slice(&[b'F', fault.code().unwrap_or(0)])?;
-            Ok(None)
+            Ok(Reply::Nothing)
+        }
+    }
+}
+
+/// What is done of what octets have come to.
+fn answer_to(alloc: Global, assoc: &mut Assoc, got: Got<'_>, log: &mut Vec<u8>) -> Result<Reply> {
+    match got {
+        Got::More => Ok(Reply::Nothing),
+        Got::Answer(octets) => {
+            log.push(b'S')?;
+            log.extend_from_slice(octets)?;
+            Ok(Reply::Nothing)
+        }
+        Got::Tsdu(tsdu) => heard(alloc, assoc, tsdu, log),
+        Got::Ended => {
+            log.push(b'E')?;
+            Ok(Reply::Over)
         }
     }
 }
@@ -101,24 +126,12 @@ impl Connection {
     fn take(&mut self, piece: &[u8]) -> Result<Option<usize>>
         ensures { IfOk result (λ taken. IfSome taken (λ used. used ≤ length piece.now)) }
     {
-        let mut answer = None;
-        let used = match self.transport.feed(piece) {
+        let (used, reply) = match self.transport.feed(piece) {
             Ok(Fed { used, got }) => {
-                match got {
-                    Got::More => {}
-                    Got::Answer(octets) => {
-                        self.log.push(b'S')?;
-                        self.log.extend_from_slice(octets)?;
-                    }
-                    Got::Tsdu(tsdu) => {
-                        answer = reply(self.alloc, &mut self.assoc, tsdu, &mut self.log)?;
-                    }
-                    Got::Ended => {
-                        self.log.push(b'E')?;
-                        return Ok(None);
-                    }
-                }
-                used
+                (
+                    used,
+                    answer_to(self.alloc, &mut self.assoc, got, &mut self.log)?,
+                )
             }
             Err(fault) => {
                 self.log
@@ -126,10 +139,14 @@ impl Connection {
                 return Ok(None);
             }
         };
-        if let Some(tsdu) = answer {
-            self.send(tsdu.as_slice())?;
+        match reply {
+            Reply::Nothing => Ok(Some(used)),
+            Reply::Sent(tsdu) => {
+                self.send(tsdu.as_slice())?;
+                Ok(Some(used))
+            }
+            Reply::Over => Ok(None),
         }
-        Ok(Some(used))
     }
 
     /// Takes all octets, in pieces of at most so many.

@@ -21,48 +21,94 @@ fn first_word(line: &str) -> (&str, &str) {
     line.split_once(" ").unwrap_or((line, ""))
 }
 
-/// One line of a session.
-fn read_line(alloc: Global, session: &mut Session, word: &str, rest: &str) -> Result<()> {
+/// The octets that a line has: of a TSDU the frame of one data TPDU with it, of a fault its number.
+fn octets_of(alloc: Global, word: &str, rest: &str) -> Result<Vec<u8>> {
     match word {
-        "frame" => session.message(hex::decode(alloc, rest)?.as_slice()),
-        "tsdu" => {
-            let frame = data_frame(alloc, hex::decode(alloc, rest)?.as_slice())?;
-            session.message(frame.as_slice())
+        "frame" | "sends" | "replaced" => Ok(hex::decode(alloc, rest)?),
+        "tsdu" | "sends-tsdu" => data_frame(alloc, hex::decode(alloc, rest)?.as_slice()),
+        "fault" => {
+            let number = rest.parse::<u8>()?;
+            Ok(vec![in alloc; number]?)
         }
-        "sends" => session.comes_to(b'S', hex::decode(alloc, rest)?.as_slice()),
-        "sends-tsdu" => {
-            let frame = data_frame(alloc, hex::decode(alloc, rest)?.as_slice())?;
-            session.comes_to(b'S', frame.as_slice())
-        }
-        "fault" => session.comes_to(b'F', &[rest.parse::<u8>()?]),
-        "ends" => session.comes_to(b'E', &[]),
-        "aborts" => session.comes_to(b'A', &[]),
-        _ => bail!("{word}"),
+        _ => Ok(Vec::new(alloc)),
     }
+}
+
+/// What the lines before a line make of the next ones, how many sessions there were, and what is printed.
+#[derive(Drop)]
+struct Lines {
+    alloc: Global,
+    session: Session,
+    sessions: u32,
+    printed: String,
+}
+
+impl Lines {
+    /// `end`.
+    fn end(&mut self) -> Result<()> {
+        self.session.check().context("session")?;
+        self.sessions = self.sessions.saturating_add(1);
+        Ok(())
+    }
+
+    /// `replaced`.
+    fn replaced(&mut self, frame: &[u8]) -> Result<()> {
+        let counts = replaced(self.alloc, self.session.octets(), frame)?;
+        writeln!(self.printed, "{counts}")?;
+        Ok(())
+    }
+
+    /// One line, with the octets that it has.
+    fn line(&mut self, word: &str, octets: &[u8]) -> Result<()> {
+        match word {
+            "#" => Ok(()),
+            "session" => {
+                self.session.clear();
+                Ok(())
+            }
+            "frame" | "tsdu" => self.session.message(octets),
+            "sends" | "sends-tsdu" => self.session.comes_to(b'S', octets),
+            "fault" => self.session.comes_to(b'F', octets),
+            "ends" => self.session.comes_to(b'E', octets),
+            "aborts" => self.session.comes_to(b'A', octets),
+            "end" => self.end(),
+            "replaced" => self.replaced(octets),
+            _ => bail!("{word}"),
+        }
+    }
+
+    /// One line.
+    fn read(&mut self, line: &str) -> Result<()> {
+        let (word, rest) = first_word(line);
+        let octets = octets_of(self.alloc, word, rest)?;
+        self.line(word, octets.as_slice())
+    }
+}
+
+/// What is printed of the lines of a text.
+fn run(alloc: Global, text: &str) -> Result<String> {
+    let mut lines = Lines {
+        alloc,
+        session: Session::new(alloc),
+        sessions: 0,
+        printed: String::new(alloc),
+    };
+    for line in text.lines() {
+        lines.read(line).context(line)?;
+    }
+    let Lines {
+        sessions,
+        mut printed,
+        ..
+    } = lines;
+    writeln!(printed, "{sessions} sessions go as they should")?;
+    Ok(printed)
 }
 
 fn main(rt: HostRuntime) -> Result<()> {
     let mut text = String::new(rt.alloc());
     rt.reader().read_to_string(&mut text)?;
-    let mut session = Session::new(rt.alloc());
-    let mut sessions = 0u32;
-    for line in text.as_str().lines() {
-        let (word, rest) = first_word(line);
-        match word {
-            "#" => {}
-            "session" => session.clear(),
-            "end" => {
-                session.check().context("session")?;
-                sessions = sessions.saturating_add(1);
-            }
-            "replaced" => {
-                let frame = hex::decode(rt.alloc(), rest)?;
-                let counts = replaced(rt.alloc(), session.octets(), frame.as_slice())?;
-                println!(&rt; "{counts}")?;
-            }
-            _ => read_line(rt.alloc(), &mut session, word, rest).context(line)?,
-        }
-    }
-    println!(&rt; "{sessions} sessions go as they should")?;
+    let printed = run(rt.alloc(), text.as_str())?;
+    print!(&rt; "{printed}")?;
     Ok(())
 }

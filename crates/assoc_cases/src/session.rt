@@ -30,6 +30,13 @@ pub fn data_frame(alloc: Global, tsdu: &[u8]) -> Result<Vec<u8>> {
     Ok(frame)
 }
 
+/// Whether octets come to this, in pieces of at most so many.
+fn comes_to(alloc: Global, octets: &[u8], size: usize, wanted: &[u8]) -> Result<bool> {
+    let mut connection = Connection::new(alloc);
+    connection.feed(octets, size)?;
+    Ok(connection.log() == wanted)
+}
+
 impl Session {
     /// A session without messages.
     pub fn new(alloc: Global) -> Session {
@@ -85,14 +92,12 @@ impl Session {
     /// Each front of the session, in one piece and in single octets, comes to just what the messages come to that are complete
     /// in it.
     pub fn check(&self) -> Result<()> {
-        let octets = self.octets.as_slice();
-        for count in 0..octets.len() + 1 {
+        for count in 0..self.octets.len() + 1 {
+            let front = &self.octets[..count];
             let wanted = self.wanted(count)?;
-            let mut whole = Connection::new(self.alloc);
-            whole.feed(&octets[..count], count)?;
-            let mut single = Connection::new(self.alloc);
-            single.feed(&octets[..count], 1)?;
-            if whole.log() != wanted.as_slice() || single.log() != wanted.as_slice() {
+            if !comes_to(self.alloc, front, count, wanted.as_slice())?
+                || !comes_to(self.alloc, front, 1, wanted.as_slice())?
+            {
                 bail!("the first {count} octets");
             }
         }

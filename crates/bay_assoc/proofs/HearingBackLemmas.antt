@@ -7,6 +7,7 @@ use Rattle.bay_ber.specs.Options.{◌>>=◌}
 use Rattle.bay_ber.proofs.ReadLemmas.{IsBytes}
 use Rattle.bay_ber.proofs.ContentLemmas.{both}
 use Rattle.bay_ber.proofs.BackLemmas.{bind_some, bytes_behind, bytes_before, guard_false}
+use Rattle.bay_mms.specs.declared.response.Agreed.{Agreed}
 use Rattle.bay_mms.specs.Grammar.{initiate_in}
 use Rattle.bay_mms.proofs.InitiateLemmas.{initiate_back}
 use Rattle.bay_assoc.specs.declared.fault.AssocFault.{AssocFault}
@@ -20,7 +21,7 @@ use Rattle.bay_assoc.specs.Session.{Unit, long_size, size_at, counted_at, unit_a
 use Rattle.bay_assoc.specs.Presentation.{Carried, user_in, request_in}
 use Rattle.bay_assoc.specs.Acse.{associate_in, release_in}
 use Rattle.bay_assoc.specs.Texts.{disconnect_text, user_text, release_text}
-use Rattle.bay_assoc.specs.Hearing.{Hearing, answer, mms, released, aborted, is_id, accepted_of, acse_value, mms_value, agreed_of, answer_text, connected, finished, transferred, heard_idle, heard_open, hearing}
+use Rattle.bay_assoc.specs.Hearing.{Hearing, answer, mms, released, aborted, is_id, accepted_of, acse_value, mms_value, agreed_of, agreement, answer_text, connected, finished, transferred, heard_idle, heard_open, hearing}
 use Rattle.bay_assoc.specs.SpelledSession.{IsSize, SpellUnits, Framed, user_data, IsSpdu}
 use Rattle.bay_assoc.specs.SpelledValues.{IsUser, IsAssociate}
 use Rattle.bay_assoc.specs.SpelledHearing.{IsHeard}
@@ -342,16 +343,24 @@ pair_is h k p q e =
 heard_as : (old : Phase) (octets : List ℕ) (h k : Hearing) (p q : Phase) → (h ≡ k) × (p ≡ q) → IsHeard old octets h p → IsHeard old octets k q
 heard_as old octets h k p q same is = subst (λ (z : Phase). IsHeard old octets k z) same.1 (subst (λ (z : Hearing). IsHeard old octets z p) same.0 is)
 
+same_pair : (x y : Accepted × Agreed) → (let r : Result (Accepted × Agreed) AssocFault = Ok x in r) ≡ Ok y → x ≡ y
+same_pair x y e = cc
+
 connected_back : (octets user : List ℕ) (h : Hearing) (new : Phase) → IsSpdu octets (connect user) → IsBytes user → connected user ≡ Ok (h, new) → IsHeard Idle octets h new
-unfolding connected
+unfolding connected agreement
 connected_back octets user h new spdu b e =
     let request = then_is fault.BadPresentation (request_in user) _ (h, new) e in
-    let a = then_is fault.NoContext (accepted_of request.0.contexts) _ (h, new) request.2 in
-    let value = bind_ok (acse_value a.0 request.0.user) _ (h, new) a.2 in
-    let information = then_is fault.BadAcse (associate_in value.0) _ (h, new) value.2 in
-    let pdu = bind_ok (mms_value a.0 information.0) _ (h, new) information.2 in
-    let proposal = then_is fault.BadAcse (initiate_in pdu.0) _ (h, new) pdu.2 in
-    let agreed = then_is fault.PduSizeTooSmall (agreed_of proposal.0) _ (h, new) proposal.2 in
+    let both = bind_ok (agreement request.0.contexts request.0.user) _ (h, new) request.2 in
+    let a = then_is fault.NoContext (accepted_of request.0.contexts) _ both.0 both.1 in
+    let value = bind_ok (acse_value a.0 request.0.user) _ both.0 a.2 in
+    let information = then_is fault.BadAcse (associate_in value.0) _ both.0 value.2 in
+    let pdu = bind_ok (mms_value a.0 information.0) _ both.0 information.2 in
+    let proposal = then_is fault.BadAcse (initiate_in pdu.0) _ both.0 pdu.2 in
+    let agreed = then_is fault.PduSizeTooSmall (agreed_of proposal.0) _ both.0 proposal.2 in
+    let met : Accepted × Agreed = (a.0, agreed.0) in
+    let same : met ≡ both.0 = same_pair met both.0 agreed.2 in
+    let told : Accepted × Agreed → Result (Hearing × Phase) AssocFault = λ x. Ok (answer (answer_text request.0 x.0 x.1), Open (record { contexts = x.0; size = x.1.size })) in
+    let last : told met ≡ Ok (h, new) = ap told same ∙ both.2 in
     let r = request_back user request.0 b request.1 in
     let in_acse = acse_is a.0 request.0.user value.0 value.1 in
     let bytes = subst IsBytes (ap (λ (c : Carried). c.value) in_acse) r.1 in
@@ -360,7 +369,7 @@ connected_back octets user h new spdu b e =
     let inner = subst IsBytes (ap (λ (c : Carried). c.value) in_mms) i.1 in
     let link : Link = record { contexts = a.0; size = agreed.0.size } in
     let text = answer_text request.0 a.0 agreed.0 in
-    heard_as Idle octets (answer text) h (Open link) new (pair_is (answer text) h (Open link) new agreed.2) (
+    heard_as Idle octets (answer text) h (Open link) new (pair_is (answer text) h (Open link) new last) (
       link,
       record {
         user = user;

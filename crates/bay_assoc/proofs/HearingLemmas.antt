@@ -6,7 +6,7 @@ use Rattle.bay_assoc.specs.declared.hearing.Link.{Link}
 use Rattle.bay_assoc.specs.declared.hearing.Phase.{Phase}
 use Rattle.bay_assoc.specs.declared.hearing.Phase.TheVariants.{Idle, Open, Over, Failed}
 use Rattle.bay_assoc.specs.Session.{connect, finish, abort, transfer}
-use Rattle.bay_assoc.specs.Hearing.{Hearing, answer, mms, released, aborted, answer_text, connected, finished, transferred, hearing}
+use Rattle.bay_assoc.specs.Hearing.{Hearing, answer, mms, released, aborted, agreement, answer_text, connected, finished, transferred, hearing}
 use Rattle.bay_assoc.specs.SpelledSession.{IsSpdu}
 use Rattle.bay_assoc.specs.SpelledValues.{IsUser}
 use Rattle.bay_assoc.specs.SpelledHearing.{IsAnswered, IsReleased, IsHeard}
@@ -15,7 +15,7 @@ use Rattle.bay_assoc.proofs.SpduLemmas.{spdu_again}
 use Rattle.bay_assoc.proofs.ValueLemmas.{user_read, request_read, associate_read, release_read}
 
 answered : (octets text : List ℕ) (link : Link) → IsAnswered octets text link → hearing Idle octets ≡ Ok (answer text, Open link)
-unfolding hearing connected
+unfolding hearing connected agreement
 answered octets text link a =
     rw (
       spdu_again octets (connect a.user) a.spdu,

@@ -86,17 +86,23 @@ agreed_of p = size_of p.size >>= λ size. Some (record {
 abbrev pub answer_text : Connect → Accepted → Agreed → List ℕ
 answer_text c a agreed = accept_text (connected_text c.called c.contexts a (associated_text a.mms (agreed_text agreed)))
 
--- A request for a connection, layer by layer: presentation, ACSE, MMS.
-unfoldable pub connected : List ℕ → Result (Hearing × Phase) AssocFault
-connected user =
-    wanted fault.BadPresentation (request_in user) >> λ request.
-    wanted fault.NoContext (accepted_of request.contexts) >> λ a.
-    acse_value a request.user >> λ value.
+-- What is agreed on with the contexts and the user data of a request, layer by layer: ACSE, MMS.
+unfoldable pub agreement : List Context → Carried → Result (Accepted × Agreed) AssocFault
+agreement contexts user =
+    wanted fault.NoContext (accepted_of contexts) >> λ a.
+    acse_value a user >> λ value.
     wanted fault.BadAcse (associate_in value) >> λ information.
     mms_value a information >> λ pdu.
     wanted fault.BadAcse (initiate_in pdu) >> λ proposal.
     wanted fault.PduSizeTooSmall (agreed_of proposal) >> λ agreed.
-    Ok (answer (answer_text request a agreed), Open (record { contexts = a; size = agreed.size }))
+    Ok (a, agreed)
+
+-- a request for a connection: presentation, and what is agreed on with what it has
+unfoldable pub connected : List ℕ → Result (Hearing × Phase) AssocFault
+connected user =
+    wanted fault.BadPresentation (request_in user) >> λ request.
+    agreement request.contexts request.user >> λ x.
+    Ok (answer (answer_text request x.0 x.1), Open (record { contexts = x.0; size = x.1.size }))
 
 -- a release, with a request of ACSE's or without user data
 unfoldable pub finished : Link → Option (List ℕ) → Result (Hearing × Phase) AssocFault

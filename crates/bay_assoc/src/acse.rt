@@ -4,10 +4,10 @@ ghost use Rattle.bay_ber.specs.Values.{part_of};
 ghost use Rattle.bay_assoc.specs.Acse.{application_of, application_as, information_as, associate_of, associate_in, release_in};
 ghost use Rattle.bay_assoc.specs.Views.{carried_view};
 
-use crate::presentation::{Carried, carried_of};
+use crate::presentation::{Carried, carried_of, content_under};
 use bay_ber::known::known_values;
 use bay_ber::tag::Tag;
-use bay_ber::values::{Value, few_values, whole_value};
+use bay_ber::values::{Value, few_values};
 
 // The application context of MMS, 1.0.9506.2.3.
 const MMS_APPLICATION: &[u8] = &[0x28, 0xCA, 0x22, 0x02, 0x03];
@@ -27,8 +27,8 @@ fn application_of(name: &[u8]) -> Option<&[u8]>
 fn application_as<'a>(value: &Value<'a>) -> Option<&'a [u8]>
     ensures { option_map (λ o. o.now) result ≡ application_as (part_of value.now) }
 {
-    let name = whole_value(value.under(Tag::context_constructed(1))?)?;
-    application_of(name.under(Tag::universal(6))?)
+    let name = value.under(Tag::context_constructed(1))?;
+    application_of(content_under(name, Tag::universal(6))?)
 }
 
 // The user information, which is one external.
@@ -36,8 +36,8 @@ fn application_as<'a>(value: &Value<'a>) -> Option<&'a [u8]>
 fn information_as<'a>(value: &Value<'a>) -> Option<Carried<'a>>
     ensures { option_map carried_view result ≡ information_as (part_of value.now) }
 {
-    let external = whole_value(value.under(Tag::context_constructed(30))?)?;
-    let parts = few_values(external.under(Tag::universal_constructed(8))?)?;
+    let external = value.under(Tag::context_constructed(30))?;
+    let parts = few_values(content_under(external, Tag::universal_constructed(8))?)?;
     carried_of(parts.as_slice())
 }
 
@@ -58,8 +58,7 @@ fn associate_of<'a>(parts: &[Value<'a>]) -> Option<Carried<'a>>
 pub(crate) fn associate_in(octets: &[u8]) -> Option<Carried<'_>>
     ensures { option_map carried_view result ≡ associate_in octets.now }
 {
-    let value = whole_value(octets)?;
-    let content = value.under(Tag::application_constructed(0))?;
+    let content = content_under(octets, Tag::application_constructed(0))?;
     let tags = [Tag::context_constructed(1), Tag::context_constructed(30)];
     let known = known_values(content, &tags)?;
     associate_of(known.as_slice())
@@ -69,6 +68,5 @@ pub(crate) fn associate_in(octets: &[u8]) -> Option<Carried<'_>>
 pub(crate) fn release_in(octets: &[u8]) -> Option<&[u8]>
     ensures { option_map (λ o. o.now) result ≡ release_in octets.now }
 {
-    let value = whole_value(octets)?;
-    value.under(Tag::application_constructed(2))
+    content_under(octets, Tag::application_constructed(2))
 }

@@ -1,7 +1,7 @@
 // The phases of an association, and what is heard of a TSDU in each.
 ghost use Rattle.std.specs.Prelude.{◌≡◌, ◌∷◌, [], Some, option_map, IfOk, IsErrOf};
 ghost use Rattle.bay_base.specs.Exact.{Gives};
-ghost use Rattle.bay_assoc.specs.Hearing.{is_id, acse_of, mms_of, accepted_of, acse_value, mms_value, size_of, outstanding_of, nesting_of, agreed_of, answer_text, connected, finished, transferred, heard_idle, heard_open, hearing};
+ghost use Rattle.bay_assoc.specs.Hearing.{is_id, acse_of, mms_of, accepted_of, acse_value, mms_value, size_of, outstanding_of, nesting_of, agreed_of, agreement, answer_text, connected, finished, transferred, heard_idle, heard_open, hearing};
 ghost use Rattle.bay_assoc.specs.Results.{Holds};
 ghost use Rattle.bay_assoc.specs.Session.{spdu_in};
 ghost use Rattle.bay_assoc.specs.TakesMemory.{TakesMemory};
@@ -188,18 +188,27 @@ fn answer(
     text::accept(alloc, user.as_slice())
 }
 
-// A request for a connection, layer by layer.
+// What is agreed on with the contexts and the user data of a request: ACSE, and MMS within it.
+#[tactic(auto, unfolding(crate::specs::Hearing::agreement))]
+fn agreement(contexts: &[Context], user: Carried<'_>) -> Result<(Accepted, Agreed), AssocFault>
+    ensures { Holds (λ x. (x.0, x.1)) result (agreement contexts.now (carried_view user.entry)) }
+{
+    let contexts = accepted_of(contexts).ok_or(AssocFault::NoContext)?;
+    let value = acse_value(contexts, user)?;
+    let information = associate_in(value).ok_or(AssocFault::BadAcse)?;
+    let pdu = mms_value(contexts, information)?;
+    let proposal = read_initiate(pdu).ok_or(AssocFault::BadAcse)?;
+    let agreed = agreed_of(proposal).ok_or(AssocFault::PduSizeTooSmall)?;
+    Ok((contexts, agreed))
+}
+
+// A request for a connection.
 #[tactic(auto, unfolding(crate::specs::Hearing::connected))]
 fn connected<'a>(alloc: Global, user: &'a [u8]) -> Result<(Heard<'a>, Phase), AssocFault>
     ensures { Gives AssocFault.OutOfMemory (λ x. (hearing_of x.0, x.1)) result (connected user.now) }
 {
     let request = request_in(alloc, user)?;
-    let contexts = accepted_of(request.contexts.as_slice()).ok_or(AssocFault::NoContext)?;
-    let value = acse_value(contexts, request.user)?;
-    let information = associate_in(value).ok_or(AssocFault::BadAcse)?;
-    let pdu = mms_value(contexts, information)?;
-    let proposal = read_initiate(pdu).ok_or(AssocFault::BadAcse)?;
-    let agreed = agreed_of(proposal).ok_or(AssocFault::PduSizeTooSmall)?;
+    let (contexts, agreed) = agreement(request.contexts.as_slice(), request.user)?;
     let octets = answer(alloc, &request, contexts, agreed)?;
     let link = Link {
         contexts,

@@ -5,7 +5,7 @@ ghost use Rattle.bay_base.specs.Exact.{Gives};
 ghost use Rattle.bay_ber.specs.Values.{part_of, each_in};
 ghost use Rattle.bay_assoc.specs.declared.fault.AssocFault.TheVariants.{BadPresentation};
 ghost use Rattle.bay_assoc.specs.Results.{wanted};
-ghost use Rattle.bay_assoc.specs.Presentation.{integer_under, is_ber, offers_ber, context_id, context_with, context_of, context_as, has_id, are_distinct, limited, contexts_in, carried_as, carried_of, carried_in, carried_under, user_in, selector_of, selector_as, connect_with, connect_of, normal_in, normal_as, mode_of, mode_as, request_of, request_in};
+ghost use Rattle.bay_assoc.specs.Presentation.{content_under, integer_under, is_ber, offers_ber, context_id, context_with, context_of, context_as, has_id, are_distinct, limited, contexts_in, carried_as, carried_of, carried_in, carried_under, user_in, selector_of, selector_as, connect_with, connect_of, normal_in, normal_as, mode_of, mode_as, request_of, request_in};
 ghost use Rattle.bay_assoc.specs.Views.{carried_view, connect_view};
 
 use crate::fault::AssocFault;
@@ -50,6 +50,14 @@ fn integer_under(value: &Value<'_>) -> Option<i64>
     ensures { result ≡ integer_under (part_of value.now) }
 {
     int_of(value.under(Tag::universal(2))?).ok()
+}
+
+/// The content of the one value that octets are, where it has this tag.
+pub(crate) fn content_under<'a>(octets: &'a [u8], tag: Tag) -> Option<&'a [u8]>
+    ensures { option_map (λ o. o.now) result ≡ content_under tag octets.now }
+{
+    let value = whole_value(octets)?;
+    value.under(tag)
 }
 
 // Whether a transfer syntax is the Basic Encoding Rules.
@@ -221,8 +229,7 @@ pub(crate) fn carried_of<'a>(parts: &[Value<'a>]) -> Option<Carried<'a>>
 fn carried_in(octets: &[u8]) -> Option<Carried<'_>>
     ensures { option_map carried_view result ≡ carried_in octets.now }
 {
-    let value = whole_value(octets)?;
-    let parts = few_values(value.under(Tag::sequence())?)?;
+    let parts = few_values(content_under(octets, Tag::sequence())?)?;
     carried_of(parts.as_slice())
 }
 
@@ -337,8 +344,9 @@ fn mode_of(number: i64) -> Option<i64>
 fn mode_as(value: &Value<'_>) -> Option<i64>
     ensures { result ≡ mode_as (part_of value.now) }
 {
-    let mode = whole_value(value.under(Tag::context_constructed(0))?)?;
-    mode_of(int_of(mode.under(Tag::context(0))?).ok()?)
+    let mode = value.under(Tag::context_constructed(0))?;
+    let number = content_under(mode, Tag::context(0))?;
+    mode_of(int_of(number).ok()?)
 }
 
 // The mode and the parameters, in either order.
@@ -359,10 +367,9 @@ fn request_of<'a>(alloc: Global, parts: &[Value<'a>]) -> Result<Connect<'a>, Ass
 pub(crate) fn request_in(alloc: Global, octets: &[u8]) -> Result<Connect<'_>, AssocFault>
     ensures { Gives AssocFault.OutOfMemory connect_view result (wanted BadPresentation (request_in octets.now)) }
 {
-    let value = whole_value(octets).ok_or(AssocFault::BadPresentation)?;
-    let content = value
-        .under(Tag::universal_constructed(17))
-        .ok_or(AssocFault::BadPresentation)?;
+    let content = content_under(octets, Tag::universal_constructed(17)).ok_or(
+        AssocFault::BadPresentation,
+    )?;
     let tags = [Tag::context_constructed(0), Tag::context_constructed(2)];
     let known = known_values(content, &tags).ok_or(AssocFault::BadPresentation)?;
     request_of(alloc, known.as_slice())

@@ -43,27 +43,34 @@ fn agrees(alloc: Global, rows: &mut Rows, line: &str) -> Result<bool> {
     }
 }
 
-fn main(rt: HostRuntime) -> Result<()> {
-    let mut text = String::new(rt.alloc());
-    rt.reader().read_to_string(&mut text)?;
-    let mut rows = Rows::new(rt.alloc());
+/// How many cases the lines of a text have, each of which comes out as it says.
+fn run(alloc: Global, text: &str) -> Result<u32> {
+    let mut rows = Rows::new(alloc);
     let mut cases = 0u32;
     for line in text.lines() {
         if line.starts_with("#") || line.is_empty() {
             continue;
         }
-        if !agrees(rt.alloc(), &mut rows, line)? {
+        if !agrees(alloc, &mut rows, line)? {
             bail!("not so: {line}");
         }
         cases = cases.saturating_add(1);
     }
-    println!(&rt; "{cases} cases agree")?;
-    println!(&rt; "{}, {}", WriteFault::TooLong, WriteFault::OutOfMemory)?;
+    Ok(cases)
+}
+
+fn main(rt: HostRuntime) -> Result<()> {
+    let mut text = String::new(rt.alloc());
+    rt.reader().read_to_string(&mut text)?;
+    let cases = run(rt.alloc(), text.as_str())?;
     println!(&rt;
-        "{}, {}",
+        "{cases} cases agree\n{}, {}\n{}, {}\n{}, {}",
+        WriteFault::TooLong,
+        WriteFault::OutOfMemory,
         MmsFault::BadPdu(None),
-        MmsFault::UnknownService(1)
+        MmsFault::UnknownService(1),
+        MmsFault::TooMany(1),
+        MmsFault::OutOfMemory
     )?;
-    println!(&rt; "{}, {}", MmsFault::TooMany(1), MmsFault::OutOfMemory)?;
     Ok(())
 }

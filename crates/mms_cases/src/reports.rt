@@ -33,10 +33,10 @@ pub fn is_failure(alloc: Global, words: &str) -> Result<bool> {
     let (category, rest) = first_word(rest);
     let (identity, rest) = first_word(rest);
     let (number, cause) = first_word(rest);
-    let identity = octets_of(alloc, identity)?;
     let category = category.parse::<i8>()?;
     let number = number.parse::<u8>()?;
     let cause = cause.parse::<u8>()?;
+    let identity = octets_of(alloc, identity)?;
     let written = failure_of(alloc, object, category, identity.as_slice(), number, cause)?;
     is_written(alloc, written.as_slice(), octets)
 }
@@ -44,12 +44,30 @@ pub fn is_failure(alloc: Global, words: &str) -> Result<bool> {
 /// The eight octets of a moment.
 fn moment_of(alloc: Global, word: &str) -> Result<[u8; 8]> {
     let octets = octets_of(alloc, word)?;
-    if octets.len() != 8 {
-        bail!("no moment: {word}");
+    match octets.as_slice() {
+        [a, b, c, d, e, f, g, h] => Ok([*a, *b, *c, *d, *e, *f, *g, *h]),
+        _ => bail!("no moment: {word}"),
     }
-    let mut moment = [0; 8];
-    moment.copy_from_slice(octets.as_slice());
-    Ok(moment)
+}
+
+/// An operate of its value and its origin, and the other words of it: its number, its moment, whether it is a test, and its check.
+fn operate_of<'a>(
+    alloc: Global,
+    value: &str,
+    origin: Origin<'a>,
+    words: &str,
+) -> Result<Operate<'a>> {
+    let (number, rest) = first_word(words);
+    let (moment, rest) = first_word(rest);
+    let (is_test, check) = first_word(rest);
+    Ok(Operate {
+        value: truth_of(value)?,
+        origin,
+        number: number.parse::<u8>()?,
+        moment: moment_of(alloc, moment)?,
+        is_test: truth_of(is_test)?,
+        check: position_of(check)?,
+    })
 }
 
 /// Whether an operate that has ended well is told so: its octets, the domain, the item, the value, the category and the identity of
@@ -61,22 +79,13 @@ pub fn is_termination(alloc: Global, words: &str) -> Result<bool> {
     let (value, rest) = first_word(rest);
     let (category, rest) = first_word(rest);
     let (identity, rest) = first_word(rest);
-    let (number, rest) = first_word(rest);
-    let (moment, rest) = first_word(rest);
-    let (is_test, check) = first_word(rest);
+    let category = category.parse::<i8>()?;
     let identity = octets_of(alloc, identity)?;
     let origin = Origin {
-        category: category.parse::<i8>()?,
+        category,
         identity: identity.as_slice(),
     };
-    let operate = Operate {
-        value: truth_of(value)?,
-        origin,
-        number: number.parse::<u8>()?,
-        moment: moment_of(alloc, moment)?,
-        is_test: truth_of(is_test)?,
-        check: position_of(check)?,
-    };
+    let operate = operate_of(alloc, value, origin, rest)?;
     let written = write_termination(alloc, domain, item, &operate)?;
     is_written(alloc, written.as_slice(), octets)
 }

@@ -82,63 +82,85 @@ fn reason_of(word: &str) -> Result<RejectReason> {
     }
 }
 
-/// The octets of a response: its kind, the first of its words, which is mostly an invoke id, and the others. All kinds stand in one
-/// function: the borrow checker wants the types of a response's parts named where one is written.
-fn response_of(alloc: Global, tree: &Tree, kind: &str, first: &str, rest: &str) -> Result<Vec<u8>> {
-    let id = first.parse::<u32>().unwrap_or(0);
-    let (second, others) = first_word(rest);
-    let written = match kind {
-        "initiate" => write_response(alloc, &Response::Initiate(agreed_of(first, rest)?))?,
-        "conclude" => write_response(alloc, &Response::Conclude)?,
-        "identify" => {
+/// The octets of a page: whether more names follow, and the names.
+fn page(alloc: Global, id: u32, words: &str) -> Result<Vec<u8>> {
+    let (more, names) = first_word(words);
+    let more = truth_of(more)?;
+    let names = names_of(alloc, names)?;
+    let service = Service::Names {
+        names: names.as_slice(),
+        more,
+    };
+    Ok(write_response(alloc, &Response::Confirmed { id, service })?)
+}
+
+/// The octets of the type of a row.
+fn attributes(alloc: Global, tree: &Tree, id: u32, name: &str) -> Result<Vec<u8>> {
+    let handle = tree.find(name)?;
+    let service = Service::Attributes { tree, handle };
+    Ok(write_response(alloc, &Response::Confirmed { id, service })?)
+}
+
+/// The octets of what is read of two variables.
+fn read(alloc: Global, tree: &Tree, id: u32, words: &str) -> Result<Vec<u8>> {
+    let (first, second) = first_word(words);
+    let results = [read_of(alloc, tree, first)?, read_of(alloc, tree, second)?];
+    let service = Service::Read {
+        tree,
+        results: &results,
+    };
+    Ok(write_response(alloc, &Response::Confirmed { id, service })?)
+}
+
+/// The octets of what comes of writes.
+fn write(alloc: Global, id: u32, words: &str) -> Result<Vec<u8>> {
+    let results = writes_of(alloc, words)?;
+    let service = Service::Write {
+        results: results.as_slice(),
+    };
+    Ok(write_response(alloc, &Response::Confirmed { id, service })?)
+}
+
+/// The octets of a response that is made of words alone: its kind, the first of its words, which is mostly an invoke id, and the
+/// others. They stand in one function: the borrow checker wants the types of a response's parts named where one is written.
+fn plain(alloc: Global, kind: &str, first: &str, rest: &str) -> Result<Vec<u8>> {
+    let id = first.parse::<u32>().ok();
+    let written = match (kind, id) {
+        ("initiate", _) => write_response(alloc, &Response::Initiate(agreed_of(first, rest)?)),
+        ("conclude", _) => write_response(alloc, &Response::Conclude),
+        ("identify", Some(id)) => {
+            let (vendor, others) = first_word(rest);
             let (model, revision) = first_word(others);
             let service = Service::Identify {
-                vendor: second,
+                vendor,
                 model,
                 revision,
             };
-            write_response(alloc, &Response::Confirmed { id, service })?
+            write_response(alloc, &Response::Confirmed { id, service })
         }
-        "names" => {
-            let more = truth_of(second)?;
-            let names = names_of(alloc, others)?;
-            let service = Service::Names {
-                names: names.as_slice(),
-                more,
-            };
-            write_response(alloc, &Response::Confirmed { id, service })?
-        }
-        "attributes" => {
-            let handle = tree.find(rest)?;
-            let service = Service::Attributes { tree, handle };
-            write_response(alloc, &Response::Confirmed { id, service })?
-        }
-        "read" => {
-            let results = [read_of(alloc, tree, second)?, read_of(alloc, tree, others)?];
-            let service = Service::Read {
-                tree,
-                results: &results,
-            };
-            write_response(alloc, &Response::Confirmed { id, service })?
-        }
-        "write" => {
-            let results = writes_of(alloc, rest)?;
-            let service = Service::Write {
-                results: results.as_slice(),
-            };
-            write_response(alloc, &Response::Confirmed { id, service })?
-        }
-        "error" => {
+        ("error", Some(id)) => {
             let class = class_of(rest)?;
-            write_response(alloc, &Response::Error { id, class })?
+            write_response(alloc, &Response::Error { id, class })
         }
-        _ => {
-            let id = first.parse::<u32>().ok();
+        ("reject", _) => {
             let reason = reason_of(rest)?;
-            write_response(alloc, &Response::Reject { id, reason })?
+            write_response(alloc, &Response::Reject { id, reason })
         }
+        _ => bail!("what response is this: {kind}"),
     };
-    Ok(written)
+    Ok(written?)
+}
+
+/// The octets of a response: its kind, the first of its words, which is mostly an invoke id, and the others.
+fn response_of(alloc: Global, tree: &Tree, kind: &str, first: &str, rest: &str) -> Result<Vec<u8>> {
+    let id = first.parse::<u32>().unwrap_or(0);
+    match kind {
+        "names" => page(alloc, id, rest),
+        "attributes" => attributes(alloc, tree, id, rest),
+        "read" => read(alloc, tree, id, rest),
+        "write" => write(alloc, id, rest),
+        _ => plain(alloc, kind, first, rest),
+    }
 }
 
 /// Whether a response is written in these octets.

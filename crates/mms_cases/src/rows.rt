@@ -58,6 +58,36 @@ fn leaf_of(alloc: Global, kind: &str, value: &str) -> Result<Option<Leaf>> {
     }))
 }
 
+/// Whether the data of a row are these, as a tree.
+fn is_data(alloc: Global, tree: &Tree, name: &str, wanted: &str) -> Result<bool> {
+    let handle = tree.find(name)?;
+    let data = data_of(alloc, tree, handle)?;
+    let found = format!(in alloc; "{data:?}")?;
+    Ok(found.as_str() == wanted)
+}
+
+/// Whether the data of a row are written in these octets.
+fn is_value(alloc: Global, tree: &Tree, name: &str, octets: &str) -> Result<bool> {
+    let handle = tree.find(name)?;
+    let written = write_value(alloc, tree, handle)?;
+    is_written(alloc, written.as_slice(), octets)
+}
+
+/// Whether the type of a row is this one, as a tree.
+fn is_type_spec(alloc: Global, tree: &Tree, name: &str, wanted: &str) -> Result<bool> {
+    let handle = tree.find(name)?;
+    let kind = type_spec_of(alloc, tree, handle)?;
+    let found = format!(in alloc; "{kind:?}")?;
+    Ok(found.as_str() == wanted)
+}
+
+/// Whether the type of a row is written in these octets.
+fn is_type(alloc: Global, tree: &Tree, name: &str, octets: &str) -> Result<bool> {
+    let handle = tree.find(name)?;
+    let written = write_type(alloc, tree, handle)?;
+    is_written(alloc, written.as_slice(), octets)
+}
+
 impl Rows {
     /// No rows.
     pub fn new(alloc: Global) -> Rows {
@@ -96,11 +126,7 @@ impl Rows {
         let (name, rest) = first_word(words);
         let (octets, wanted) = first_word(rest);
         let tree = self.tree()?;
-        let handle = tree.find(name)?;
-        let written = write_value(alloc, tree, handle)?;
-        let data = data_of(alloc, tree, handle)?;
-        let found = format!(in alloc; "{data:?}")?;
-        Ok(found.as_str() == wanted && is_written(alloc, written.as_slice(), octets)?)
+        Ok(is_value(alloc, tree, name, octets)? && is_data(alloc, tree, name, wanted)?)
     }
 
     /// Whether a row has this type, as it is written and as a tree.
@@ -109,10 +135,6 @@ impl Rows {
         let (name, rest) = first_word(words);
         let (octets, wanted) = first_word(rest);
         let tree = self.tree()?;
-        let handle = tree.find(name)?;
-        let written = write_type(alloc, tree, handle)?;
-        let kind = type_spec_of(alloc, tree, handle)?;
-        let found = format!(in alloc; "{kind:?}")?;
-        Ok(found.as_str() == wanted && is_written(alloc, written.as_slice(), octets)?)
+        Ok(is_type(alloc, tree, name, octets)? && is_type_spec(alloc, tree, name, wanted)?)
     }
 }

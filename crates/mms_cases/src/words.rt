@@ -1,5 +1,5 @@
 // Words of a case.
-use anyhow::{Context, Result, bail};
+use anyhow::{Result, bail};
 use bay_ber::values::whole_value;
 use std::alloc::Global;
 
@@ -26,15 +26,19 @@ pub fn truth_of(word: &str) -> Result<bool> {
     }
 }
 
+/// Whether octets are one value of BER, which they are not with an octet less.
+fn is_value(octets: &[u8]) -> bool {
+    match octets {
+        [less @ .., _] => whole_value(octets).is_some() && whole_value(less).is_none(),
+        [] => false,
+    }
+}
+
 /// Whether octets that were written are those that a word spells, and one value of BER, which they are not with an octet more or
 /// less.
 pub fn is_written(alloc: Global, written: &[u8], word: &str) -> Result<bool> {
     let mut octets = octets_of(alloc, word)?;
-    if written != octets.as_slice() || whole_value(written).is_none() {
-        return Ok(false);
-    }
-    let (_, less) = written.split_last().context("nothing is written")?;
-    let is_whole = whole_value(less).is_none();
+    let is_value = written == octets.as_slice() && is_value(written);
     octets.push(0)?;
-    Ok(is_whole && whole_value(octets.as_slice()).is_none())
+    Ok(is_value && whole_value(octets.as_slice()).is_none())
 }

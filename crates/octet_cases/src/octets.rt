@@ -27,3 +27,9 @@ pub fn octets_of(alloc: Global, word: &str) -> Result<Vec<u8>> {
     }
     Ok(octets)
 }
+
+/// Whether octets are those that a word spells.
+pub fn is_spelled(alloc: Global, octets: &[u8], word: &str) -> Result<bool> {
+    let wanted = octets_of(alloc, word)?;
+    Ok(octets == wanted.as_slice())
+}
