@@ -10,7 +10,10 @@
 use anyhow::{Context, Result, bail};
 use bay_config::bay::Point;
 use il_check::check::check;
+use il_check::program::Typed;
 use il_compile::compile::compile;
+use il_image::image::Image;
+use il_text::program::Program;
 use il_text::read::read_program;
 use il_verify::verify::verify;
 use std::alloc::Global;
@@ -39,40 +42,66 @@ fn stage_of(word: &str) -> Option<Stage> {
     }
 }
 
-/// Takes a text up to a stage once: the number of items, or of octets of code, or the budget.
-fn once(alloc: Global, points: &[Point], text: &str, stage: Stage) -> Result<u64> {
-    let program = read_program(alloc, text)?;
-    if let Stage::Read = stage {
-        return Ok(program.items.len() as u64);
-    }
-    let typed = check(alloc, &program, points)?;
-    if let Stage::Check = stage {
-        return Ok(typed.items().len() as u64);
-    }
-    let image = compile(alloc, &typed)?;
-    if let Stage::Compile = stage {
-        return Ok(image.code().len() as u64);
-    }
+/// The budget of an image that is verified.
+fn budget_of(alloc: Global, points: &[Point], image: Image) -> Result<u64> {
     match verify(alloc, image, points) {
         Ok(verified) => Ok(u64::from(verified.budget())),
         Err(refused) => Err(refused.fault.into()),
     }
 }
 
-fn run(rt: &(impl Input + AllocGlobal + Print), words: &[&str]) -> Result<()> {
-    let (word, rounds) = match words {
-        [_, word, rounds] => (*word, rounds.parse::<u32>().context(USAGE)?),
-        _ => bail!("{USAGE}"),
+/// Takes a checked program on up to a stage.
+fn checked(alloc: Global, points: &[Point], typed: &Typed, stage: Stage) -> Result<u64> {
+    if let Stage::Check = stage {
+        return Ok(typed.items().len() as u64);
+    }
+    let image = compile(alloc, typed)?;
+    if let Stage::Compile = stage {
+        return Ok(image.code().len() as u64);
+    }
+    budget_of(alloc, points, image)
+}
+
+/// Takes a program that is read on up to a stage.
+fn read(alloc: Global, points: &[Point], program: &Program<'_>, stage: Stage) -> Result<u64> {
+    if let Stage::Read = stage {
+        return Ok(program.items.len() as u64);
+    }
+    let typed = check(alloc, program, points)?;
+    checked(alloc, points, &typed, stage)
+}
+
+/// Takes a text up to a stage once: the number of items, or of octets of code, or the budget.
+fn once(alloc: Global, points: &[Point], text: &str, stage: Stage) -> Result<u64> {
+    let program = read_program(alloc, text)?;
+    read(alloc, points, &program, stage)
+}
+
+/// Takes a text up to a stage so many times: what comes of the last.
+fn repeated(alloc: Global, text: &str, stage: Stage, rounds: u32) -> Result<u64> {
+    let mut last = 0_u64;
+    for _ in 0..rounds {
+        last = once(alloc, &[], text, stage)?;
+    }
+    Ok(last)
+}
+
+/// The stage's word, the stage, and how many rounds there are.
+fn asked<'a>(words: &[&'a str]) -> Result<(&'a str, Stage, u32)> {
+    let [_, word, rounds] = words else {
+        bail!("{USAGE}");
     };
+    let rounds = rounds.parse::<u32>().context(USAGE)?;
     let stage = stage_of(word).context(USAGE)?;
+    Ok((word, stage, rounds))
+}
+
+fn run(rt: &(impl Input + AllocGlobal + Print), words: &[&str]) -> Result<()> {
+    let (word, stage, rounds) = asked(words)?;
     let mut octets = Vec::new(rt.alloc());
     rt.reader().read_to_end(&mut octets)?;
     let text = str::from_utf8(octets.as_slice())?;
-    let points: Vec<Point> = Vec::new(rt.alloc());
-    let mut last = 0_u64;
-    for _ in 0..rounds {
-        last = once(rt.alloc(), points.as_slice(), text, stage)?;
-    }
+    let last = repeated(rt.alloc(), text, stage, rounds)?;
     println!(rt; "{word} {last}")?;
     Ok(())
 }

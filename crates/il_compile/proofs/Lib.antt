@@ -2,6 +2,7 @@ pub mod BehindLemmas
 pub mod Calls
 pub mod CompiledLemmas
 pub mod Entries
+pub mod EntryLemmas
 pub mod JumpLemmas
 pub mod Memories
 pub mod Placing

@@ -3,12 +3,13 @@ ghost use Rattle.std.specs.Prelude.{◌≡◌, ◌<◌, ◌≤◌, length, optio
 ghost use Rattle.std.specs.List.{position_or_len};
 ghost use Rattle.il_text.specs.FormViews.{halves_of, line_parts, statement_parts};
 ghost use Rattle.il_text.specs.Forms as spec;
+ghost use Rattle.il_text.specs.Listing as text;
 ghost use Rattle.il_text.specs.TokenViews.{symbol_of, symbols_of};
 ghost use Rattle.il_text.specs.Views.{action_of, argument_of, arguments_of, place_of, source_of};
 
 use crate::program::{
-    Argument, Arguments, DeclaredType, Input, Instruction, Literal, Operand, Operator, Output,
-    Scope, Variable,
+    Argument, Arguments, Condition, DeclaredType, Input, Instruction, Literal, Operand, Operator,
+    Output, Scope, StoreKind, Variable,
 };
 use crate::token::{Frame, Mark, Mnemonic, Token};
 use bay_base::names::same_name;
@@ -175,7 +176,7 @@ fn place<'a>(tokens: &[Token<'a>]) -> Option<Variable<'a>>
     ensures { option_map place_of result ≡ spec.place (symbols_of tokens.now) }
 {
     match tokens {
-        [only] => Some(Variable::Name(name_of(*only)?)),
+        [only] => name_of(*only).map(Variable::Name),
         [timer, dot, output] if is_dot(*dot) => output_by(*timer, *output),
         _ => None,
     }
@@ -197,7 +198,7 @@ fn operand<'a>(tokens: &[Token<'a>]) -> Option<Operand<'a>>
 {
     match only_literal(tokens) {
         Some(value) => Some(Operand::Literal(value)),
-        None => Some(Operand::Variable(place(tokens)?)),
+        None => place(tokens).map(Operand::Variable),
     }
 }
 
@@ -311,7 +312,7 @@ fn argument_list<'a>(tokens: &[Token<'a>]) -> Option<Arguments<'a>>
     ensures { option_map arguments_of result ≡ spec.argument_list (symbols_of tokens.now) (spec.parted spec.is_comma (symbols_of tokens.now)) }
 {
     match at_comma(tokens) {
-        None => Some(Arguments::One(argument(tokens)?)),
+        None => argument(tokens).map(Arguments::One),
         Some(halves) => {
             let first = argument(halves.front)?;
             let second = argument(halves.rest)?;
@@ -401,29 +402,41 @@ fn combined<'a>(operator: Operator, negated: bool, tokens: &[Token<'a>]) -> Opti
     }
 }
 
+fn load<'a>(negated: bool, tokens: &[Token<'a>]) -> Option<Instruction<'a>>
+    ensures { option_map action_of result ≡ option_map (text.load negated) (spec.operand (symbols_of tokens.now)) }
+{
+    let operand = operand(tokens)?;
+    Some(Instruction::Load { negated, operand })
+}
+
+fn store<'a>(kind: StoreKind, tokens: &[Token<'a>]) -> Option<Instruction<'a>>
+    ensures { option_map action_of result ≡ option_map (text.store kind) (spec.place (symbols_of tokens.now)) }
+{
+    let target = place(tokens)?;
+    Some(Instruction::Store { kind, target })
+}
+
+fn jump<'a>(condition: Condition, tokens: &[Token<'a>]) -> Option<Instruction<'a>>
+    ensures { option_map action_of result ≡ option_map (text.jump condition) (spec.only_name (symbols_of tokens.now)) }
+{
+    let label = only_name(tokens)?;
+    Some(Instruction::Jump { condition, label })
+}
+
 /// An operator, and what belongs to it.
 #[tactic(auto, unfolding(crate::specs::Forms::statement))]
 fn statement_of<'a>(mnemonic: Mnemonic, tokens: &[Token<'a>]) -> Option<Statement<'a>>
     ensures { option_map statement_parts result ≡ spec.statement mnemonic (symbols_of tokens.now) }
 {
     match mnemonic {
-        Mnemonic::Load { negated } => {
-            let operand = operand(tokens)?;
-            Some(Statement::Plain(Instruction::Load { negated, operand }))
-        }
-        Mnemonic::Store(kind) => {
-            let target = place(tokens)?;
-            Some(Statement::Plain(Instruction::Store { kind, target }))
-        }
+        Mnemonic::Load { negated } => load(negated, tokens).map(Statement::Plain),
+        Mnemonic::Store(kind) => store(kind, tokens).map(Statement::Plain),
         Mnemonic::Combine { operator, negated } => combined(operator, negated, tokens),
         Mnemonic::Not => alone(Instruction::Not, tokens),
         Mnemonic::Convert(conversion) => alone(Instruction::Convert(conversion), tokens),
         Mnemonic::Return(condition) => alone(Instruction::Return(condition), tokens),
-        Mnemonic::Jump(condition) => {
-            let label = only_name(tokens)?;
-            Some(Statement::Plain(Instruction::Jump { condition, label }))
-        }
-        Mnemonic::Call => Some(Statement::Plain(called(tokens)?)),
+        Mnemonic::Jump(condition) => jump(condition, tokens).map(Statement::Plain),
+        Mnemonic::Call => called(tokens).map(Statement::Plain),
     }
 }
 
@@ -483,6 +496,16 @@ fn label_rest<'t, 'a>(tokens: &'t [Token<'a>]) -> Option<&'t [Token<'a>]>
     }
 }
 
+/// An operator as a token, and what belongs to it.
+fn statement_by<'a>(first: Token<'a>, tokens: &[Token<'a>]) -> Option<Statement<'a>>
+    ensures { option_map statement_parts result ≡ spec.statement_by (symbol_of first.entry) (symbols_of tokens.now) }
+{
+    match first {
+        Token::Mnemonic(mnemonic) => statement_of(mnemonic, tokens),
+        _ => None,
+    }
+}
+
 /// A label, and the instruction that may stand behind it.
 #[tactic(auto, unfolding(crate::specs::Forms::labelled))]
 fn labelled<'t, 'a>(label: &'a str, tokens: &'t [Token<'a>]) -> Option<Line<'t, 'a>>
@@ -490,10 +513,10 @@ fn labelled<'t, 'a>(label: &'a str, tokens: &'t [Token<'a>]) -> Option<Line<'t, 
 {
     match tokens {
         [] => Some(Line::Label(label)),
-        [first, rest @ ..] => match *first {
-            Token::Mnemonic(mnemonic) => Some(Line::Labelled(label, statement_of(mnemonic, rest)?)),
-            _ => None,
-        },
+        [first, rest @ ..] => {
+            let statement = statement_by(*first, rest)?;
+            Some(Line::Labelled(label, statement))
+        }
     }
 }
 
@@ -503,7 +526,7 @@ fn framed<'t, 'a>(word: Frame, tokens: &'t [Token<'a>]) -> Option<Line<'t, 'a>>
     ensures { option_and_then line_parts result ≡ spec.framed word (symbols_of tokens.now) }
 {
     let line = match word {
-        Frame::Program => return Some(Line::Heading(only_name(tokens)?)),
+        Frame::Program => return only_name(tokens).map(Line::Heading),
         Frame::EndProgram => Line::Ending,
         Frame::Var => Line::Opening(Scope::Local),
         Frame::VarExternal => Line::Opening(Scope::External),
@@ -540,7 +563,7 @@ fn marked<'t, 'a>(mark: Mark, tokens: &'t [Token<'a>]) -> Option<Line<'t, 'a>>
 fn statement_line<'t, 'a>(mnemonic: Mnemonic, tokens: &'t [Token<'a>]) -> Option<Line<'t, 'a>>
     ensures { option_and_then line_parts result ≡ spec.statement mnemonic (symbols_of tokens.now) }
 {
-    Some(Line::Statement(statement_of(mnemonic, tokens)?))
+    statement_of(mnemonic, tokens).map(Line::Statement)
 }
 
 /// The form of a line that is not blank, if it has one.

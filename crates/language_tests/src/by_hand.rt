@@ -98,36 +98,51 @@ fn sixteen<'a>(alloc: Global) -> Result<Vec<Item<'a>>, AllocError>
     four_around(alloc, items)
 }
 
+/// The fault of the program with these items alone.
+fn fault_of_items(alloc: Global, items: Vec<Item<'_>>) -> Option<CheckFault>
+    requires { are_first (map entry_of items.items) ≡ true }
+{
+    let program = with_items(alloc, items);
+    fault_of(alloc, &program, &[])
+}
+
 #[test]
 fn parentheses_too_deep(rt: HostRuntime) -> Result<(), Fail> {
     let alloc = rt.alloc();
-    let program = with_items(alloc, sixteen(alloc)?);
-    assert!(rt; fault_of(alloc, &program, &[]).is_none());
-    let program = with_items(alloc, around(alloc, sixteen(alloc)?)?);
-    let fault = CheckFault::TooMany { line: 1 };
-    assert!(rt; fault_of(alloc, &program, &[]) == Some(fault));
+    assert!(rt; fault_of_items(alloc, sixteen(alloc)?).is_none());
+    let fault = fault_of_items(alloc, around(alloc, sixteen(alloc)?)?);
+    assert!(rt; fault == Some(CheckFault::TooMany { line: 1 }));
     Ok(())
 }
 
 /// A TIME of 1 millisecond more than the most.
 const LONG: Literal = Literal::Time(2_147_483_648);
 
-#[test]
-fn literals_outside_of_their_type(rt: HostRuntime) -> Result<(), Fail> {
-    let alloc = rt.alloc();
-    let fault = CheckFault::TypeMismatch { line: 1 };
+/// The program whose only variable begins with this TIME.
+fn beginning<'a>(alloc: Global, initial: Literal) -> Result<Program<'a>, AllocError> {
     let declaration = Declaration {
         line: 1,
         scope: Scope::Local,
         name: "t",
         kind: DeclaredType::Elementary(ElementaryType::Time),
-        initial: Some(LONG),
+        initial: Some(initial),
     };
-    let program = declaring(alloc, declaration)?;
-    assert!(rt; fault_of(alloc, &program, &[]) == Some(fault));
-    let items = vec![in alloc; load(LONG)]?;
-    let program = with_items(alloc, items);
-    assert!(rt; fault_of(alloc, &program, &[]) == Some(fault));
+    declaring(alloc, declaration)
+}
+
+#[test]
+fn a_first_value_outside_of_its_type(rt: HostRuntime) -> Result<(), Fail> {
+    let program = beginning(rt.alloc(), LONG)?;
+    let fault = fault_of(rt.alloc(), &program, &[]);
+    assert!(rt; fault == Some(CheckFault::TypeMismatch { line: 1 }));
+    Ok(())
+}
+
+#[test]
+fn a_literal_outside_of_its_type(rt: HostRuntime) -> Result<(), Fail> {
+    let items = vec![in rt.alloc(); load(LONG)]?;
+    let fault = fault_of_items(rt.alloc(), items);
+    assert!(rt; fault == Some(CheckFault::TypeMismatch { line: 1 }));
     Ok(())
 }
 

@@ -6,12 +6,13 @@ use il_check::check::check;
 use il_check::fault::CheckFault;
 use il_check::program::Typed;
 use il_check::typed::{
-    Operation, Slot, Transfer, TypedArgument, TypedArguments, TypedEntry, TypedItem, TypedOperand,
+    External, Operation, Slot, Transfer, TypedArgument, TypedArguments, TypedEntry, TypedItem,
+    TypedOperand,
 };
 use il_image::value::Value;
 use il_text::program::{Condition, Input, Operator, Output, StoreKind};
 use il_text::read::read_program;
-use std::alloc::Global;
+use std::alloc::{AllocError, Global};
 use std::test::Fail;
 
 const ENABLE: Origin = Origin::Switch {
@@ -36,25 +37,53 @@ fn declared() -> &'static str {
     "PROGRAM P\nVAR\nd : DINT := 7;\nt1 : TON;\nEND_VAR\nVAR_EXTERNAL\nqa1_Ena_Opn : BOOL;\nEND_VAR\n"
 }
 
-#[test]
-fn declarations(rt: HostRuntime) -> Result<(), Fail> {
-    let text = format!(in rt.alloc(); "{}END_PROGRAM\n", declared())?;
-    let typed = checked(rt.alloc(), text.as_str())?;
-    for external in typed.externals() {
-        assert_eq!(rt; external.name.as_str(), "QA1_ENA_OPN");
-        assert!(rt; external.kind == ElementaryType::Bool && external.writable);
-        assert!(rt; external.origin == ENABLE);
+/// The checked program that has these declarations and no more.
+fn checked_declarations(alloc: Global) -> Result<Typed, Fail> {
+    let text = format!(in alloc; "{}END_PROGRAM\n", declared())?;
+    checked(alloc, text.as_str())
+}
+
+/// Externals in words: name, type, whether they may be written, and what they stand for.
+fn externals_text(alloc: Global, externals: &[External]) -> Result<String, AllocError> {
+    let mut text = String::new(alloc);
+    for external in externals {
+        let (name, kind, writable) = (external.name.as_str(), external.kind, external.writable);
+        let shown = format!(in alloc; "{name} {kind:?} {writable} {:?}; ", external.origin)?;
+        text.push_str(shown.as_str())?;
     }
+    Ok(text)
+}
+
+#[test]
+fn declared_externals(rt: HostRuntime) -> Result<(), Fail> {
+    let typed = checked_declarations(rt.alloc())?;
+    let externals = externals_text(rt.alloc(), typed.externals())?;
+    assert_eq!(rt;
+        externals.as_str(),
+        "QA1_ENA_OPN Bool true Switch { switch: 0, point: EnableOpen }; "
+    );
+    Ok(())
+}
+
+/// Variables and timers in words: the names, and behind a variable's its first value.
+fn locals_text(alloc: Global, typed: &Typed) -> Result<String, AllocError> {
+    let mut text = String::new(alloc);
     for variable in typed.variables() {
-        assert_eq!(rt; variable.name.as_str(), "D");
-        assert!(rt; variable.initial == Value::Long(7));
+        let shown = format!(in alloc; "{} {:?}; ", variable.name.as_str(), variable.initial)?;
+        text.push_str(shown.as_str())?;
     }
     for timer in typed.timers() {
-        assert_eq!(rt; timer.name.as_str(), "T1");
+        text.push_str(timer.name.as_str())?;
+        text.push_str("; ")?;
     }
-    assert_eq!(rt; typed.externals().len(), 1);
-    assert_eq!(rt; typed.variables().len(), 1);
-    assert_eq!(rt; typed.timers().len(), 1);
+    Ok(text)
+}
+
+#[test]
+fn declared_variables_and_timers(rt: HostRuntime) -> Result<(), Fail> {
+    let typed = checked_declarations(rt.alloc())?;
+    let locals = locals_text(rt.alloc(), &typed)?;
+    assert_eq!(rt; locals.as_str(), "D Long(7); T1; ");
     Ok(())
 }
 
@@ -66,43 +95,6 @@ fn operation_of(item: Option<&TypedItem>) -> Option<Operation> {
     }
 }
 
-#[test]
-fn operations(rt: HostRuntime) -> Result<(), Fail> {
-    let lines = "LD 40000\nADD d\nGT 5\nST QA1_ENA_OPN\nEND_PROGRAM\n";
-    let text = format!(in rt.alloc(); "{}{lines}", declared())?;
-    let typed = checked(rt.alloc(), text.as_str())?;
-    let expected = [
-        Operation::Load {
-            negated: false,
-            operand: TypedOperand::Literal(Value::Long(40_000)),
-        },
-        Operation::Combine {
-            operator: Operator::Add,
-            kind: ElementaryType::Dint,
-            negated: false,
-            operand: TypedOperand::Slot(Slot::Variable(0)),
-        },
-        Operation::Combine {
-            operator: Operator::Gt,
-            kind: ElementaryType::Dint,
-            negated: false,
-            operand: TypedOperand::Literal(Value::Long(5)),
-        },
-        Operation::Store {
-            kind: StoreKind::Plain,
-            slot: Slot::External(0),
-        },
-    ];
-    assert_eq!(rt; typed.items().len(), 4);
-    for (i, operation) in expected.iter().enumerate() {
-        assert!(rt;
-            operation_of(typed.items().get(i)) == Some(*operation),
-            "{i}"
-        );
-    }
-    Ok(())
-}
-
 /// The jump, return or call that an item is, if it is one.
 fn transfer_of(item: Option<&TypedItem>) -> Option<Transfer> {
     match item {
@@ -111,41 +103,120 @@ fn transfer_of(item: Option<&TypedItem>) -> Option<Transfer> {
     }
 }
 
+/// Whether these are the operations and the transfers of items.
+fn are_left(items: &[TypedItem], expected: &[(Option<Operation>, Option<Transfer>)]) -> bool {
+    for (i, (operation, transfer)) in expected.iter().enumerate() {
+        let item = items.get(i);
+        if operation_of(item) != *operation || transfer_of(item) != *transfer {
+            return false;
+        }
+    }
+    items.len() == expected.len()
+}
+
+/// Whether these operations and transfers are left of lines behind the declarations.
+fn leaves(
+    alloc: Global,
+    lines: &str,
+    expected: &[(Option<Operation>, Option<Transfer>)],
+) -> Result<bool, Fail> {
+    let text = format!(in alloc; "{}{lines}", declared())?;
+    let typed = checked(alloc, text.as_str())?;
+    Ok(are_left(typed.items(), expected))
+}
+
+const OPERATIONS: [(Option<Operation>, Option<Transfer>); 4] = [
+    (
+        Some(Operation::Load {
+            negated: false,
+            operand: TypedOperand::Literal(Value::Long(40_000)),
+        }),
+        None,
+    ),
+    (
+        Some(Operation::Combine {
+            operator: Operator::Add,
+            kind: ElementaryType::Dint,
+            negated: false,
+            operand: TypedOperand::Slot(Slot::Variable(0)),
+        }),
+        None,
+    ),
+    (
+        Some(Operation::Combine {
+            operator: Operator::Gt,
+            kind: ElementaryType::Dint,
+            negated: false,
+            operand: TypedOperand::Literal(Value::Long(5)),
+        }),
+        None,
+    ),
+    (
+        Some(Operation::Store {
+            kind: StoreKind::Plain,
+            slot: Slot::External(0),
+        }),
+        None,
+    ),
+];
+
+#[test]
+fn operations(rt: HostRuntime) -> Result<(), Fail> {
+    let lines = "LD 40000\nADD d\nGT 5\nST QA1_ENA_OPN\nEND_PROGRAM\n";
+    assert!(rt; leaves(rt.alloc(), lines, &OPERATIONS)?);
+    Ok(())
+}
+
+// The last item is the label.
+const TRANSFERS: [(Option<Operation>, Option<Transfer>); 5] = [
+    (
+        None,
+        Some(Transfer::Call {
+            timer: 0,
+            arguments: TypedArguments::One(TypedArgument {
+                input: Input::Pt,
+                operand: TypedOperand::Literal(Value::Span(5_000)),
+            }),
+        }),
+    ),
+    (
+        Some(Operation::Load {
+            negated: false,
+            operand: TypedOperand::Output {
+                timer: 0,
+                output: Output::Q,
+            },
+        }),
+        None,
+    ),
+    (
+        None,
+        Some(Transfer::Jump {
+            condition: Condition::IfTrue,
+            label: 0,
+        }),
+    ),
+    (None, Some(Transfer::Return(Condition::Always))),
+    (None, None),
+];
+
 #[test]
 fn transfers(rt: HostRuntime) -> Result<(), Fail> {
     let lines = "CAL T1(PT := T#5s)\nLD t1.q\nJMPC L\nRET\nl:\nEND_PROGRAM\n";
-    let text = format!(in rt.alloc(); "{}{lines}", declared())?;
-    let typed = checked(rt.alloc(), text.as_str())?;
-    let preset = TypedArgument {
-        input: Input::Pt,
-        operand: TypedOperand::Literal(Value::Span(5_000)),
-    };
-    let call = Transfer::Call {
-        timer: 0,
-        arguments: TypedArguments::One(preset),
-    };
-    let jump = Transfer::Jump {
-        condition: Condition::IfTrue,
-        label: 0,
-    };
-    let load = Operation::Load {
-        negated: false,
-        operand: TypedOperand::Output {
-            timer: 0,
-            output: Output::Q,
-        },
-    };
-    assert_eq!(rt; typed.items().len(), 5);
-    assert!(rt; transfer_of(typed.items().get(0)) == Some(call));
-    assert!(rt; operation_of(typed.items().get(1)) == Some(load));
-    assert!(rt; transfer_of(typed.items().get(2)) == Some(jump));
-    assert!(rt; transfer_of(typed.items().get(3)) == Some(Transfer::Return(Condition::Always)));
+    assert!(rt; leaves(rt.alloc(), lines, &TRANSFERS)?);
     Ok(())
+}
+
+/// Whether a fault says this.
+fn says(alloc: Global, fault: CheckFault, message: &str) -> Result<bool, AllocError> {
+    let text = format!(in alloc; "{fault}")?;
+    Ok(text.as_str() == message)
 }
 
 #[test]
 fn messages(rt: HostRuntime) -> Result<(), Fail> {
-    let faults = [
+    let alloc = rt.alloc();
+    for (fault, message) in [
         (CheckFault::UnknownName { line: 1 }, "the name is unknown"),
         (
             CheckFault::BackwardJump { line: 1 },
@@ -156,10 +227,8 @@ fn messages(rt: HostRuntime) -> Result<(), Fail> {
             "the instruction can't be reached",
         ),
         (CheckFault::OutOfMemory, "out of memory"),
-    ];
-    for (fault, message) in faults {
-        let text = format!(in rt.alloc(); "{fault}")?;
-        assert_eq!(rt; text.as_str(), message);
+    ] {
+        assert!(rt; says(alloc, fault, message)?, "{message}");
     }
     Ok(())
 }

@@ -4,13 +4,14 @@ use il_image::arithmetic::{Comparison, Operation, Width, compare, compute, conne
 use il_image::decode::decode;
 use il_image::encode::encode;
 use il_image::fault::ImageFault;
+use il_image::image::{Image, ImagePoint};
 use il_image::instr::Instr;
 use il_image::kind::{Kind, is_within, join};
 use il_image::opcode::{Connective, SlotUse, TimerUse, When, Widening};
 use il_image::read::instr_at;
 use il_image::timer::{Timer, TimerKind};
 use il_image::value::Value;
-use std::alloc::Global;
+use std::alloc::{AllocError, Global};
 use std::test::Fail;
 
 // `LD QA1_OPEN / ST QB1_ENA_OPN / ST QB1_ENA_CLS` in version 1.
@@ -222,75 +223,119 @@ const RESULTS: [(Operation, Width, i64, i64, i64); 14] = [
     (Operation::Sub, Width::Lint, i64::MIN, 1, i64::MAX),
 ];
 
-fn octets_again(alloc: Global, octets: &[u8]) -> Result<Vec<u8>, ImageFault> {
+/// The row, in this version.
+fn in_version(version: u8) -> [u8; 65] {
+    let mut octets = ROW;
+    octets[4] = version;
+    octets
+}
+
+/// Whether an image is written with these octets, once its own are read.
+fn is_written_as(alloc: Global, octets: &[u8], wanted: &[u8]) -> Result<bool, ImageFault> {
     let image = decode(alloc, octets)?;
-    Ok(encode(alloc, &image)?)
+    let again = encode(alloc, &image)?;
+    Ok(again.as_slice() == wanted)
 }
 
 #[test]
 fn images_are_read_and_written(rt: HostRuntime) -> Result<(), Fail> {
     let alloc = rt.alloc();
-    let mut second = ROW;
-    second[4] = 0x02;
-    assert!(rt; octets_again(alloc, &ROW)?.as_slice() == second.as_slice());
-    assert!(rt; octets_again(alloc, &second)?.as_slice() == second.as_slice());
-    assert!(rt; octets_again(alloc, &STORES)?.as_slice() == STORES.as_slice());
-    assert!(rt; octets_again(alloc, &ALL_TYPES)?.as_slice() == ALL_TYPES.as_slice());
-    second[4] = 0x03;
-    assert_eq!(rt; decode(alloc, &second).err(), Some(ImageFault::BadVersion));
-    assert_eq!(rt;
-        decode(alloc, &ROW[..64]).err(),
-        Some(ImageFault::Truncated)
-    );
+    let second = in_version(0x02);
+    assert!(rt; is_written_as(alloc, &ROW, &second)?);
+    assert!(rt; is_written_as(alloc, &second, &second)?);
+    assert!(rt; is_written_as(alloc, &STORES, &STORES)?);
+    assert!(rt; is_written_as(alloc, &ALL_TYPES, &ALL_TYPES)?);
     Ok(())
+}
+
+#[test]
+fn a_third_version_and_a_cut_row_are_refused(rt: HostRuntime) {
+    let third = in_version(0x03);
+    assert!(rt; is_refused(rt.alloc(), &third, ImageFault::BadVersion));
+    assert!(rt; is_refused(rt.alloc(), &ROW[..64], ImageFault::Truncated));
+}
+
+/// Points in words: name, type, and whether they may be written.
+fn points_text(alloc: Global, points: &[ImagePoint]) -> Result<String, AllocError> {
+    let mut text = String::new(alloc);
+    for point in points {
+        let (name, kind, writable) = (point.name.as_str(), point.elementary, point.writable);
+        let shown = format!(in alloc; "{name} {kind:?} {writable}; ")?;
+        text.push_str(shown.as_str())?;
+    }
+    Ok(text)
+}
+
+/// An image in words: the points, the variables, the timers, and how many octets of code there are.
+fn image_text(alloc: Global, image: &Image) -> Result<String, AllocError> {
+    let points = points_text(alloc, image.points())?;
+    let (variables, timers) = (image.variables(), image.timers());
+    let code = image.code().len();
+    format!(in alloc; "{}{variables:?} {timers:?} {code}", points.as_str())
+}
+
+/// Whether the image of these octets is this one in words.
+fn is_read_as(alloc: Global, octets: &[u8], wanted: &str) -> Result<bool, ImageFault> {
+    let image = decode(alloc, octets)?;
+    let text = image_text(alloc, &image)?;
+    Ok(text.as_str() == wanted)
 }
 
 #[test]
 fn images_hold_what_was_read(rt: HostRuntime) -> Result<(), Fail> {
     let alloc = rt.alloc();
-    let image = decode(alloc, &ROW)?;
-    let points = image.points();
-    assert_eq!(rt; points.len(), 3);
-    assert!(rt; points[0].name.as_str() == "QA1_OPEN");
-    assert!(rt; points[0].elementary == ElementaryType::Bool && !points[0].writable);
-    assert!(rt; points[2].name.as_str() == "QB1_ENA_CLS" && points[2].writable);
-    assert_eq!(rt; image.code().len(), 13);
-    let all = decode(alloc, &ALL_TYPES)?;
-    let values = [
-        Value::Truth(true),
-        Value::Short(-32_768),
-        Value::Long(2_147_483_647),
-        Value::Wide(i64::MIN),
-        Value::Span(500),
-    ];
-    assert!(rt; all.variables() == values.as_slice());
-    assert!(rt; all.timers() == [TimerKind::OnDelay, TimerKind::OffDelay].as_slice());
+    let row = "QA1_OPEN Bool false; QB1_ENA_OPN Bool true; QB1_ENA_CLS Bool true; [] [] 13";
+    assert!(rt; is_read_as(alloc, &ROW, row)?);
+    let all =
+        "[Truth(true), Short(-32768), Long(2147483647), Wide(-9223372036854775808), Span(500)] [OnDelay, OffDelay] 0";
+    assert!(rt; is_read_as(alloc, &ALL_TYPES, all)?);
     Ok(())
+}
+
+/// Whether these octets are refused with this fault.
+fn is_refused(alloc: Global, octets: &[u8], fault: ImageFault) -> bool {
+    match decode(alloc, octets) {
+        Ok(_) => false,
+        Err(found) => found == fault,
+    }
 }
 
 #[test]
 fn refusals(rt: HostRuntime) {
     for (octets, fault) in REFUSED.iter() {
-        assert_eq!(rt; decode(rt.alloc(), octets).err(), Some(*fault));
+        assert!(rt; is_refused(rt.alloc(), octets, *fault));
     }
+}
+
+#[test]
+fn numbers_of_faults(rt: HostRuntime) {
     for (fault, code) in CODES.iter() {
         assert_eq!(rt; fault.code(), *code);
     }
 }
 
+/// Whether an instruction is spelled with these octets, and they are it again between a DROP and a HALT.
+fn is_spelled(alloc: Global, octets: &[u8], instr: Instr) -> Result<bool, AllocError> {
+    let mut code = [0x06].to_vec(alloc)?;
+    instr.spell(&mut code)?;
+    let is_so = &code.as_slice()[1..] == octets;
+    code.push(0x01)?;
+    Ok(is_so && instr_at(code.as_slice(), 1) == Some((instr, 1 + octets.len())))
+}
+
 #[test]
 fn instructions(rt: HostRuntime) -> Result<(), Fail> {
     for (octets, instr) in INSTRS.iter() {
-        let mut code = [0x06].to_vec(rt.alloc())?;
-        instr.spell(&mut code)?;
-        assert!(rt; &code.as_slice()[1..] == *octets);
-        code.push(0x01)?;
-        assert!(rt; instr_at(code.as_slice(), 1) == Some((*instr, 1 + octets.len())));
+        assert!(rt; is_spelled(rt.alloc(), octets, *instr)?);
     }
+    Ok(())
+}
+
+#[test]
+fn octets_that_are_no_instruction(rt: HostRuntime) {
     for octets in NO_INSTRS.iter() {
         assert!(rt; instr_at(octets, 0).is_none());
     }
-    Ok(())
 }
 
 // How many images with one octet changed are read, and how many have each fault.
@@ -386,12 +431,30 @@ fn arithmetic(rt: HostRuntime) {
             assert_eq!(rt; compute(*operation, *width, *first, *second), *result);
         }
     }
+}
+
+#[test]
+fn wrapping_and_comparing(rt: HostRuntime) {
     assert_eq!(rt; wrap(Width::Int, 40_000), -25_536);
     assert!(rt; compare(Comparison::Lt, -1, 0) && !compare(Comparison::Ge, -1, 0));
     assert!(rt; connect(Connective::Xor, true, false) && !connect(Connective::Xor, true, true));
-    assert!(rt; widen(Widening::IntToDint, Value::Short(-5)) == Some(Value::Long(-5)));
-    assert!(rt; widen(Widening::DintToLint, Value::Long(7)) == Some(Value::Wide(7)));
-    assert!(rt; widen(Widening::DintToLint, Value::Short(7)).is_none());
+}
+
+#[test]
+fn widening(rt: HostRuntime) {
+    for (widening, value, wanted) in [
+        (Widening::IntToDint, Value::Short(-5), Some(Value::Long(-5))),
+        (Widening::DintToLint, Value::Long(7), Some(Value::Wide(7))),
+        (Widening::DintToLint, Value::Short(7), None),
+    ]
+    .iter()
+    {
+        assert!(rt; widen(*widening, *value) == *wanted);
+    }
+}
+
+#[test]
+fn values_of_numbers(rt: HostRuntime) {
     assert!(rt; Value::of(ElementaryType::Time, 2_147_483_648).is_none());
     assert!(rt; Value::of(ElementaryType::Int, -32_768) == Some(Value::Short(-32_768)));
     assert_eq!(rt; Value::Span(9).number(), 9);
@@ -427,21 +490,22 @@ const OFF_DELAY: [(bool, u32, u64, bool, u32); 7] = [
     (false, 0, 1_800, false, 0),
 ];
 
-#[test]
-fn timers(rt: HostRuntime) {
-    for (kind, rows) in [
-        (TimerKind::OnDelay, ON_DELAY),
-        (TimerKind::OffDelay, OFF_DELAY),
-    ]
-    .iter()
-    {
-        let mut timer = Timer::new(*kind);
-        for (input, preset, now, output, elapsed) in rows.iter() {
-            timer.input = *input;
-            timer.preset = *preset;
-            timer.call(*now);
-            assert_eq!(rt; timer.output, *output);
-            assert_eq!(rt; timer.elapsed, *elapsed);
+/// Whether a timer of this kind, called row by row, gives what each row says.
+fn gives(kind: TimerKind, rows: &[(bool, u32, u64, bool, u32)]) -> bool {
+    let mut timer = Timer::new(kind);
+    for (input, preset, now, output, elapsed) in rows {
+        timer.input = *input;
+        timer.preset = *preset;
+        timer.call(*now);
+        if timer.output != *output || timer.elapsed != *elapsed {
+            return false;
         }
     }
+    true
+}
+
+#[test]
+fn timers(rt: HostRuntime) {
+    assert!(rt; gives(TimerKind::OnDelay, &ON_DELAY));
+    assert!(rt; gives(TimerKind::OffDelay, &OFF_DELAY));
 }

@@ -29,13 +29,31 @@ fn unescaped(alloc: Global, line: &str) -> Result<String> {
     Ok(returns.replace(alloc, "\\t", "\t")?)
 }
 
+/// The number and the line of a refusal.
+fn refusal_in(number: &str, line: &str) -> Result<(u8, usize)> {
+    Ok((number.parse::<u8>()?, line.parse::<usize>()?))
+}
+
+/// The text that a line spells, with what stands around it.
+fn framed(alloc: Global, frame: Frame, line: &str) -> Result<String> {
+    let text = unescaped(alloc, line)?;
+    frame.around(alloc, text.as_str())
+}
+
 /// Whether a text is read, or refused with this number at this line: `NUMBER LINE TEXT`.
 fn is_judged(alloc: Global, frame: Frame, words: &str) -> Result<bool> {
     let (number, rest) = first_word(words);
     let (line, body) = first_word(rest);
-    let body = unescaped(alloc, body)?;
-    let text = frame.around(alloc, body.as_str())?;
-    Ok(outcome_of(alloc, text.as_str())? == (number.parse::<u8>()?, line.parse::<usize>()?))
+    let wanted = refusal_in(number, line)?;
+    let text = framed(alloc, frame, body)?;
+    Ok(outcome_of(alloc, text.as_str())? == wanted)
+}
+
+/// The program of so many equal lines of body, and what ends it, as lines spell them.
+fn repetition(alloc: Global, equal: &str, times: usize, end: &str) -> Result<String> {
+    let equal = unescaped(alloc, equal)?;
+    let end = unescaped(alloc, end)?;
+    repeated(alloc, equal.as_str(), times, end.as_str())
 }
 
 /// As `is_judged`, of a text of so many equal lines: `NUMBER LINE TIMES EQUAL|END`.
@@ -44,23 +62,26 @@ fn is_repetition_judged(alloc: Global, words: &str) -> Result<bool> {
     let (line, rest) = first_word(rest);
     let (times, rest) = first_word(rest);
     let (equal, end) = rest.split_once("|").context("no end")?;
-    let equal = unescaped(alloc, equal)?;
-    let end = unescaped(alloc, end)?;
-    let text = repeated(alloc, equal.as_str(), times.parse::<usize>()?, end.as_str())?;
-    Ok(outcome_of(alloc, text.as_str())? == (number.parse::<u8>()?, line.parse::<usize>()?))
+    let wanted = refusal_in(number, line)?;
+    let text = repetition(alloc, equal, times.parse::<usize>()?, end)?;
+    Ok(outcome_of(alloc, text.as_str())? == wanted)
+}
+
+/// What is shown of a text, by the word of its case.
+fn shown_of(alloc: Global, kind: &str, text: &str) -> Result<String> {
+    match kind {
+        "reads" => instruction_of(alloc, text),
+        "outline" => outline_of(alloc, text),
+        "says" => refusal_of(alloc, text),
+        _ => declarations_of(alloc, text),
+    }
 }
 
 /// Whether a text is read as it says: `WANTED|TEXT`.
-fn is_shown(alloc: Global, kind: &str, words: &str) -> Result<bool> {
+fn is_shown(alloc: Global, frame: Frame, kind: &str, words: &str) -> Result<bool> {
     let (wanted, text) = words.split_once("|").context("no text")?;
-    let text = unescaped(alloc, text)?;
-    let body = Frame::Body.around(alloc, text.as_str())?;
-    let shown = match kind {
-        "reads" => instruction_of(alloc, body.as_str())?,
-        "outline" => outline_of(alloc, body.as_str())?,
-        "says" => refusal_of(alloc, body.as_str())?,
-        _ => declarations_of(alloc, text.as_str())?,
-    };
+    let text = framed(alloc, frame, text)?;
+    let shown = shown_of(alloc, kind, text.as_str())?;
     Ok(shown.as_str() == wanted)
 }
 
@@ -73,24 +94,31 @@ fn agrees(alloc: Global, line: &str) -> Result<bool> {
         "local" => is_judged(alloc, Frame::Local, words),
         "external" => is_judged(alloc, Frame::External, words),
         "repeat" => is_repetition_judged(alloc, words),
-        "reads" | "outline" | "says" | "declares" => is_shown(alloc, kind, words),
+        "reads" | "outline" | "says" => is_shown(alloc, Frame::Body, kind, words),
+        "declares" => is_shown(alloc, Frame::Whole, kind, words),
         _ => bail!("what is this: {line}"),
     }
 }
 
-fn main(rt: HostRuntime) -> Result<()> {
-    let mut text = String::new(rt.alloc());
-    rt.reader().read_to_string(&mut text)?;
+/// How many cases the lines of a text have, each of which comes out as it says.
+fn run(alloc: Global, text: &str) -> Result<u32> {
     let mut cases = 0u32;
     for line in text.lines() {
         if line.starts_with("#") || line.is_empty() {
             continue;
         }
-        if !agrees(rt.alloc(), line)? {
+        if !agrees(alloc, line)? {
             bail!("not so: {line}");
         }
         cases = cases.saturating_add(1);
     }
+    Ok(cases)
+}
+
+fn main(rt: HostRuntime) -> Result<()> {
+    let mut text = String::new(rt.alloc());
+    rt.reader().read_to_string(&mut text)?;
+    let cases = run(rt.alloc(), text.as_str())?;
     println!(&rt; "{cases} cases agree")?;
     Ok(())
 }
