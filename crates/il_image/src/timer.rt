@@ -3,7 +3,7 @@ ghost use Rattle.std.specs.Prelude.{◌≡◌};
 ghost use Rattle.il_image.specs.Timers.{called, elapsed_of, first_state, output_of, phase_after};
 
 /// A kind of timer.
-#[derive(Clone, Copy, PartialEq, Eq)]
+#[derive(Clone, Copy, Debug, PartialEq, Eq)]
 pub enum TimerKind {
     /// TON: Q follows a TRUE of IN after the time PT.
     OnDelay,

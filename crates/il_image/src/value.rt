@@ -5,7 +5,7 @@ ghost use Rattle.il_image.specs.Values.{number_of, type_of, value_of};
 use bay_base::types::ElementaryType;
 
 /// A value of an elementary type.
-#[derive(Clone, Copy, PartialEq, Eq)]
+#[derive(Clone, Copy, Debug, PartialEq, Eq)]
 pub enum Value {
     /// A BOOL.
     Truth(bool),
