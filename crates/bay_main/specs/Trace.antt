@@ -117,7 +117,7 @@ event_of (verb ∷ word ∷ values) = option_and_then (λ name. named_of verb na
 abbrev pub words_line : List (List ℕ) → Option LineData
 words_line words = option_and_then (λ cut. option_map (at_moment cut.0) (event_of cut.1)) (first_number words)
 
--- an empty line says nothing; a line that is not UTF-8 can't be read, since all words but a name are ASCII
+-- an empty line says nothing; the words of another are read by their forms, in which all but a name are ASCII
 abbrev pub trace_line_of : List ℕ → Option LineData
 trace_line_of [] = Some blank
 trace_line_of (b ∷ bs) = words_line (slice_split is_space (b ∷ bs))
