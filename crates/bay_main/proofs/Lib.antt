@@ -3,4 +3,5 @@ pub mod CheckLemmas
 pub mod JobLemmas
 pub mod PieceLemmas
 pub mod ReportLemmas
+pub mod TextLemmas
 pub mod WordLemmas

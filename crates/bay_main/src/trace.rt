@@ -1,6 +1,7 @@
 // What a line of the trace says.
-ghost use Rattle.std.specs.Prelude.{◌≡◌, ◌∷◌, ◌≤◌, ◌^◌, ◌<◌, ℕ, length, option_map, Some, neg_ℤ, pos};
+ghost use Rattle.std.specs.Prelude.{◌≡◌, ◌∷◌, ◌≤◌, ◌^◌, ◌<◌, ℕ, length, option_map, IfSome, Some, neg_ℤ, pos};
 ghost use Rattle.std.specs.List.{slice_split};
+ghost use Rattle.std.specs.Str.{IsUtf8};
 ghost use Rattle.bay_main.specs.Trace.{is_space, rest_words, only_word, with_digit, read_number, first_number, positive_of, negative_of, read_integer, position_of, truth_of, field_of, name_of, measure_of, named_of, event_of, words_line, trace_line_of};
 ghost use Rattle.bay_main.specs.TraceView.{named_view, line_view};
 
@@ -249,7 +250,9 @@ fn moment_line(text: &[u8]) -> Option<TraceLine<'_>>
 
 /// What a line says, or None where it can't be read.
 pub fn read_trace_line(line: &[u8]) -> Option<TraceLine<'_>>
-    ensures { option_map line_view result ≡ trace_line_of line.now }
+    ensures line { option_map line_view result ≡ trace_line_of line.now }
+    // A line that can be read is UTF-8.
+    ensures text { IfSome result (λ _. IsUtf8 line.now) }
 {
     if line.is_empty() {
         return Some(TraceLine::Blank);
