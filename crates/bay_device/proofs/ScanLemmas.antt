@@ -41,13 +41,6 @@ interlocked layout writes bound all k b here =
     let is = all k b here in
     record { kinded = is.kinded; named = record { opening = ap (λ (n : SwitchNames). n.ena_opn) is.named; closing = ap (λ (n : SwitchNames). n.ena_cls) is.named } }
 
--- one value more of its type
-pub typed-more : (types : List ElementaryType) (values : List Value) (t : ElementaryType) (v : Value) → AreTyped types values → type_of v ≡ t → IsValue v → AreTyped (types ++ t ∷ []) (values ++ v ∷ [])
-typed-more [] [] t v h e is = ((e, is), tt)
-typed-more [] (w ∷ values) t v h e is = absurd h
-typed-more (u ∷ types) [] t v h e is = absurd h
-typed-more (u ∷ types) (w ∷ values) t v h e is = (h.0, typed-more types values t v h.1 e is)
-
 -- what is read at handles is read by names
 module _ (d : DeviceState) where
   switch-named : (k : ℕ) (point : SwitchPoint) (b : Option BoundSwitch) → slice_get d.switches k ≡ b

@@ -15,12 +15,11 @@ use Rattle.bay_device.specs.declared.parts.WiredMachine.{WiredMachine}
 use Rattle.bay_device.specs.declared.rows.SwitchRows.{SwitchRows}
 use Rattle.bay_device.specs.declared.switch.BoundSwitch.{BoundSwitch}
 
--- a machine with an image before its first scan, what the image's points stand for among the bay's, and room for those that are read
+-- a machine with an image before its first scan, what the image's points stand for among the bay's
 pub record IsWired (bay : List Point) (image : Image) (wired : WiredMachine) : Type 0 where
   pub machine : wired.machine ≡ held_first image
   pub reads : wired.reads.items ≡ origins_of false bay image.points
   pub writes : wired.writes.items ≡ origins_of true bay image.points
-  pub sized : length wired.room ≡ length wired.reads.items
 
 -- the switches, each with rows that its nodes name, and the places of their interlocking values
 pub record AreBoundSwitches (layout : Layout) (writes : List Origin) (switches : List Switch) (nodes : List Nodes) (bound : List BoundSwitch) : Type 0 where

@@ -7,11 +7,10 @@ ghost use Rattle.bay_device.specs.Load.{origin_of, origins_of};
 
 use crate::rows::SwitchRows;
 use crate::switch::{BoundSwitch, SwitchOutputs};
-use crate::values::{Inputs, ToldValues, Truths};
+use crate::values::{ToldValues, Truths};
 use bay_base::text::Text;
 use bay_config::bay::{Origin, Point, Switch, SwitchPoint};
 use il_image::image::ImagePoint;
-use il_image::value::Value;
 use std::alloc::{AllocError, Global};
 
 /// Whether an image's point is this point of the bay.
@@ -120,17 +119,6 @@ pub fn falses(alloc: Global, inputs: &[Text]) -> Result<Truths, AllocError>
         values.push(false)?;
     }
     Ok(Truths::new(values))
-}
-
-/// Room for a value of each point that is read.
-pub fn room_for(alloc: Global, reads: &[Origin]) -> Result<Inputs, AllocError>
-    ensures { IfOk result (λ inputs. length inputs ≡ length reads.now) }
-{
-    let mut values = Vec::new(alloc);
-    for _read in reads {
-        values.push(Value::Truth(false))?;
-    }
-    Ok(Inputs::new(values))
 }
 
 /// That no interlocking value was written yet, for each switch.

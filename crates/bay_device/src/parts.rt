@@ -6,12 +6,12 @@ ghost use Rattle.bay_device.specs.Layout.{layout_of};
 ghost use Rattle.bay_device.specs.Nodes.{AreAllMeters, AreAllNodes, HasSwitches, HaveMeters};
 ghost use Rattle.bay_device.specs.Parts.{AreBoundRows, AreBoundSwitches, IsWired};
 
-use crate::bind::{bind_switches, nothing_told, origins_of, room_for};
+use crate::bind::{bind_switches, nothing_told, origins_of};
 use crate::meter::BoundMeter;
 use crate::meters::{all_meter_nodes, bind_meters};
 use crate::nodes::{Nodes, all_nodes, all_switch_rows};
 use crate::switch::BoundSwitch;
-use crate::values::{Inputs, ToldValues};
+use crate::values::ToldValues;
 use bay_base::text::Text;
 use bay_config::bay::{Bay, Origin, Point, Switch};
 use bay_tree::row::Row;
@@ -27,8 +27,6 @@ pub struct WiredMachine {
     /// What the points stand for that the program only reads, and those that it may write, in the order of its points.
     pub reads: Vec<Origin>,
     pub writes: Vec<Origin>,
-    /// Room for the values of the points that are read.
-    pub room: Inputs,
 }
 
 /// A machine with a verified image, before its first scan.
@@ -52,13 +50,11 @@ pub fn wired_machine(
     let points = verified.image().points();
     let reads = origins_of(alloc, false, bay, points)?;
     let writes = origins_of(alloc, true, bay, points)?;
-    let room = room_for(alloc, reads.as_slice())?;
     let machine = machine_of(alloc, verified)?;
     Ok(WiredMachine {
         machine,
         reads,
         writes,
-        room,
     })
 }
 

@@ -17,11 +17,12 @@ use crate::rows::{
     StatusRows, SwitchRows, count_at, is_position, is_quality, is_truth, position_at, put_status,
 };
 use crate::switch::{BoundSwitch, Enabled};
-use crate::values::{Inputs, ToldValues, Truths};
+use crate::values::{ToldValues, Truths};
 use bay_config::bay::{MeterField, Origin, SwitchPoint};
 use bay_tree::leaf::{Dbpos, Leaf, Quality};
 use bay_tree::tree::Tree;
 use il_image::value::Value;
+use il_scan::points::{Inputs, Outputs};
 
 /// The number of a position (IEC 61850-8-1, Dbpos): 0 intermediate, 1 off, 2 on, 3 bad.
 fn number_of_position(position: Dbpos) -> i16
@@ -109,25 +110,41 @@ fn point_value(
     }
 }
 
-/// Gives each point that is read the value of the contacts, the inputs and the measures.
-pub fn read_points(
-    tree: &Tree,
-    switches: &[BoundSwitch],
-    inputs: &Truths,
-    meters: &[BoundMeter],
-    reads: &[Origin],
-    room: &mut Inputs,
-)
-    requires switches { AreKinded (layout_of tree.now) switches.now }
-    requires meters { AreMeterKinded (layout_of tree.now) meters.now }
-    requires sized { length room.old ≡ length reads.now }
-    ensures read { room.new ≡ map (bound_value tree.now switches.now inputs.now meters.now) reads.now }
-    ensures typed { AreTyped (map type_of_origin reads.now) room.new }
-{
-    for i in 0..reads.len() {
-        let value = point_value(tree, switches, inputs, meters, reads[i]);
-        room.set(i, value);
+/// The points that are read, with what gives them their values.
+#[derive(Drop)]
+pub struct ReadPoints<'a> {
+    pub tree: &'a Tree,
+    pub switches: &'a [BoundSwitch],
+    pub inputs: &'a Truths,
+    pub meters: &'a [BoundMeter],
+    pub reads: &'a [Origin],
+    ghost kinded: { AreKinded (layout_of tree.now) switches.now },
+    ghost metered: { AreMeterKinded (layout_of tree.now) meters.now },
+}
+
+impl<'a> Inputs for ReadPoints<'a> {
+    ghost use Rattle.std.specs.Prelude.{map};
+    ghost use Rattle.std.proofs.Common.{sym, ◌∙◌};
+    ghost use Rattle.std.proofs.lemmas.List.{length-map};
+    ghost use Rattle.bay_device.specs.Meaning.{type_of_origin};
+    ghost use Rattle.bay_device.specs.Scans.{bound_value};
+
+    ghost types = { λ points. map type_of_origin points.reads.now };
+
+    ghost values = { λ points. map (bound_value points.tree.now points.switches.now points.inputs.now points.meters.now) points.reads.now };
+
+    #[inline(always)]
+    fn input(&self, place: usize) -> Value {
+        point_value(
+            self.tree,
+            self.switches,
+            self.inputs,
+            self.meters,
+            self.reads[place],
+        )
     }
+
+    ghost sized = { λ points. length-map points.reads.now (bound_value points.tree.now points.switches.now points.inputs.now points.meters.now) ∙ sym (length-map points.reads.now type_of_origin) };
 }
 
 /// Gives an interlocking value the value of its point.
@@ -146,12 +163,12 @@ fn set_enabled(tree: &mut Tree, rows: StatusRows, value: bool, now: u64)
 }
 
 /// The value of an output: FALSE where the program does not name its point.
-fn output(outputs: &[Value], place: Option<usize>) -> bool
+fn output(outputs: &Outputs<'_>, place: Option<usize>) -> bool
     ensures { result ≡ is_true (output_at place outputs.now) }
 {
     match place {
         Some(place) => match outputs.get(place) {
-            Some(Value::Truth(value)) => *value,
+            Some(Value::Truth(value)) => value,
             _ => false,
         },
         None => false,
@@ -208,7 +225,7 @@ pub fn write_outputs(
     tree: &mut Tree,
     told: &mut ToldValues,
     switches: &[BoundSwitch],
-    outputs: &[Value],
+    outputs: &Outputs<'_>,
     now: u64,
 )
     requires interlocked { AreInterlocked (layout_of tree.old) switches.now }

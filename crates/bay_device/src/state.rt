@@ -9,7 +9,7 @@ ghost use Rattle.bay_device.specs.Told.{AreTold};
 use crate::meter::BoundMeter;
 use crate::switch::BoundSwitch;
 use crate::table::NameTables;
-use crate::values::{Inputs, ToldValues, Truths};
+use crate::values::{ToldValues, Truths};
 use bay_base::listing::Listing;
 use bay_base::text::Text;
 use bay_config::bay::Origin;
@@ -42,8 +42,6 @@ pub struct DeviceState {
     /// What the points stand for that the program only reads, and those that it may write, in the order of its points.
     pub reads: Listing<Origin>,
     pub writes: Listing<Origin>,
-    /// Room for the values of the points that are read.
-    pub room: Inputs,
     pub machine: Machine,
     /// The moment of the last accepted event, in milliseconds since 1970.
     pub moment: u64,
@@ -57,5 +55,4 @@ pub struct DeviceState {
     ghost told_sized: { length told ≡ length switches },
     ghost tabled: { AreTables switches inputs meters tables },
     ghost typed: { map type_of_origin reads ≡ map type_of_point (read_only machine.image.points) },
-    ghost sized: { length room ≡ length reads },
 }

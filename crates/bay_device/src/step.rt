@@ -9,7 +9,7 @@ use crate::contact::take_position;
 use crate::event::{Event, LAST_MOMENT, Step};
 use crate::fault::StepFault;
 use crate::meter::take_measure;
-use crate::scan::{read_points, write_outputs};
+use crate::scan::{ReadPoints, write_outputs};
 use crate::state::DeviceState;
 use crate::values::same_truth;
 use bay_config::bay::MeterField;
@@ -74,21 +74,19 @@ impl DeviceState {
         ensures steps { result ≡ (ran_at now (state_view self.old)).steps }
         ensures halts { Halts now (state_view self.old) }
     {
-        read_points(
-            &self.tree,
-            self.switches.as_slice(),
-            &self.input_values,
-            self.meters.as_slice(),
-            self.reads.as_slice(),
-            &mut self.room,
-        );
-        let scan = self.machine.scan(self.room.as_slice(), now);
-        let steps = scan.steps;
+        let points = ReadPoints {
+            tree: &self.tree,
+            switches: self.switches.as_slice(),
+            inputs: &self.input_values,
+            meters: self.meters.as_slice(),
+            reads: self.reads.as_slice(),
+        };
+        let steps = self.machine.scan_points(&points, now);
         write_outputs(
             &mut self.tree,
             &mut self.told,
             self.switches.as_slice(),
-            scan.outputs,
+            &self.machine.outputs(),
             now,
         );
         self.last_scan = Some(now);

@@ -4,7 +4,6 @@ ghost use Rattle.bay_device.specs.Device.{same_truth};
 ghost use Rattle.bay_device.specs.Told.{told_at};
 
 use crate::switch::Enabled;
-use il_image::value::Value;
 use std::marker::Model;
 
 /// The values of the inputs.
@@ -45,45 +44,6 @@ impl Truths {
 
     /// Gives a place a new value.
     pub fn set(&mut self, place: usize, value: bool)
-        requires { place < length self.old }
-        ensures { self.new ≡ slice_set self.old place value }
-    {
-        self.values[place] = value;
-    }
-}
-
-/// Room for what a scan reads: a value for each point that the program only reads.
-#[derive(Drop)]
-pub struct Inputs {
-    values: Vec<Value>,
-}
-
-impl Model for Inputs {
-    ghost use Rattle.std.specs.Prelude.{List};
-    ghost use Rattle.il_image.specs.declared.value.Value.{Value as ImageValue};
-
-    ghost Value = { List ImageValue };
-
-    ghost view = { λ v. v.values.items };
-}
-
-impl Inputs {
-    /// These values. It takes no memory.
-    pub fn new(values: Vec<Value>) -> Self
-        ensures { result ≡ values.items }
-    {
-        Inputs { values }
-    }
-
-    /// The values.
-    pub fn as_slice(&self) -> &[Value]
-        ensures { result.now ≡ self.now }
-    {
-        self.values.as_slice()
-    }
-
-    /// Gives a place a new value.
-    pub fn set(&mut self, place: usize, value: Value)
         requires { place < length self.old }
         ensures { self.new ≡ slice_set self.old place value }
     {

@@ -1,11 +1,13 @@
 -- Inputs and outputs by the places of their points.
-use Rattle.std.proofs.Common.{◌≡◌, ℕ, zero, suc, ◌+◌, ◌<◌, ◌≤◌, ℤ, Bool, true, false, not, cond, List, [], ◌∷◌, ◌++◌, length, map, drop, refl, sym, ap, subst, ◌∙◌, arith, Option, Some}
+use Rattle.std.proofs.Common.{◌≡◌, take, ℕ, zero, suc, ◌+◌, ◌<◌, ◌≤◌, ℤ, Bool, true, false, not, cond, List, [], ◌∷◌, ◌++◌, length, map, drop, refl, sym, ap, subst, ◌∙◌, arith, Option, Some, None}
 use Rattle.std.specs.Prelude.{IsSome, slice_get, slice_set, slice_index_or}
+use Rattle.bay_base.specs.declared.types.ElementaryType.{ElementaryType}
+use Rattle.il_image.specs.Images.{IsValue}
 use Rattle.il_image.specs.declared.image.ImagePoint.{ImagePoint}
 use Rattle.il_image.specs.declared.value.Value.{Value}
-use Rattle.il_image.specs.Values.{number_of, value_of}
+use Rattle.il_image.specs.Values.{number_of, type_of, value_of}
 use Rattle.il_scan.specs.Places.{AllBelow, output_value, read_places, value_there, with_words, write_places}
-use Rattle.il_scan.specs.Scans.{AreInputs, first_input, read_only, type_of_point, with_inputs, writable_count}
+use Rattle.il_scan.specs.Scans.{AreValues, first_input, read_only, type_of_point, with_inputs, writable_count}
 use Rattle.il_scan.specs.Standing.{AreWords, given_by}
 use Rattle.il_scan.specs.Words.{AreTyped, slot_at, value_at, words_of}
 
@@ -57,16 +59,29 @@ pub so_many_writes : (n : ℕ) (points : List ImagePoint) → writable_count poi
 so_many_writes n [] = refl
 so_many_writes n (p ∷ points) = count_case p.writable n (writable_count points) (write_places (n + 1) points) (so_many_writes (n + 1) points)
 
-reads_case : (b : Bool) (n : ℕ) (p : ImagePoint) (points : List ImagePoint) (inputs : List Value) → ((left : List Value) → AreInputs points left → length left ≡ length (read_places (n + 1) points))
-    → AreTyped (map type_of_point (cond (not b) (p ∷ read_only points) (read_only points))) inputs → length inputs ≡ length (cond b (read_places (n + 1) points) (n ∷ read_places (n + 1) points))
-reads_case true n p points inputs rest h = rest inputs h
-reads_case false n p points [] rest h = absurd h
-reads_case false n p points (i ∷ inputs) rest h = ap suc (rest inputs h.1)
+types_case : (b : Bool) (n : ℕ) (p : ImagePoint) (points : List ImagePoint) → length (map type_of_point (read_only points)) ≡ length (read_places (n + 1) points)
+    → length (map type_of_point (cond (not b) (p ∷ read_only points) (read_only points))) ≡ length (cond b (read_places (n + 1) points) (n ∷ read_places (n + 1) points))
+types_case true n p points e = e
+types_case false n p points e = ap suc e
 
-pub so_many_reads : (n : ℕ) (points : List ImagePoint) (inputs : List Value) → AreInputs points inputs → length inputs ≡ length (read_places n points)
-so_many_reads n [] [] h = refl
-so_many_reads n [] (i ∷ inputs) h = absurd h
-so_many_reads n (p ∷ points) inputs h = reads_case p.writable n p points inputs (λ left g. so_many_reads (n + 1) points left g) h
+pub so_many_types : (n : ℕ) (points : List ImagePoint) → length (map type_of_point (read_only points)) ≡ length (read_places n points)
+so_many_types n [] = refl
+so_many_types n (p ∷ points) = types_case p.writable n p points (so_many_types (n + 1) points)
+
+-- ---- values of their types
+
+pub are_values : (types : List ElementaryType) (values : List Value) → AreTyped types values → AreValues values
+are_values [] [] h k v e = absurd cc
+are_values [] (w ∷ values) h k v e = absurd h
+are_values (t ∷ types) [] h k v e = absurd h
+are_values (t ∷ types) (w ∷ values) h zero v e = let same : w ≡ v = cc in subst IsValue same h.0.1
+are_values (t ∷ types) (w ∷ values) h (suc k) v e = are_values types values h.1 k v e
+
+pub types_of : (types : List ElementaryType) (values : List Value) → AreTyped types values → map type_of values ≡ types
+types_of [] [] h = refl
+types_of [] (w ∷ values) h = absurd h
+types_of (t ∷ types) [] h = absurd h
+types_of (t ∷ types) (w ∷ values) h = ap (λ u. u ∷ map type_of values) h.0.0 ∙ ap (λ (us : List ElementaryType). t ∷ us) (types_of types values h.1)
 
 -- ---- inputs
 
@@ -113,18 +128,43 @@ below_at most [] k h l = absurd (omega (arith, l))
 below_at most (n ∷ places) zero h l = h.0
 below_at most (n ∷ places) (suc k) h l = below_at most places k h.1 (omega (arith, l))
 
-pub words_step : (reads : List ℕ) (inputs : List Value) (slots : List ℤ) (k : ℕ) (v : Value) → k < length reads → length inputs ≡ length reads
-    → with_words (drop k reads) (drop k (words_of inputs)) slots ≡ with_words (drop (k + 1) reads) (drop (k + 1) (words_of inputs)) (slice_set slots (slice_index_or reads k 0) (number_of (slice_index_or inputs k v)))
-words_step [] inputs slots k v l e = absurd (omega (arith, l))
-words_step (n ∷ reads) [] slots k v l e = absurd (omega (arith, e))
-words_step (n ∷ reads) (i ∷ inputs) slots zero v l e = refl
-words_step (n ∷ reads) (i ∷ inputs) slots (suc k) v l e =
+pub put_step : (reads : List ℕ) (inputs : List Value) (slots : List ℤ) (k : ℕ) (v : Value) → k < length reads → slice_get inputs k ≡ Some v
+    → with_words (drop k reads) (drop k (words_of inputs)) slots ≡ with_words (drop (k + 1) reads) (drop (k + 1) (words_of inputs)) (slice_set slots (slice_index_or reads k 0) (number_of v))
+put_step [] inputs slots k v l e = absurd (omega (arith, l))
+put_step (n ∷ reads) [] slots k v l e = absurd cc
+put_step (n ∷ reads) (i ∷ inputs) slots zero v l e =
+    let same : i ≡ v = cc in
+    ap (λ (x : Value). with_words reads (words_of inputs) (slice_set slots n (number_of x))) same
+put_step (n ∷ reads) (i ∷ inputs) slots (suc k) v l e =
     let on : suc (k + 1) ≡ suc k + 1 = omega arith in
-    let x : ℤ = number_of (slice_index_or inputs k v) in
-    words_step reads inputs slots k v (omega (arith, l)) (omega (arith, e))
-    ∙ ap (λ (m : ℕ). with_words (drop m (n ∷ reads)) (drop m (words_of (i ∷ inputs))) (slice_set slots (slice_index_or reads k 0) x)) on
+    put_step reads inputs slots k v (omega (arith, l)) e
+    ∙ ap (λ (m : ℕ). with_words (drop m (n ∷ reads)) (drop m (words_of (i ∷ inputs))) (slice_set slots (slice_index_or reads k 0) (number_of v))) on
+
+-- one value more is of its type
+pub typed_more : (types : List ElementaryType) (values : List Value) (k : ℕ) (t : ElementaryType) (v : Value) → AreTyped (take k types) (take k values)
+    → slice_get types k ≡ Some t → slice_get values k ≡ Some v → type_of v ≡ t → IsValue v → AreTyped (take (k + 1) types) (take (k + 1) values)
+typed_more [] values k t v h a b e is = absurd cc
+typed_more (u ∷ types) [] k t v h a b e is = absurd cc
+typed_more (u ∷ types) (w ∷ values) zero t v h a b e is =
+    let first : t ≡ u = cc in
+    let second : v ≡ w = cc in
+    ((subst (λ (x : Value). type_of x ≡ u) second (e ∙ first), subst IsValue second is), tt)
+typed_more (u ∷ types) (w ∷ values) (suc k) t v h a b e is =
+    let on : suc (k + 1) ≡ suc k + 1 = omega arith in
+    subst (λ (m : ℕ). AreTyped (take m (u ∷ types)) (take m (w ∷ values))) on (h.0, typed_more types values k t v h.1 a b e is)
 
 -- ---- outputs
+
+-- what a function gives of the element at a place
+pub mapped_at : (f : ℕ → Value) (places : List ℕ) (k : ℕ) → k < length places → slice_get (map f places) k ≡ Some (f (slice_index_or places k 0))
+mapped_at f [] k l = absurd (omega (arith, l))
+mapped_at f (n ∷ places) zero l = refl
+mapped_at f (n ∷ places) (suc k) l = mapped_at f places k (omega (arith, l))
+
+pub mapped_none : (f : ℕ → Value) (places : List ℕ) (k : ℕ) → length places ≤ k → slice_get (map f places) k ≡ None
+mapped_none f [] k l = refl
+mapped_none f (n ∷ places) zero l = absurd (omega (arith, l))
+mapped_none f (n ∷ places) (suc k) l = mapped_none f places k (omega (arith, l))
 
 get_behind : (front : List ImagePoint) (p : ImagePoint) (points : List ImagePoint) → slice_get (front ++ (p ∷ points)) (length front) ≡ Some p
 get_behind [] p points = refl

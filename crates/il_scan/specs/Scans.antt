@@ -7,7 +7,7 @@ use Rattle.il_image.specs.declared.timer.Timer.{Timer}
 use Rattle.il_image.specs.declared.value.Value.{Value}
 use Rattle.il_image.specs.declared.value.Value.TheVariants.{Truth, Short, Long, Wide, Span}
 use Rattle.std.specs.Prelude.{pos}
-use Rattle.il_image.specs.Images.{Image}
+use Rattle.il_image.specs.Images.{Image, IsValue}
 use Rattle.il_image.specs.Machine.{Goes, Halted, State, run, start, turn}
 use Rattle.il_image.specs.Timers.{first_state}
 use Rattle.il_image.specs.Values.{number_of, type_of, value_of}
@@ -51,6 +51,10 @@ type_of_point p = p.elementary
 -- There is one input for each point that may only be read, in the table's order, and it is of its type.
 abbrev pub AreInputs : List ImagePoint → List Value → Type 0
 AreInputs points inputs = AreTyped (map type_of_point (read_only points)) inputs
+
+-- Each is a value of its type.
+abbrev pub AreValues : List Value → Type 0
+AreValues values = (k : ℕ) (v : Value) → slice_get values k ≡ Some v → IsValue v
 
 -- The value is one of the type.
 abbrev pub is_of : ElementaryType → Value → Bool

@@ -6,12 +6,14 @@
 // - `act`: what each instruction does.
 // - `run`: a run of the code, from its first instruction to a HALT.
 // - `slots`: inputs and outputs, and what slots hold at first.
+// - `points`: inputs and outputs point by point.
 // - `machine`: the machine, and its scans.
 #![tactic(auto)]
 
 pub(crate) mod act;
 pub(crate) mod fetch;
 pub mod machine;
+pub mod points;
 pub(crate) mod run;
 pub(crate) mod slots;
 pub(crate) mod stack;

@@ -1,16 +1,20 @@
 // The machine, which runs a verified image scan by scan.
-ghost use Rattle.std.specs.Prelude.{◌≡◌, ◌↔◌, IfErr, IfOk, IsTrue};
+ghost use Rattle.std.specs.Prelude.{◌≡◌, ◌↔◌, IfErr, IfOk, IsTrue, map};
 ghost use Rattle.std.specs.Borrow.{sem};
 ghost use Rattle.std.specs.Io.BufRead.{Rests};
-ghost use Rattle.il_scan.specs.Scans.{AreInputs, Scans, held_first};
-ghost use Rattle.il_scan.specs.Standing.{IsKept, held};
+ghost use Rattle.il_scan.specs.Places.{read_places};
+ghost use Rattle.il_scan.specs.Scans.{AreInputs, Scans, held_first, outputs_of, read_only, type_of_point};
+ghost use Rattle.il_scan.specs.Standing.{IsHeld, IsKept, held};
+ghost use Rattle.il_scan.specs.Words.{values_of};
+ghost use Rattle.il_image.specs.Tables.{slot_types};
 ghost use Rattle.il_scan.specs.contracts.machine.Machine.{the_row};
 ghost use Rattle.il_verify.specs.Verdicts.{IsSafe};
 
+use crate::points::{Inputs, Listed, Outputs};
 use crate::run::run;
 use crate::slots::{
-    Places, are_inputs, first_slots, first_timers, give_outputs, places_of, room_for_outputs,
-    take_inputs,
+    Places, are_inputs, first_slots, first_timers, give_outputs, places_of, read_inputs,
+    room_for_outputs,
 };
 use il_image::image::Image;
 use il_image::timer::Timer;
@@ -75,7 +79,27 @@ fn memory_of(alloc: Global, image: &Image) -> Result<Memory, AllocError>
     })
 }
 
-/// A scan over words: takes the inputs, runs the code, and gives the outputs.
+/// A scan over words: takes the inputs, and runs the code.
+fn run_points<I: Inputs>(
+    image: &Image,
+    inputs: &I,
+    now: u64,
+    slots: &mut [i64],
+    timers: &mut [Timer],
+    reads: &[usize],
+) -> u32
+    requires safe { IsSafe image.now }
+    requires types { I.types inputs.now ≡ map type_of_point (read_only image.now.points) }
+    requires held { IsHeld image.now slots.old timers.old }
+    requires read { reads.now ≡ read_places 0 image.now.points }
+    ensures scans { Scans (held image.now slots.old timers.old) (I.values inputs.now) now (held image.now slots.new timers.new) result (outputs_of image.now.points (values_of (slot_types image.now) slots.new)) }
+    ensures held { IsHeld image.now slots.new timers.new }
+{
+    read_inputs(reads, inputs, slots);
+    run(image, now, slots, timers)
+}
+
+/// A scan over words whose inputs and outputs are lists.
 fn run_once(
     image: &Image,
     inputs: &[Value],
@@ -91,8 +115,8 @@ fn run_once(
     ensures scans { Scans (held image.now slots.old timers.old) inputs.now now (held image.now slots.new timers.new) result outputs.new }
     ensures kept { IsKept image.now slots.new timers.new places.now.reads.items places.now.writes.items outputs.new }
 {
-    take_inputs(places.reads.as_slice(), inputs, slots);
-    let steps = run(image, now, slots, timers);
+    let inputs = Listed { values: inputs };
+    let steps = run_points(image, &inputs, now, slots, timers, places.reads.as_slice());
     give_outputs(image.points(), places.writes.as_slice(), slots, outputs);
     steps
 }
@@ -139,7 +163,35 @@ impl Machine {
 
     /// One scan: the points that may only be read take the inputs, of which there is one for each in the image's order, of its type; the
     /// code runs once from its first instruction to a HALT, at the moment `now` in milliseconds; and the points that may be written are
-    /// the outputs. It refuses nothing and takes no memory. A timer's start after the moment counts as no time gone.
+    /// the outputs, which `outputs` gives. It counts the instructions that were executed, HALT among them. It refuses nothing and takes
+    /// no memory. A timer's start after the moment counts as no time gone.
+    pub fn scan_points<I: Inputs>(&mut self, inputs: &I, now: u64) -> u32
+        requires { I.types inputs.now ≡ map type_of_point (read_only self.old.image.points) }
+        ensures { Scans self.old (I.values inputs.now) now self.new result (outputs_of self.new.image.points self.new.slots) }
+    {
+        run_points(
+            self.verified.image(),
+            inputs,
+            now,
+            self.slots.as_mut_slice(),
+            self.timers.as_mut_slice(),
+            self.places.reads.as_slice(),
+        )
+    }
+
+    /// The values of the points that may be written, as they stand.
+    #[inline(always)]
+    pub fn outputs(&self) -> Outputs<'_>
+        ensures { result ≡ outputs_of self.now.image.points self.now.slots }
+    {
+        Outputs::new(
+            self.verified.image().points(),
+            self.places.writes.as_slice(),
+            self.slots.as_slice(),
+        )
+    }
+
+    /// One scan, as `scan_points` does it, whose inputs and outputs are lists.
     pub fn scan(&mut self, inputs: &[Value], now: u64) -> Scan<'_>
         requires { AreInputs self.old.image.points inputs.now }
         ensures* after { sem 𝓛 (Rests the_row self.entry (λ last. Scans self.old inputs.now now last result.steps result.outputs.now)) }

@@ -6,8 +6,9 @@ ghost use Rattle.il_scan.specs.Scans as scans;
 ghost use Rattle.il_scan.specs.Scans.{writable_count};
 ghost use Rattle.il_scan.specs.Standing.{AreWords};
 ghost use Rattle.il_scan.specs.Places.{AllBelow, output_value, read_places, with_words, write_places};
-ghost use Rattle.il_scan.specs.Words.{slot_at, value_at, words_of};
+ghost use Rattle.il_scan.specs.Words.{AreTyped, slot_at, value_at, words_of};
 
+use crate::points::Inputs;
 use bay_base::types::ElementaryType;
 use il_image::image::{Image, ImagePoint};
 use il_image::timer::{Timer, TimerKind};
@@ -86,6 +87,7 @@ pub(crate) fn places_of(alloc: Global, points: &[ImagePoint]) -> Result<Places, 
 }
 
 /// Puts an input into the slot at a place.
+#[inline(always)]
 fn take_input(slots: &mut [i64], place: usize, input: Value)
     requires { place < length slots.old }
     ensures { slots.new ≡ slice_set slots.old place (values.number_of input) }
@@ -94,17 +96,20 @@ fn take_input(slots: &mut [i64], place: usize, input: Value)
 }
 
 /// Puts inputs into the slots at these places, one for each in their order.
-pub(crate) fn take_inputs(reads: &[usize], inputs: &[Value], slots: &mut [i64])
+#[inline(always)]
+pub(crate) fn read_inputs<I: Inputs>(reads: &[usize], inputs: &I, slots: &mut [i64])
     requires within { AllBelow (length slots.old) reads.now }
-    requires sized { length inputs.now ≡ length reads.now }
-    ensures { slots.new ≡ with_words reads.now (words_of inputs.now) slots.old }
+    requires sized { length (I.types inputs.now) ≡ length reads.now }
+    ensures slots { slots.new ≡ with_words reads.now (words_of (I.values inputs.now)) slots.old }
+    ensures typed { AreTyped (I.types inputs.now) (I.values inputs.now) }
 {
     for k in 0..reads.len() {
-        take_input(slots, reads[k], inputs[k]);
+        take_input(slots, reads[k], inputs.input(k));
     }
 }
 
 /// The value of a type that a word stands for.
+#[inline(always)]
 fn value_of(elementary: ElementaryType, word: i64) -> Value
     requires { IsSome (values.value_of elementary word) }
     ensures { result ≡ value_at elementary word }
@@ -116,7 +121,8 @@ fn value_of(elementary: ElementaryType, word: i64) -> Value
 }
 
 /// The value of the point at a place.
-fn output_value(points: &[ImagePoint], slots: &[i64], place: usize) -> Value
+#[inline(always)]
+pub(crate) fn output_value(points: &[ImagePoint], slots: &[i64], place: usize) -> Value
     requires words { AreWords points.now slots.now }
     requires within { place < length points.now }
     ensures { result ≡ output_value points.now slots.now place }

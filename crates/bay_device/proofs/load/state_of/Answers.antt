@@ -40,7 +40,6 @@ invariant_of-result c =
       told_sized = ap length did.told ∙ length-map c.in_ok-bound.bound.switches.items _ ∙ sym (ap length c.new.ensures);
       tabled = rw (c.new.ensures, c.new-2.ensures) (rw (c.as_slice-5.ensures.value, c.as_slice-6.ensures, c.as_slice-7.ensures.value) at c.tables_of-tables.ensures);
       typed = ap (map type_of_origin) read ∙ typed ∙ sym (ap (λ (h : Held). map type_of_point (read_only h.image.points)) wired.machine);
-      sized = wired.sized ∙ sym (ap length c.new-3.ensures);
     }
 
 pub returns : goal.returns

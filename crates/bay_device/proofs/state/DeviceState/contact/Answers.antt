@@ -31,7 +31,6 @@ invariant_of-self c =
       told_sized = d.told_sized;
       tabled = d.tabled;
       typed = d.typed;
-      sized = d.sized;
     }
 
 pub returns-clause-after : goal.returns-clause-after

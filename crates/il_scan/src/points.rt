@@ -1,0 +1,105 @@
+// Inputs that are read point by point, and outputs that are given so, without a list of either.
+ghost use Rattle.std.specs.Prelude.{◌≡◌, ◌<◌, Some, length, map, slice_get};
+ghost use Rattle.il_image.specs.Images.{IsValue};
+ghost use Rattle.il_image.specs.Values.{type_of};
+ghost use Rattle.il_scan.specs.Places.{AllBelow, output_value};
+ghost use Rattle.il_scan.specs.Scans.{AreValues};
+ghost use Rattle.il_scan.specs.Standing.{AreWords};
+
+use crate::slots::output_value;
+use il_image::image::ImagePoint;
+use il_image::value::Value;
+use std::marker::Model;
+
+/// What gives a scan its inputs: a value for each point that may only be read, in the image's order.
+pub trait Inputs {
+    ghost use Rattle.std.specs.Prelude.{◌≡◌, List, length};
+    ghost use Rattle.bay_base.specs.declared.types.ElementaryType.{ElementaryType};
+    ghost use Rattle.il_image.specs.declared.value.Value.{Value as ImageValue};
+
+    ghost types: { Self → List ElementaryType };
+
+    ghost values: { Self → List ImageValue };
+
+    /// The input of the point at a place among those that may only be read.
+    fn input(&self, place: usize) -> Value
+        requires within { place < length (types self.now) }
+        ensures value { slice_get (values self.now) place ≡ Some result }
+        ensures typed { slice_get (types self.now) place ≡ Some (type_of result) }
+        ensures is_value { IsValue result };
+
+    ghost sized: { (inputs : Self) → length (values inputs) ≡ length (types inputs) };
+}
+
+/// Inputs in a list.
+#[derive(Drop)]
+pub(crate) struct Listed<'a> {
+    pub values: &'a [Value],
+    ghost are: { AreValues values.now },
+}
+
+impl<'a> Inputs for Listed<'a> {
+    ghost use Rattle.std.specs.Prelude.{map};
+    ghost use Rattle.std.proofs.Common.{sym};
+    ghost use Rattle.std.proofs.lemmas.List.{length-map};
+    ghost use Rattle.il_image.specs.Values.{type_of};
+
+    ghost types = { λ inputs. map type_of inputs.values.now };
+
+    ghost values = { λ inputs. inputs.values.now };
+
+    fn input(&self, place: usize) -> Value {
+        self.values[place]
+    }
+
+    ghost sized = { λ inputs. sym (length-map inputs.values.now type_of) };
+}
+
+/// The values of the points that may be written, in the image's order, as a scan left them.
+#[derive(Drop)]
+pub struct Outputs<'a> {
+    points: &'a [ImagePoint],
+    writes: &'a [usize],
+    slots: &'a [i64],
+}
+
+impl<'a> Model for Outputs<'a> {
+    ghost use Rattle.std.specs.Prelude.{List, length, map};
+    ghost use Rattle.il_image.specs.declared.value.Value.{Value as ImageValue};
+    ghost use Rattle.il_scan.specs.Places.{AllBelow, output_value};
+    ghost use Rattle.il_scan.specs.Standing.{AreWords};
+
+    ghost Value = { List ImageValue };
+
+    ghost view = { λ o. map (output_value o.points.now o.slots.now) o.writes.now };
+
+    ghost invariant = { λ o. AreWords o.points.now o.slots.now × AllBelow (length o.points.now) o.writes.now };
+}
+
+impl<'a> Outputs<'a> {
+    /// The values of the points at these places.
+    #[inline(always)]
+    pub(crate) fn new(points: &'a [ImagePoint], writes: &'a [usize], slots: &'a [i64]) -> Self
+        requires words { AreWords points.now slots.now }
+        requires within { AllBelow (length points.now) writes.now }
+        ensures { result ≡ map (output_value points.now slots.now) writes.now }
+    {
+        Outputs {
+            points,
+            writes,
+            slots,
+        }
+    }
+
+    /// The value of the point at a place among those that may be written, if there is one.
+    #[inline(always)]
+    pub fn get(&self, place: usize) -> Option<Value>
+        ensures { result ≡ slice_get self.now place }
+    {
+        if place < self.writes.len() {
+            Some(output_value(self.points, self.slots, self.writes[place]))
+        } else {
+            None
+        }
+    }
+}
