@@ -40,6 +40,9 @@ pub enum TraceLine<'a> {
     At { moment: u64, event: NamedEvent<'a> },
 }
 
+/// A number below this is below 2^64 with any digit behind its own.
+const ALWAYS_ONE_MORE: u64 = 1_000_000_000_000_000_000;
+
 /// The first word of a text, and what follows the space after it.
 fn cut_word(text: &[u8]) -> (&[u8], Option<&[u8]>)
     ensures { slice_split is_space text.now ≡ result.0.now ∷ rest_words (option_map (λ rest. rest.now) result.1) }
@@ -67,7 +70,11 @@ fn with_digit(number: u64, octet: u8) -> Option<u64>
     if !octet.is_ascii_digit() {
         return None;
     }
-    number.checked_mul(10)?.checked_add(u64::from(octet - b'0'))
+    let digit = u64::from(octet - b'0');
+    if number < ALWAYS_ONE_MORE {
+        return Some(number * 10 + digit);
+    }
+    number.checked_mul(10)?.checked_add(digit)
 }
 
 /// The number that decimal digits write, if it is below 2^64. There may be leading zeros, and no sign.
@@ -213,9 +220,11 @@ fn verb_event<'a>(verb: &[u8], text: &'a [u8]) -> Option<NamedEvent<'a>>
 fn event(text: &[u8]) -> Option<NamedEvent<'_>>
     ensures { option_map named_view result ≡ event_of (slice_split is_space text.now) }
 {
+    if text == b"scan".as_slice() {
+        return Some(NamedEvent::Scan);
+    }
     match cut_word(text) {
         (verb, Some(rest)) => verb_event(verb, rest),
-        (verb, None) if verb == b"scan".as_slice() => Some(NamedEvent::Scan),
         (_, None) => None,
     }
 }
@@ -230,10 +239,11 @@ fn cut_number(text: &[u8]) -> Option<(u64, &[u8])>
     let mut number = with_digit(0, *first)?;
     let mut rest = others;
     while let [octet, others @ ..] = rest {
-        if *octet == b' ' {
-            return Some((number, others));
+        match with_digit(number, *octet) {
+            Some(more) => number = more,
+            None if *octet == b' ' => return Some((number, others)),
+            None => return None,
         }
-        number = with_digit(number, *octet)?;
         rest = others;
     }
     None
