@@ -1,5 +1,5 @@
 -- What a scan makes of a device.
-use Rattle.std.proofs.Common.{◌≡◌, ℕ, suc, ◌+◌, false, List, [], ◌∷◌, ◌++◌, length, map, get_or, slice_get, Option, Some, None, option_map, refl, ap, sym, ◌∙◌, subst, arith}
+use Rattle.std.proofs.Common.{◌≡◌, ℕ, suc, ◌+◌, false, List, [], ◌∷◌, length, map, get_or, slice_get, Option, Some, None, option_map, refl, ap, sym, ◌∙◌, subst, arith}
 use Rattle.std.proofs.lemmas.Option.{slice_get-map, slice_get-get_or}
 use Rattle.bay_tree.specs.declared.row.Row.{Row}
 use Rattle.bay_tree.specs.Rows.{leaf_of}
@@ -8,10 +8,6 @@ use Rattle.bay_config.specs.declared.bay.Origin.{Origin}
 use Rattle.bay_config.specs.declared.bay.Origin.TheVariants as origin
 use Rattle.bay_config.specs.declared.bay.Switch.{Switch}
 use Rattle.bay_config.specs.declared.bay.SwitchPoint.{SwitchPoint}
-use Rattle.bay_base.specs.declared.types.ElementaryType.{ElementaryType}
-use Rattle.il_image.specs.Images.{IsValue}
-use Rattle.il_image.specs.Values.{type_of}
-use Rattle.il_scan.specs.Words.{AreTyped}
 use Rattle.il_image.specs.Machine.{Halted, Ending, run}
 use Rattle.il_image.specs.declared.value.Value.{Value}
 use Rattle.il_image.specs.declared.value.Value.TheVariants.{Long}
@@ -70,8 +66,9 @@ module _ (d : DeviceState) where
       ap (λ v. v ∷ map (bound_value d.tree d.switches d.input_values d.meters) os) (point-named o)
       ∙ ap (λ (vs : List Value). point_value (state_view d) o ∷ vs) (points-named os)
 
-  pub inputs-named : map (bound_value d.tree d.switches d.input_values d.meters) d.reads ≡ inputs_of (state_view d)
-  inputs-named = points-named d.reads
+  pub inputs-named : (switches : List BoundSwitch) (meters : List BoundMeter) (reads : List Origin) → switches ≡ d.switches → meters ≡ d.meters → reads ≡ d.reads
+      → map (bound_value d.tree switches d.input_values meters) reads ≡ inputs_of (state_view d)
+  inputs-named switches meters reads a b c = rw (a, b, c) (points-named d.reads)
 
 -- the interlocking values of all switches
 module _ (layout : Layout) (switches : List Switch) (writes : List Origin) (outputs : List Value) (now : ℕ) where

@@ -1,11 +1,10 @@
 // What a scan reads, and what it writes (IEC 61850-7-4, CILO: EnaOpn and EnaCls).
-ghost use Rattle.std.specs.Prelude.{◌≡◌, ◌<◌, ◌^◌, ℕ, ◌↔◌, [], length, map, slice_get, Some, None, IsTrue};
+ghost use Rattle.std.specs.Prelude.{◌≡◌, ◌<◌, ◌^◌, ℕ, ◌↔◌, [], length, slice_get, Some, None, IsTrue};
 ghost use Rattle.bay_tree.specs.declared.leaf.Kind.TheVariants as kind;
 ghost use Rattle.bay_tree.specs.declared.leaf.Leaf.TheVariants as leaves;
 ghost use Rattle.il_image.specs.Images.{IsValue};
 ghost use Rattle.il_image.specs.Values.{type_of};
 ghost use Rattle.bay_base.specs.declared.types.ElementaryType.TheVariants as elementary;
-ghost use Rattle.il_scan.specs.Words.{AreTyped};
 ghost use Rattle.bay_device.specs.Device.{is_true, number_of_position, output_at, position_value, with_enabled, with_output};
 ghost use Rattle.bay_device.specs.Layout.{layout_of, status_in, switch_in, AreStatusRows, AreSwitchRows, AreKinded, AreMeterKinded};
 ghost use Rattle.bay_device.specs.Meaning.{type_of_origin, type_of_switch_point};

@@ -40,8 +40,8 @@ pub enum TraceLine<'a> {
     At { moment: u64, event: NamedEvent<'a> },
 }
 
-/// A number below this is below 2^64 with any digit behind its own.
-const ALWAYS_ONE_MORE: u64 = 1_000_000_000_000_000_000;
+/// A number below this stays below 2^64 with any digit behind its own.
+const ROOM_FOR_A_DIGIT: u64 = 1_000_000_000_000_000_000;
 
 /// The first word of a text, and what follows the space after it.
 fn cut_word(text: &[u8]) -> (&[u8], Option<&[u8]>)
@@ -71,7 +71,7 @@ fn with_digit(number: u64, octet: u8) -> Option<u64>
         return None;
     }
     let digit = u64::from(octet - b'0');
-    if number < ALWAYS_ONE_MORE {
+    if number < ROOM_FOR_A_DIGIT {
         return Some(number * 10 + digit);
     }
     number.checked_mul(10)?.checked_add(digit)

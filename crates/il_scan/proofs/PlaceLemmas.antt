@@ -123,6 +123,10 @@ placed front (p ∷ points) words (s ∷ slots) h = by_case p.writable words (λ
 pub inputs_placed : (points : List ImagePoint) (words slots : List ℤ) → length points ≤ length slots → with_words (read_places 0 points) words slots ≡ with_inputs points words slots
 inputs_placed points words slots h = placed [] points words slots h
 
+-- what is at the places of the points that may only be read are their inputs
+pub inputs_taken : (points : List ImagePoint) (reads : List ℕ) (words slots taken : List ℤ) → length points ≤ length slots → reads ≡ read_places 0 points → taken ≡ with_words reads words slots → taken ≡ with_inputs points words slots
+inputs_taken points reads words slots taken few read e = e ∙ ap (λ (ns : List ℕ). with_words ns words slots) read ∙ inputs_placed points words slots few
+
 pub below_at : (most : ℕ) (places : List ℕ) (k : ℕ) → AllBelow most places → k < length places → slice_index_or places k 0 < most
 below_at most [] k h l = absurd (omega (arith, l))
 below_at most (n ∷ places) zero h l = h.0

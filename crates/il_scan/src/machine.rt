@@ -92,7 +92,8 @@ fn run_points<I: Inputs>(
     requires types { I.types inputs.now ≡ map type_of_point (read_only image.now.points) }
     requires held { IsHeld image.now slots.old timers.old }
     requires read { reads.now ≡ read_places 0 image.now.points }
-    ensures scans { Scans (held image.now slots.old timers.old) (I.values inputs.now) now (held image.now slots.new timers.new) result (outputs_of image.now.points (values_of (slot_types image.now) slots.new)) }
+    ensures scans { Scans (held image.now slots.old timers.old) (I.values inputs.now) now (held image.now slots.new timers.new) result
+        (outputs_of image.now.points (values_of (slot_types image.now) slots.new)) }
     ensures held { IsHeld image.now slots.new timers.new }
 {
     read_inputs(reads, inputs, slots);

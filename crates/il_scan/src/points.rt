@@ -17,8 +17,10 @@ pub trait Inputs {
     ghost use Rattle.bay_base.specs.declared.types.ElementaryType.{ElementaryType};
     ghost use Rattle.il_image.specs.declared.value.Value.{Value as ImageValue};
 
+    // The types of all inputs.
     ghost types: { Self → List ElementaryType };
 
+    // All inputs.
     ghost values: { Self → List ImageValue };
 
     /// The input of the point at a place among those that may only be read.
@@ -28,6 +30,7 @@ pub trait Inputs {
         ensures typed { slice_get (types self.now) place ≡ Some (type_of result) }
         ensures is_value { IsValue result };
 
+    // There are as many values as types.
     ghost sized: { (inputs : Self) → length (values inputs) ≡ length (types inputs) };
 }
 

@@ -1,9 +1,9 @@
 use Rattle.std.proofs.Common.{ℕ, List, length, map, refl, sym, ap, subst, ◌∙◌, arith}
 use Rattle.bay_base.specs.declared.types.ElementaryType.{ElementaryType}
 use Rattle.il_image.specs.Values.{type_of}
-use Rattle.il_scan.specs.Places.{AllBelow, with_words}
+use Rattle.il_scan.specs.Places.{AllBelow}
 use Rattle.il_scan.specs.Words.{AreTyped, words_of}
-use Rattle.il_scan.proofs.PlaceLemmas.{inputs_placed, reads_below, so_many_types}
+use Rattle.il_scan.proofs.PlaceLemmas.{inputs_taken, reads_below, so_many_types}
 use Rattle.il_scan.proofs.ScanLemmas.{held_taken, scanned}
 use Rattle.il_scan.proofs.SlotLemmas.{held_points, outputs_are}
 use Rattle.il_scan.proofs.machine.run_points.Goals as goal
@@ -24,8 +24,7 @@ run-requires-clause-held g c =
     let values = g.I.Inputs.values c.args.inputs.now in
     let few = held_points image c.args.slots.now c.args.timers.now c.requires.held in
     let are = subst (λ (ts : List ElementaryType). AreTyped ts values) c.requires.types c.read_inputs.ensures.typed in
-    let taken =
-    c.read_inputs.ensures.slots ∙ ap (λ (ns : List ℕ). with_words ns (words_of values) c.args.slots.now) c.requires.read ∙ inputs_placed image.points (words_of values) c.args.slots.now few in
+    let taken = inputs_taken image.points c.args.reads.now (words_of values) c.args.slots.now c.read_inputs.new.slots few c.requires.read c.read_inputs.ensures.slots in
     held_taken image image.points refl values c.args.now c.args.slots.now c.args.timers.now c.requires.held are c.read_inputs.new.slots taken
 
 pub returns-clause-scans : goal.returns-clause-scans
@@ -34,7 +33,6 @@ returns-clause-scans g c =
     let values = g.I.Inputs.values c.args.inputs.now in
     let few = held_points image c.args.slots.now c.args.timers.now c.requires.held in
     let are = subst (λ (ts : List ElementaryType). AreTyped ts values) c.requires.types c.read_inputs.ensures.typed in
-    let taken =
-    c.read_inputs.ensures.slots ∙ ap (λ (ns : List ℕ). with_words ns (words_of values) c.args.slots.now) c.requires.read ∙ inputs_placed image.points (words_of values) c.args.slots.now few in
+    let taken = inputs_taken image.points c.args.reads.now (words_of values) c.args.slots.now c.read_inputs.new.slots few c.requires.read c.read_inputs.ensures.slots in
     scanned image image.points refl values c.args.now c.args.slots.now c.args.timers.now c.requires.held are c.read_inputs.new.slots taken
     c.run.new.slots c.run.new.timers c.run.result _ c.run.ensures (sym (outputs_are image.points (map type_of image.variables) c.run.new.slots))

@@ -1,11 +1,9 @@
-use Rattle.std.proofs.Common.{◌≡◌, length, map, ap, sym, ◌∙◌}
+use Rattle.std.proofs.Common.{length, map, ap, sym, ◌∙◌}
 use Rattle.il_image.specs.Images.{Image}
 use Rattle.il_scan.specs.Scans.{outputs_of, read_only, type_of_point}
-use Rattle.bay_device.specs.Device.{Ran, inputs_of}
+use Rattle.bay_device.specs.Device.{Ran}
 use Rattle.bay_device.specs.Layout.{layout_of}
 use Rattle.bay_device.specs.Meaning.{type_of_origin}
-use Rattle.bay_device.specs.Scans.{bound_value}
-use Rattle.bay_device.specs.StateView.{state_view}
 use Rattle.bay_device.proofs.ScanLemmas.{halted, inputs-named, interlocked, kinded, meters-kinded, ran, scan-done}
 use Rattle.bay_device.proofs.state.DeviceState.scan.Goals as goal
 
@@ -42,8 +40,7 @@ pub returns-clause-after : goal.returns-clause-after
 returns-clause-after c =
     let d = c.args.self.now in
     let m = c.scan_points-steps.new.self in
-    let read : map (bound_value d.tree c.as_slice.result.now d.input_values c.as_slice-2.result.now) c.as_slice-3.result.now ≡ inputs_of (state_view d) =
-    rw (c.as_slice.ensures, c.as_slice-2.ensures, c.as_slice-3.ensures) (inputs-named d) in
+    let read = inputs-named d c.as_slice.result.now c.as_slice-2.result.now c.as_slice-3.result.now c.as_slice.ensures c.as_slice-2.ensures c.as_slice-3.ensures in
     scan-done d c.args.now _ read m c.scan_points-steps.result (outputs_of m.image.points m.slots) c.scan_points-steps.ensures c.write_outputs.new.tree
     (rw (c.as_slice-4.ensures, c.outputs.ensures) at c.write_outputs.ensures.rows)
 
@@ -51,14 +48,12 @@ pub returns-clause-steps : goal.returns-clause-steps
 returns-clause-steps c =
     let d = c.args.self.now in
     let m = c.scan_points-steps.new.self in
-    let read : map (bound_value d.tree c.as_slice.result.now d.input_values c.as_slice-2.result.now) c.as_slice-3.result.now ≡ inputs_of (state_view d) =
-    rw (c.as_slice.ensures, c.as_slice-2.ensures, c.as_slice-3.ensures) (inputs-named d) in
+    let read = inputs-named d c.as_slice.result.now c.as_slice-2.result.now c.as_slice-3.result.now c.as_slice.ensures c.as_slice-2.ensures c.as_slice-3.ensures in
     sym (ap (λ (r : Ran). r.steps) (ran d c.args.now _ read m c.scan_points-steps.result (outputs_of m.image.points m.slots) c.scan_points-steps.ensures))
 
 pub returns-clause-halts : goal.returns-clause-halts
 returns-clause-halts c =
     let d = c.args.self.now in
     let m = c.scan_points-steps.new.self in
-    let read : map (bound_value d.tree c.as_slice.result.now d.input_values c.as_slice-2.result.now) c.as_slice-3.result.now ≡ inputs_of (state_view d) =
-    rw (c.as_slice.ensures, c.as_slice-2.ensures, c.as_slice-3.ensures) (inputs-named d) in
+    let read = inputs-named d c.as_slice.result.now c.as_slice-2.result.now c.as_slice-3.result.now c.as_slice.ensures c.as_slice-2.ensures c.as_slice-3.ensures in
     halted d c.args.now _ read m c.scan_points-steps.result (outputs_of m.image.points m.slots) c.scan_points-steps.ensures
