@@ -6,6 +6,9 @@ use crate::reader::WatchedReader;
 use std::alloc::Global;
 use std::io::Read;
 
+/// How many octets are asked for at a time.
+const PIECE: usize = 65_536;
+
 /// Why the input could not be had.
 #[derive(Debug, Drop)]
 pub enum ReadFault {
@@ -34,7 +37,7 @@ pub fn read_all<R: Read>(
         return Err(ReadFault::Failed);
     }
     let mut all = Vec::new(alloc);
-    let mut piece = [0u8; 8192];
+    let mut piece = [0u8; PIECE];
     for turn in 0..limit + 1 {
         match reader.read(&mut piece) {
             Ok(0) => return Ok(all),

@@ -1,4 +1,4 @@
-// What is written goes through a buffer, so that a writer is asked for a few KiB at a time.
+// What is written goes through a buffer, so that a writer is asked for 64 KiB at a time.
 ghost use Rattle.std.specs.Prelude.{◌≡◌, ◌++◌, [], true, false, is_err, OnOk, OnErr, if◌then◌else◌};
 ghost use Rattle.std.specs.Fmt.{decimal};
 ghost use Rattle.std.specs.Io.KnownBytes.{Appends, Keeps};
@@ -12,7 +12,7 @@ use std::marker::Model;
 use thiserror::Error;
 
 /// How many octets the buffer holds at most.
-const ROOM: usize = 8192;
+const ROOM: usize = 65_536;
 
 /// A write or a flush failed, or the writer took nothing of what it was given.
 #[derive(Clone, Copy, Debug, PartialEq, Eq, Error)]
@@ -65,7 +65,7 @@ pub fn write_last<W: Write>(writer: &mut WatchedWriter<W>, text: &[u8]) -> Resul
     flush_out(writer)
 }
 
-/// Octets that are not yet written, at most 8,192. It takes no memory beside its own.
+/// Octets that are not yet written, at most 65,536. It takes no memory beside its own.
 #[derive(Drop)]
 pub struct Outbox {
     pending: ArrayVec<u8, ROOM>,
@@ -78,7 +78,7 @@ impl Model for Outbox {
 
     ghost view = { λ outbox. outbox.pending.items };
 
-    ghost invariant = { λ outbox. length outbox.pending.items ≤ 8192 };
+    ghost invariant = { λ outbox. length outbox.pending.items ≤ 65536 };
 }
 
 impl Outbox {

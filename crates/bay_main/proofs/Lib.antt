@@ -4,4 +4,5 @@ pub mod JobLemmas
 pub mod PieceLemmas
 pub mod ReportLemmas
 pub mod TextLemmas
+pub mod VerbLemmas
 pub mod WordLemmas

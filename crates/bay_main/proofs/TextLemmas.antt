@@ -10,6 +10,7 @@ use Rattle.std.specs.List.{join_with_byte, slice_split}
 use Rattle.std.specs.Str.{all_ascii_digits, bytes_eq, IsAscii, is_utf8, IsUtf8}
 use Rattle.std.proofs.lemmas.Bool.{and_parts}
 use Rattle.std.specs.Prelude.{IfSome}
+use Rattle.bay_main.proofs.WordLemmas.{chosen, none-chosen}
 use Rattle.bay_main.specs.declared.trace.TraceLine.{TraceLine}
 use Rattle.bay_main.specs.TraceView.{line_view}
 use Rattle.bay_tree.specs.declared.leaf.Dbpos.{Dbpos}
@@ -41,27 +42,22 @@ plain : (bs : List ℕ) → is_plain bs ≡ true → IsAscii bs
 plain [] e = IsAscii-nil
 plain (b ∷ bs) e = let both = and_parts (nat_lt b 128) (is_plain bs) e in let lt = both.0 in IsAscii-cons b bs (grind (arith, nat_tests)) (plain bs both.1)
 
--- the word is this one, or something is said of it further on
-choice : {X : Type 0} (word text : List ℕ) (x y : X) (rest : Option X) → is_plain text ≡ true → (rest ≡ Some y → IsUtf8 word) → cond (bytes_eq word text) (Some x) rest ≡ Some y → IsUtf8 word
-choice word text x y rest ascii more e = by_test (bytes_eq word text) refl
-  where
-    by_test : (v : Bool) → bytes_eq word text ≡ v → IsUtf8 word
-    by_test true is = subst IsUtf8 (sym ((bytes_eq-Decides word text).0 is)) (IsUtf8-from_ascii text (plain text ascii))
-    by_test false is = more (rw is at e)
+plain_text : (bs : List ℕ) → is_plain bs ≡ true → IsUtf8 bs
+plain_text bs ascii = IsUtf8-from_ascii bs (plain bs ascii)
 
-nothing : {X : Type 0} (word : List ℕ) (y : X) → None ≡ Some y → IsUtf8 word
-nothing word y e = absurd cc
+choice : {X : Type 0} (word text : List ℕ) (x y : X) (rest : Option X) → is_plain text ≡ true → (rest ≡ Some y → IsUtf8 word) → cond (bytes_eq word text) (Some x) rest ≡ Some y → IsUtf8 word
+choice word text x y rest ascii = chosen IsUtf8 word text x y rest (plain_text text ascii)
 
 position_text : (word : List ℕ) (p : Dbpos) → position_of word ≡ Some p → IsUtf8 word
-position_text word p e = choice word (codes "0") _ p _ refl (choice word (codes "1") _ p _ refl (choice word (codes "2") _ p _ refl (choice word (codes "3") _ p _ refl (nothing word p)))) e
+position_text word p e = choice word (codes "0") _ p _ refl (choice word (codes "1") _ p _ refl (choice word (codes "2") _ p _ refl (choice word (codes "3") _ p _ refl (none-chosen IsUtf8 word p)))) e
 
 truth_text : (word : List ℕ) (v : Bool) → truth_of word ≡ Some v → IsUtf8 word
-truth_text word v e = choice word (codes "0") _ v _ refl (choice word (codes "1") _ v _ refl (nothing word v)) e
+truth_text word v e = choice word (codes "0") _ v _ refl (choice word (codes "1") _ v _ refl (none-chosen IsUtf8 word v)) e
 
 field_text : (word : List ℕ) (f : MeterField) → field_of word ≡ Some f → IsUtf8 word
 field_text word f e =
     choice word (codes "TOTW") _ f _ refl (choice word (codes "TOTVAR") _ f _ refl (choice word (codes "HZ") _ f _ refl
-    (choice word (codes "AA") _ f _ refl (choice word (codes "AB") _ f _ refl (choice word (codes "AC") _ f _ refl (nothing word f)))))) e
+    (choice word (codes "AA") _ f _ refl (choice word (codes "AB") _ f _ refl (choice word (codes "AC") _ f _ refl (none-chosen IsUtf8 word f)))))) e
 
 digits_ascii : (bs : List ℕ) → all_ascii_digits bs ≡ true → IsAscii bs
 digits_ascii [] e = IsAscii-nil
@@ -117,7 +113,7 @@ verb : (word text : List ℕ) (words : List (List ℕ)) (o rest : Option NamedDa
 verb word text words o rest d ascii here more e = by_test (bytes_eq word text) refl
   where
     by_test : (v : Bool) → bytes_eq word text ≡ v → AreText (word ∷ words)
-    by_test true is = (subst IsUtf8 (sym ((bytes_eq-Decides word text).0 is)) (IsUtf8-from_ascii text (plain text ascii)), here (rw is at e))
+    by_test true is = (subst IsUtf8 (sym ((bytes_eq-Decides word text).0 is)) (plain_text text ascii), here (rw is at e))
     by_test false is = more (rw is at e)
 
 position_words : (name : List ℕ) (words : List (List ℕ)) (d : NamedData) → option_map (contact name) (option_and_then position_of (only_word words)) ≡ Some d → AreText words
@@ -133,7 +129,7 @@ named_text word name words d e =
 
 event_text : (words : List (List ℕ)) (d : NamedData) → event_of words ≡ Some d → AreText words
 event_text [] d e = absurd cc
-event_text (word ∷ []) d e = (choice word (codes "scan") _ d _ refl (nothing word d) e, tt)
+event_text (word ∷ []) d e = (choice word (codes "scan") _ d _ refl (none-chosen IsUtf8 word d) e, tt)
 event_text (word ∷ name ∷ words) d e =
     let parts : Parts (λ n. named_of word n words) (name_of name) d = and_then _ (name_of name) d e in
     let others = named_text word parts.part words d parts.gives in
@@ -142,7 +138,7 @@ event_text (word ∷ name ∷ words) d e =
 joined : (words : List (List ℕ)) → AreText words → IsUtf8 (join_with_byte 32 words)
 joined [] h = IsUtf8-from_ascii [] IsAscii-nil
 joined (word ∷ []) h = h.0
-joined (word ∷ next ∷ words) h = IsUtf8-append word (32 ∷ join_with_byte 32 (next ∷ words)) h.0 (IsUtf8-append (32 ∷ []) (join_with_byte 32 (next ∷ words)) (IsUtf8-from_ascii (32 ∷ []) (plain (32 ∷ []) refl)) (joined (next ∷ words) h.1))
+joined (word ∷ next ∷ words) h = IsUtf8-append word (32 ∷ join_with_byte 32 (next ∷ words)) h.0 (IsUtf8-append (32 ∷ []) (join_with_byte 32 (next ∷ words)) (plain_text (32 ∷ []) refl) (joined (next ∷ words) h.1))
 
 line_text : (words : List (List ℕ)) (l : LineData) → words_line words ≡ Some l → AreText words
 line_text [] l e = absurd cc

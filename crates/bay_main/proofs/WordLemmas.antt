@@ -1,17 +1,18 @@
 -- Lemmas on the words and numbers of a line.
-use Rattle.std.proofs.Common.{◌≡◌, ◌≢◌, if◌then◌else◌, take, drop, subst, ℕ, suc, ◌+◌, ◌-◌, ◌*◌, ◌<◌, ◌≤◌, ◌^◌, Bool, true, false, ◌&&◌, cond, eqb, nat_lt, List, Option, option_map, [], ◌∷◌, length, get_or, codes, Some, None, refl, sym, ap, ◌∙◌, arith}
+use Rattle.std.proofs.Common.{◌≡◌, ◌≢◌, if◌then◌else◌, take, drop, subst, ℕ, suc, ◌+◌, ◌-◌, ◌*◌, ◌<◌, ◌≤◌, ◌^◌, Bool, true, false, ◌&&◌, cond, eqb, nat_lt, List, Option, option_map, [], ◌∷◌, length, get_or, Some, None, refl, sym, ap, ◌∙◌, arith}
 use Rattle.std.proofs.lemmas.Grind.{common_steps}
 use Rattle.std.proofs.lemmas.Bool.Decides.{nat_tests}
 use Rattle.std.proofs.lemmas.List.{take_all}
-use Rattle.std.proofs.lemmas.List.Splits.{join_with_byte-slice_split, slice_split-cons_no, slice_split-cons_yes, slice_split_first}
+use Rattle.std.proofs.lemmas.List.Splits.{slice_split-cons_no, slice_split-cons_yes, slice_split_first}
+use Rattle.std.proofs.lemmas.Slice.Eq.{bytes_eq-Decides}
 use Rattle.std.proofs.lemmas.Str.{digit_value_digit}
 use Rattle.std.specs.Char.{digit_value, is_ascii_digit}
-use Rattle.std.specs.List.{join_with_byte, slice_split, onto_first, position, position_or_len}
+use Rattle.std.specs.List.{slice_split, onto_first, position, position_or_len}
 use Rattle.std.specs.Str.{all_ascii_digits, bytes_eq}
 use Rattle.std.specs.Str.Parse.{digits_value_after}
 use Rattle.std.specs.Str.{is_utf8, IsUtf8}
 use Rattle.std.proofs.lemmas.Str.{IsUtf8-from_is_utf8, is_utf8-from_IsUtf8}
-use Rattle.bay_main.specs.Trace.{event_of, scan, is_space, only_word, with_digit, read_number, first_number, read_integer, name_of}
+use Rattle.bay_main.specs.Trace.{is_space, with_digit, read_number, first_number, read_integer, name_of}
 
 -- what is left of a list is all of it
 pub take_rest : (xs : List ℕ) (n : ℕ) → take (length xs - n) (drop n xs) ≡ drop n xs
@@ -139,7 +140,7 @@ no_digit_first : (ws : List (List ℕ)) → first_number ([] ∷ ws) ≡ None
 no_digit_first [] = refl
 no_digit_first (word ∷ ws) = refl
 
-not_space : (b : ℕ) → is_ascii_digit b ≡ true → is_space b ≡ false
+pub not_space : (b : ℕ) → is_ascii_digit b ≡ true → is_space b ≡ false
 not_space b h = grind (arith, nat_tests)
 
 -- the first octet of a text is the first digit of its number, or there is no number
@@ -169,15 +170,16 @@ behind-space n b bs lt s = ap (number_behind n) (slice_split-cons_yes is_space b
     by_words : HasFirst (slice_split is_space bs) → number_behind n ([] ∷ slice_split is_space bs) ≡ Some (n, slice_split is_space bs)
     by_words h = rw h.2 (ap (option_map (λ k. (k, h.0 ∷ h.1))) (number_from-end n lt))
 
--- a word with others behind it stands not alone
-pub only_word-more : (word bs : List ℕ) → only_word (word ∷ slice_split is_space bs) ≡ None
-only_word-more word bs = let h = some_word bs in ap (λ ws. only_word (word ∷ ws)) h.2
+-- what says something of a word only where it is this text, or where something is said further on, says it of what has the text's property
+pub chosen : {X : Type 0} (P : List ℕ → Type 0) (word text : List ℕ) (x y : X) (rest : Option X) → P text → (rest ≡ Some y → P word) → cond (bytes_eq word text) (Some x) rest ≡ Some y → P word
+chosen P word text x y rest has more e = by_test (bytes_eq word text) refl
+  where
+    by_test : (v : Bool) → bytes_eq word text ≡ v → P word
+    by_test true is = subst P (sym ((bytes_eq-Decides word text).0 is)) has
+    by_test false is = more (rw is at e)
 
--- a text of one word says nothing but `scan`
-pub alone-not_scan : (bs word : List ℕ) → slice_split is_space bs ≡ word ∷ [] → bytes_eq bs (codes "scan") ≡ false → event_of (slice_split is_space bs) ≡ None
-alone-not_scan bs word one other =
-    let same : word ≡ bs = ap (join_with_byte 32) (sym one) ∙ join_with_byte-slice_split 32 bs in
-    ap event_of one ∙ ap (λ w. cond (bytes_eq w (codes "scan")) (Some scan) None) same ∙ ap (λ v. cond v (Some scan) None) other
+pub none-chosen : {X : Type 0} (P : List ℕ → Type 0) (word : List ℕ) (y : X) → None ≡ Some y → P word
+none-chosen P word y e = absurd cc
 
 pub is_utf8_false : (bs : List ℕ) → ¬ (IsUtf8 bs) → is_utf8 bs ≡ false
 is_utf8_false bs bad = by_test (is_utf8 bs) refl

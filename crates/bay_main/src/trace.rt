@@ -1,8 +1,8 @@
 // What a line of the trace says.
-ghost use Rattle.std.specs.Prelude.{◌≡◌, ◌∷◌, ◌≤◌, ◌^◌, ◌<◌, ℕ, length, option_map, IfSome, Some, neg_ℤ, pos};
+ghost use Rattle.std.specs.Prelude.{◌≡◌, ◌∷◌, ◌≤◌, ◌^◌, ◌<◌, ℕ, length, option_map, IfSome, Some, codes, neg_ℤ, pos};
 ghost use Rattle.std.specs.List.{slice_split};
 ghost use Rattle.std.specs.Str.{IsUtf8};
-ghost use Rattle.bay_main.specs.Trace.{is_space, rest_words, only_word, with_digit, read_number, first_number, positive_of, negative_of, read_integer, position_of, truth_of, field_of, name_of, measure_of, named_of, event_of, words_line, trace_line_of};
+ghost use Rattle.bay_main.specs.Trace.{is_space, rest_words, with_digit, read_number, first_number, positive_of, negative_of, read_integer, position_of, truth_of, field_of, name_of, measure_of, event_of, words_line, trace_line_of};
 ghost use Rattle.bay_main.specs.TraceView.{named_view, line_view};
 
 use bay_config::bay::MeterField;
@@ -50,16 +50,6 @@ fn cut_word(text: &[u8]) -> (&[u8], Option<&[u8]>)
     match text.iter().position(|octet| *octet == b' ') {
         Some(at) => (&text[..at], Some(&text[at + 1..])),
         None => (text, None),
-    }
-}
-
-/// The text, if it is one word.
-fn only_word(text: &[u8]) -> Option<&[u8]>
-    ensures { option_map (λ word. word.now) result ≡ only_word (slice_split is_space text.now) }
-{
-    match cut_word(text) {
-        (word, None) => Some(word),
-        (_, Some(_)) => None,
     }
 }
 
@@ -181,52 +171,61 @@ fn name(word: &[u8]) -> Option<&str>
     }
 }
 
-/// What is told of a meter: a field and its value.
-fn measure<'a>(id: &'a str, text: &[u8]) -> Option<NamedEvent<'a>>
-    ensures { option_map named_view result ≡ measure_of id.entry.now (slice_split is_space text.now) }
+/// What is told of a switch: its position.
+fn contact(text: &[u8]) -> Option<NamedEvent<'_>>
+    ensures { option_map named_view result ≡ event_of (codes "contact" ∷ slice_split is_space text.now) }
 {
-    let (name, rest) = cut_word(text);
+    let (id, told) = cut_word(text);
+    let id = name(id)?;
+    let position = position(told?)?;
+    Some(NamedEvent::Contact { id, position })
+}
+
+/// What is told of an input: its value.
+fn input(text: &[u8]) -> Option<NamedEvent<'_>>
+    ensures { option_map named_view result ≡ event_of (codes "input" ∷ slice_split is_space text.now) }
+{
+    let (id, told) = cut_word(text);
+    let name = name(id)?;
+    let value = truth(told?)?;
+    Some(NamedEvent::Input { name, value })
+}
+
+/// What is told of the meter with this id: a field and its value.
+fn measured<'a>(id: &'a str, told: &[u8]) -> Option<NamedEvent<'a>>
+    ensures { option_map named_view result ≡ measure_of id.entry.now (slice_split is_space told.now) }
+{
+    let (name, rest) = cut_word(told);
     let field = field(name)?;
-    let value = integer(only_word(rest?)?)?;
+    let value = integer(rest?)?;
     Some(NamedEvent::Measure { id, field, value })
 }
 
-/// What is told of the switch, input or meter with this name, by the verb before it.
-fn named<'a>(verb: &[u8], name: &'a str, values: &[u8]) -> Option<NamedEvent<'a>>
-    ensures { option_map named_view result ≡ named_of verb.now name.entry.now (slice_split is_space values.now) }
+/// What is told of a meter: a field and its value.
+fn measure(text: &[u8]) -> Option<NamedEvent<'_>>
+    ensures { option_map named_view result ≡ event_of (codes "measure" ∷ slice_split is_space text.now) }
 {
-    if verb == b"contact".as_slice() {
-        let position = position(only_word(values)?)?;
-        Some(NamedEvent::Contact { id: name, position })
-    } else if verb == b"input".as_slice() {
-        let value = truth(only_word(values)?)?;
-        Some(NamedEvent::Input { name, value })
-    } else if verb == b"measure".as_slice() {
-        measure(name, values)
-    } else {
-        None
-    }
-}
-
-/// What a verb says that has a name behind it.
-fn verb_event<'a>(verb: &[u8], text: &'a [u8]) -> Option<NamedEvent<'a>>
-    ensures { option_map named_view result ≡ event_of (verb.now ∷ slice_split is_space text.entry.now) }
-{
-    let (word, values) = cut_word(text);
-    named(verb, name(word)?, values?)
+    let (id, told) = cut_word(text);
+    measured(name(id)?, told?)
 }
 
 /// What happens, by the words after the moment.
 fn event(text: &[u8]) -> Option<NamedEvent<'_>>
     ensures { option_map named_view result ≡ event_of (slice_split is_space text.now) }
 {
+    if let Some(told) = text.strip_prefix(b"contact ") {
+        return contact(told);
+    }
+    if let Some(told) = text.strip_prefix(b"input ") {
+        return input(told);
+    }
+    if let Some(told) = text.strip_prefix(b"measure ") {
+        return measure(told);
+    }
     if text == b"scan".as_slice() {
         return Some(NamedEvent::Scan);
     }
-    match cut_word(text) {
-        (verb, Some(rest)) => verb_event(verb, rest),
-        (_, None) => None,
-    }
+    None
 }
 
 /// The number before the first space, and what follows that space.

@@ -9,5 +9,5 @@ invariant-loop-turn g l = record {
   read : Consumes (g.R.Read.remaining l.initial.reader.inner) (g.R.Read.remaining l.reader.inner) l.all.items;
   counted : l.reader.reads ≤ l.initial.reader.reads + l.turn;
   quiet : l.reader.has_failed ≡ false;
-  sized : length l.piece ≡ 8192;
+  sized : length l.piece ≡ 65536;
 }
