@@ -83,13 +83,20 @@ unsaid : {X : Type 0} (o : Option (List ℕ)) (f : List ℕ → Option X) → ((
 unsaid None f h = refl
 unsaid (Some name) f h = h name
 
+is_not : (text word : List ℕ) → text ≢ word → bytes_eq text word ≡ false
+is_not text word h = by_test (bytes_eq text word) refl
+  where
+    by_test : (v : Bool) → bytes_eq text word ≡ v → bytes_eq text word ≡ false
+    by_test true is = absurd (h ((bytes_eq-Decides text word).0 is))
+    by_test false is = is
+
 -- a text that isn't `scan`, and that begins with no other verb and a space, says nothing
-pub no_verb : (text : List ℕ) → ((r : List ℕ) → text ≢ codes "contact " ++ r) → ((r : List ℕ) → text ≢ codes "input " ++ r) → ((r : List ℕ) → text ≢ codes "measure " ++ r) → bytes_eq text (codes "scan") ≡ false → event_of (slice_split is_space text) ≡ None
+pub no_verb : (text : List ℕ) → ((r : List ℕ) → text ≢ codes "contact " ++ r) → ((r : List ℕ) → text ≢ codes "input " ++ r) → ((r : List ℕ) → text ≢ codes "measure " ++ r) → text ≢ codes "scan" → event_of (slice_split is_space text) ≡ None
 no_verb text no_contact no_input no_measure no_scan = by_words (slice_split is_space text) (join_with_byte-slice_split 32 text)
   where
     by_words : (ws : List (List ℕ)) → join_with_byte 32 ws ≡ text → event_of ws ≡ None
     by_words [] e = refl
-    by_words (word ∷ []) e = ap (λ w. cond (bytes_eq w (codes "scan")) (Some scan) None) e ∙ ap (λ v. cond v (Some scan) None) no_scan
+    by_words (word ∷ []) e = ap (λ w. cond (bytes_eq w (codes "scan")) (Some scan) None) e ∙ ap (λ v. cond v (Some scan) None) (is_not text (codes "scan") no_scan)
     by_words (verb ∷ word ∷ values) e =
         let rest = join_with_byte 32 (word ∷ values) in
         let a = other text verb (codes "contact") rest no_contact (sym e) in

@@ -1,9 +1,9 @@
 // What is printed for a line of the trace.
-ghost use Rattle.std.specs.Prelude.{◌≡◌, [], ◌∷◌, ◌++◌, false, codes, IfOk, OnOk, slice_get};
+ghost use Rattle.std.specs.Prelude.{◌≡◌, ◌++◌, false, codes, IfOk, OnOk, slice_get};
 ghost use Rattle.std.specs.Fmt.{decimal};
 ghost use Rattle.bay_device.specs.Device.{outcome};
 ghost use Rattle.bay_io.specs.Sent.{Puts};
-ghost use Rattle.bay_main.specs.LineAnswers.{digit_of, enabled_text, switch_text, switch_part, switches_text, steps_text, scan_text, refused_text, step_text, placed_event, unreadable_text, line_answer};
+ghost use Rattle.bay_main.specs.LineAnswers.{enabled_text, switch_text, switch_part, switches_text, steps_text, scan_text, refused_text, step_text, placed_event, unreadable_text, line_answer};
 ghost use Rattle.bay_main.specs.Trace.{trace_line_of};
 ghost use Rattle.bay_main.specs.TraceView.{named_view};
 
@@ -15,18 +15,16 @@ use bay_io::outbox::{Outbox, WriteFault};
 use bay_io::writer::WatchedWriter;
 use std::io::Write;
 
-/// The digit of a truth value.
-fn digit_of(value: bool) -> u8
-    ensures { (result ∷ []) ≡ digit_of value }
-{
-    if value { b'1' } else { b'0' }
-}
-
 /// The sign and the digits that say whether a switch may be opened and closed.
-fn enabled_text(opens: bool, closes: bool) -> [u8; 3]
-    ensures { result ≡ enabled_text opens closes }
+fn enabled_text(opens: bool, closes: bool) -> &'static [u8; 3]
+    ensures { result.now ≡ enabled_text opens closes }
 {
-    [b'=', digit_of(opens), digit_of(closes)]
+    match (opens, closes) {
+        (false, false) => b"=00",
+        (false, true) => b"=01",
+        (true, false) => b"=10",
+        (true, true) => b"=11",
+    }
 }
 
 /// Writes the id of a switch, after a space.

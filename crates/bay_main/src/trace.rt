@@ -222,10 +222,12 @@ fn event(text: &[u8]) -> Option<NamedEvent<'_>>
     if let Some(told) = text.strip_prefix(b"measure ") {
         return measure(told);
     }
-    if text == b"scan".as_slice() {
-        return Some(NamedEvent::Scan);
+    let told = text.strip_prefix(b"scan")?;
+    if told.is_empty() {
+        Some(NamedEvent::Scan)
+    } else {
+        None
     }
-    None
 }
 
 /// The number before the first space, and what follows that space.
