@@ -11,8 +11,9 @@ use Rattle.bay_config.specs.declared.bay.SwitchPoint.{SwitchPoint}
 use Rattle.il_image.specs.Machine.{Halted, Ending, run}
 use Rattle.il_image.specs.declared.value.Value.{Value}
 use Rattle.il_image.specs.declared.value.Value.TheVariants.{Long}
+use Rattle.il_scan.specs.Places.{is_true}
 use Rattle.il_scan.specs.Scans.{Held, Scans, outputs_of, started}
-use Rattle.bay_device.specs.Device.{Ran, after_run, ending_at, inputs_of, is_true, measure_leaf, number_of_leaf, output_at, point_value, position_leaf, position_value, ran_at, ran_of, scanned, with_output, with_outputs}
+use Rattle.bay_device.specs.Device.{Ran, after_run, ending_at, inputs_of, measure_leaf, number_of_leaf, output_at, point_value, position_leaf, position_value, ran_at, ran_of, scanned, with_output, with_outputs}
 use Rattle.bay_device.specs.Layout.{Layout, layout_of, switches_of, IsBound, AreBound, AreKinded, AreMetersBound, AreMeterKinded}
 use Rattle.bay_device.specs.Meaning.{Halts}
 use Rattle.bay_device.specs.Names.{StatusNames, SwitchNames, field_names, switch_names}

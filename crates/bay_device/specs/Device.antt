@@ -20,6 +20,7 @@ use Rattle.il_image.specs.Machine.{Ending, Halted, Trapped, Unfinished, run}
 use Rattle.il_image.specs.declared.timer.Timer.{Timer}
 use Rattle.il_image.specs.declared.value.Value.{Value}
 use Rattle.il_image.specs.declared.value.Value.TheVariants.{Truth, Short, Long}
+use Rattle.il_scan.specs.Places.{is_true}
 use Rattle.il_scan.specs.Scans.{Held, outputs_of, started}
 use Rattle.bay_device.specs.Names.{StatusNames, SwitchNames, switch_names, meter_names, field_names}
 use Rattle.bay_device.specs.declared.event.Event.{Event}
@@ -219,10 +220,6 @@ abbrev pub is_point : ℕ → SwitchPoint → Origin → Bool
 is_point k point (origin.Switch j which) = j == k && same_point which point
 is_point k point (origin.Input j) = false
 is_point k point (origin.Meter j field) = false
-
-abbrev pub is_true : Option Value → Bool
-is_true (Some (Truth b)) = b
-is_true other = false
 
 -- the value at a place, if there is one
 abbrev pub output_at : Option ℕ → List Value → Option Value

@@ -9,7 +9,8 @@ use Rattle.bay_config.specs.declared.bay.Origin.TheVariants as origin
 use Rattle.bay_config.specs.declared.bay.SwitchPoint.{SwitchPoint}
 use Rattle.il_image.specs.declared.value.Value.{Value}
 use Rattle.il_image.specs.declared.value.Value.TheVariants.{Truth, Long}
-use Rattle.bay_device.specs.Device.{is_true, number_of_leaf, output_at, position_value, with_output}
+use Rattle.il_scan.specs.Places.{is_true}
+use Rattle.bay_device.specs.Device.{number_of_leaf, output_at, position_value, with_output}
 use Rattle.bay_device.specs.Layout.{Layout, field_rows, layout_of, name_in, switch_in}
 use Rattle.bay_device.specs.declared.meter.BoundMeter.{BoundMeter}
 use Rattle.bay_device.specs.declared.switch.BoundSwitch.{BoundSwitch}

@@ -52,42 +52,37 @@ fn tells(tree: &Tree, rows: StatusRows, position: Dbpos) -> bool
 }
 
 /// Writes a switch's new position, which its control repeats, and which is counted where it reaches an end.
-fn put_position(tree: &mut Tree, rows: SwitchRows, position: Dbpos, now: u64)
-    requires { AreSwitchRows (layout_of tree.old) rows }
-    ensures rows { tree.new ≡ rows_after_change (switch_in (layout_of tree.old) rows) position now tree.old }
+fn put_position(tree: &mut Tree, rows: &SwitchRows, position: Dbpos, now: u64)
+    requires { AreSwitchRows (layout_of tree.old) rows.now }
+    ensures rows { tree.new ≡ rows_after_change (switch_in (layout_of tree.old) rows.now) position now tree.old }
     ensures layout { layout_of tree.new ≡ layout_of tree.old }
 {
-    let SwitchRows {
-        position: status,
-        control,
-        operations,
-        ..
-    } = rows;
-    let is_operation = is_end_position(position) && !is_position(tree, status.value, position);
+    let is_operation = is_end_position(position)
+        && !is_position(tree, rows.position.value, position);
     put_status(
         tree,
-        status,
+        rows.position,
         Leaf::Dbpos(position),
         position_quality(position),
         now,
     );
     put_status(
         tree,
-        control,
+        rows.control,
         Leaf::Dbpos(position),
         position_quality(position),
         now,
     );
     if is_operation {
-        count_operation(tree, operations, now);
+        count_operation(tree, rows.operations, now);
     }
 }
 
 /// Takes a switch's position, and answers whether that changed its value or its quality.
-pub fn take_position(tree: &mut Tree, rows: SwitchRows, position: Dbpos, now: u64) -> bool
-    requires { AreSwitchRows (layout_of tree.old) rows }
-    ensures changed { result ≡ not (tells (status_in (layout_of tree.old) rows.position) position tree.old) }
-    ensures rows { tree.new ≡ rows_after_contact (switch_in (layout_of tree.old) rows) position now tree.old }
+pub fn take_position(tree: &mut Tree, rows: &SwitchRows, position: Dbpos, now: u64) -> bool
+    requires { AreSwitchRows (layout_of tree.old) rows.now }
+    ensures changed { result ≡ not (tells (status_in (layout_of tree.old) rows.now.position) position tree.old) }
+    ensures rows { tree.new ≡ rows_after_contact (switch_in (layout_of tree.old) rows.now) position now tree.old }
     ensures layout { layout_of tree.new ≡ layout_of tree.old }
 {
     if tells(tree, rows.position, position) {

@@ -5,7 +5,8 @@ ghost use Rattle.bay_tree.specs.declared.leaf.Leaf.TheVariants as leaves;
 ghost use Rattle.il_image.specs.Images.{IsValue};
 ghost use Rattle.il_image.specs.Values.{type_of};
 ghost use Rattle.bay_base.specs.declared.types.ElementaryType.TheVariants as elementary;
-ghost use Rattle.bay_device.specs.Device.{is_true, number_of_position, output_at, position_value, with_enabled, with_output};
+ghost use Rattle.il_scan.specs.Places.{is_true};
+ghost use Rattle.bay_device.specs.Device.{number_of_position, output_at, position_value, with_enabled, with_output};
 ghost use Rattle.bay_device.specs.Layout.{layout_of, status_in, switch_in, AreStatusRows, AreSwitchRows, AreKinded, AreMeterKinded};
 ghost use Rattle.bay_device.specs.Meaning.{type_of_origin, type_of_switch_point};
 ghost use Rattle.bay_device.specs.Told.{AreEnabling, AreInterlocked, AreTold, AreValued, IsInterlocked, IsTold};
@@ -166,10 +167,7 @@ fn output(outputs: &Outputs<'_>, place: Option<usize>) -> bool
     ensures { result ≡ is_true (output_at place outputs.now) }
 {
     match place {
-        Some(place) => match outputs.get(place) {
-            Some(Value::Truth(value)) => value,
-            _ => false,
-        },
+        Some(place) => outputs.is_true(place),
         None => false,
     }
 }

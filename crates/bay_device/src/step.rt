@@ -25,7 +25,7 @@ impl DeviceState {
             Some(bound) => bound.rows,
             None => return Err(StepFault::NoSuchPoint),
         };
-        let changed = take_position(&mut self.tree, rows, position, now);
+        let changed = take_position(&mut self.tree, &rows, position, now);
         self.is_stale |= changed;
         self.moment = now;
         Ok(Step { scan: None })

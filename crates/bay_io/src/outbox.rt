@@ -69,6 +69,8 @@ pub fn write_last<W: Write>(writer: &mut WatchedWriter<W>, text: &[u8]) -> Resul
 #[derive(Drop)]
 pub struct Outbox {
     pending: ArrayVec<u8, ROOM>,
+    // Where a number's digits are made; it stays, so that it is emptied once and not for each number.
+    digits: Buffer,
 }
 
 impl Model for Outbox {
@@ -87,6 +89,7 @@ impl Outbox {
     {
         Outbox {
             pending: ArrayVec::new(),
+            digits: Buffer::new(),
         }
     }
 
@@ -96,6 +99,16 @@ impl Outbox {
         ensures { self.new ≡ (if result then self.old ++ text.now else self.old) }
     {
         self.pending.try_extend_from_slice(text).is_ok()
+    }
+
+    /// Adds a number's decimal digits where the buffer has room for them, and answers whether it had.
+    fn keep_number(&mut self, number: u64) -> bool
+        ensures { self.new ≡ (if result then self.old ++ decimal number else self.old) }
+    {
+        let digits = self.digits.format(number);
+        self.pending
+            .try_extend_from_slice(digits.as_bytes())
+            .is_ok()
     }
 
     /// Writes out what is pending.
@@ -163,7 +176,13 @@ impl Outbox {
     ) -> Result<(), WriteFault>
         ensures { Puts W.contents self.old writer.old (decimal number) self.new writer.new result }
     {
-        self.put(writer, Buffer::new().format(number).as_bytes())
+        if writer.has_failed() {
+            return Err(WriteFault);
+        }
+        if self.keep_number(number) {
+            return Ok(());
+        }
+        self.put_after_flush(writer, Buffer::new().format(number).as_bytes())
     }
 
     /// Adds a last text, writes out all, and flushes the writer.

@@ -3,7 +3,7 @@ ghost use Rattle.std.specs.Prelude.{◌≡◌, ◌+◌, ◌-◌, ◌<◌, ◌≤
 ghost use Rattle.bay_main.specs.Scenario.{is_line_feed, pieces, content, is_separator, part_of, scenario_of, CutsLine};
 ghost use Rattle.bay_main.specs.ScenarioView.{scenario_view};
 
-use memchr::memchr;
+use memchr::memchr_iter;
 
 /// The three parts of a scenario, as they stand in it.
 #[derive(Clone, Copy)]
@@ -24,7 +24,8 @@ fn first_piece_len(text: &[u8]) -> usize
     ensures before { (k : ℕ) → k + 1 < result → is_line_feed (slice_index text.now k) ≡ false }
     ensures at { result < length text.now → is_line_feed (slice_index text.now (result - 1)) ≡ true }
 {
-    match memchr(b'\n', text) {
+    // An iterator looks at the next 32 octets first, and a line is short.
+    match memchr_iter(b'\n', text).next() {
         Some(at) => at + 1,
         None => text.len(),
     }

@@ -50,6 +50,36 @@ impl Model for Tree {
     ghost invariant = { λ t. IsTree t.rows.items };
 }
 
+/// Gives a place a value. A plain value that follows one of its own type is written over it, which saves the move of a whole leaf.
+#[inline(always)]
+fn put_leaf(place: &mut Option<Leaf>, leaf: Leaf)
+    ensures { place.new ≡ Some leaf }
+{
+    match leaf {
+        Leaf::Truth(new) => match place {
+            Some(Leaf::Truth(old)) => *old = new,
+            _ => *place = Some(Leaf::Truth(new)),
+        },
+        Leaf::Dbpos(new) => match place {
+            Some(Leaf::Dbpos(old)) => *old = new,
+            _ => *place = Some(Leaf::Dbpos(new)),
+        },
+        Leaf::Quality(new) => match place {
+            Some(Leaf::Quality(old)) => *old = new,
+            _ => *place = Some(Leaf::Quality(new)),
+        },
+        Leaf::Int32(new) => match place {
+            Some(Leaf::Int32(old)) => *old = new,
+            _ => *place = Some(Leaf::Int32(new)),
+        },
+        Leaf::Utc(new) => match place {
+            Some(Leaf::Utc(old)) => *old = new,
+            _ => *place = Some(Leaf::Utc(new)),
+        },
+        leaf => *place = Some(leaf),
+    }
+}
+
 impl Tree {
     /// The tree of these rows, in their order.
     pub fn build(_alloc: Global, rows: Vec<Row>) -> Result<Self, AllocError>
@@ -111,7 +141,7 @@ impl Tree {
         if !self.has_kind(handle, leaf.kind()) {
             return Err(TreeFault::WrongType);
         }
-        self.rows[handle.index].leaf = Some(leaf);
+        put_leaf(&mut self.rows[handle.index].leaf, leaf);
         Ok(())
     }
 

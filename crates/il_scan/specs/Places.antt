@@ -1,5 +1,5 @@
 -- Where the points that may only be read stand among all points, and those that may be written.
-use Rattle.std.specs.Prelude.{ℕ, ℤ, ◌+◌, ◌<◌, false, List, [], ◌∷◌, slice_get, slice_set, Option, Some, None, if◌then◌else◌}
+use Rattle.std.specs.Prelude.{ℕ, ℤ, ◌+◌, ◌<◌, Bool, false, List, [], ◌∷◌, slice_get, slice_set, Option, Some, None, if◌then◌else◌}
 use Rattle.il_image.specs.declared.image.ImagePoint.{ImagePoint}
 use Rattle.il_image.specs.declared.value.Value.{Value}
 use Rattle.il_image.specs.declared.value.Value.TheVariants.{Truth}
@@ -34,3 +34,8 @@ value_there (Some p) w = value_at p.elementary w
 -- the value of the point at a place
 abbrev pub output_value : List ImagePoint → List ℤ → ℕ → Value
 output_value points slots n = value_there (slice_get points n) (slot_at slots n)
+
+-- whether there is a value, and it is TRUE
+abbrev pub is_true : Option Value → Bool
+is_true (Some (Truth b)) = b
+is_true other = false

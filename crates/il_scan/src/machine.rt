@@ -31,6 +31,8 @@ pub struct Machine {
     timers: Vec<Timer>,
     places: Places,
     outputs: Vec<Value>,
+    // Where the operand stack lies while the code runs; between scans its words have no meaning.
+    words: [i64; 32],
 }
 
 impl Model for Machine {
@@ -84,6 +86,7 @@ fn run_points<I: Inputs>(
     image: &Image,
     inputs: &I,
     now: u64,
+    words: &mut [i64; 32],
     slots: &mut [i64],
     timers: &mut [Timer],
     reads: &[usize],
@@ -97,7 +100,7 @@ fn run_points<I: Inputs>(
     ensures held { IsHeld image.now slots.new timers.new }
 {
     read_inputs(reads, inputs, slots);
-    run(image, now, slots, timers)
+    run(image, now, words, slots, timers)
 }
 
 /// A scan over words whose inputs and outputs are lists.
@@ -105,6 +108,7 @@ fn run_once(
     image: &Image,
     inputs: &[Value],
     now: u64,
+    words: &mut [i64; 32],
     slots: &mut [i64],
     timers: &mut [Timer],
     places: &Places,
@@ -117,7 +121,15 @@ fn run_once(
     ensures kept { IsKept image.now slots.new timers.new places.now.reads.items places.now.writes.items outputs.new }
 {
     let inputs = Listed { values: inputs };
-    let steps = run_points(image, &inputs, now, slots, timers, places.reads.as_slice());
+    let steps = run_points(
+        image,
+        &inputs,
+        now,
+        words,
+        slots,
+        timers,
+        places.reads.as_slice(),
+    );
     give_outputs(image.points(), places.writes.as_slice(), slots, outputs);
     steps
 }
@@ -143,6 +155,7 @@ impl Machine {
                 timers,
                 places,
                 outputs,
+                words: [0; 32],
             }),
             Err(_) => Err(verified),
         }
@@ -174,6 +187,7 @@ impl Machine {
             self.verified.image(),
             inputs,
             now,
+            &mut self.words,
             self.slots.as_mut_slice(),
             self.timers.as_mut_slice(),
             self.places.reads.as_slice(),
@@ -201,6 +215,7 @@ impl Machine {
             self.verified.image(),
             inputs,
             now,
+            &mut self.words,
             self.slots.as_mut_slice(),
             self.timers.as_mut_slice(),
             &self.places,

@@ -2,11 +2,11 @@
 ghost use Rattle.std.specs.Prelude.{◌≡◌, ◌<◌, Some, length, map, slice_get};
 ghost use Rattle.il_image.specs.Images.{IsValue};
 ghost use Rattle.il_image.specs.Values.{type_of};
-ghost use Rattle.il_scan.specs.Places.{AllBelow, output_value};
+ghost use Rattle.il_scan.specs.Places.{AllBelow, is_true, output_value};
 ghost use Rattle.il_scan.specs.Scans.{AreValues};
 ghost use Rattle.il_scan.specs.Standing.{AreWords};
 
-use crate::slots::output_value;
+use crate::slots::is_true;
 use il_image::image::ImagePoint;
 use il_image::value::Value;
 use std::marker::Model;
@@ -94,15 +94,15 @@ impl<'a> Outputs<'a> {
         }
     }
 
-    /// The value of the point at a place among those that may be written, if there is one.
+    /// Whether there is a point at a place among those that may be written, and its value is TRUE.
     #[inline(always)]
-    pub fn get(&self, place: usize) -> Option<Value>
-        ensures { result ≡ slice_get self.now place }
+    pub fn is_true(&self, place: usize) -> bool
+        ensures { result ≡ is_true (slice_get self.now place) }
     {
         if place < self.writes.len() {
-            Some(output_value(self.points, self.slots, self.writes[place]))
+            is_true(self.points, self.slots, self.writes[place])
         } else {
-            None
+            false
         }
     }
 }

@@ -1,11 +1,11 @@
 // Inputs, outputs, and what slots and timers hold at first.
-ghost use Rattle.std.specs.Prelude.{◌≡◌, ◌+◌, ◌<◌, ◌≤◌, ◌++◌, IfOk, IsSome, OnOk, drop, if◌then◌else◌, length, map, pos, slice_set};
+ghost use Rattle.std.specs.Prelude.{◌≡◌, ◌+◌, ◌<◌, ◌≤◌, ◌++◌, IfOk, IsSome, OnOk, Some, drop, if◌then◌else◌, length, map, pos, slice_set};
 ghost use Rattle.il_image.specs.Timers.{first_state};
 ghost use Rattle.il_image.specs.Values as values;
 ghost use Rattle.il_scan.specs.Scans as scans;
 ghost use Rattle.il_scan.specs.Scans.{writable_count};
 ghost use Rattle.il_scan.specs.Standing.{AreWords};
-ghost use Rattle.il_scan.specs.Places.{AllBelow, output_value, read_places, with_words, write_places};
+ghost use Rattle.il_scan.specs.Places.{AllBelow, is_true, output_value, read_places, with_words, write_places};
 ghost use Rattle.il_scan.specs.Words.{AreTyped, slot_at, value_at, words_of};
 
 use crate::points::Inputs;
@@ -128,6 +128,27 @@ pub(crate) fn output_value(points: &[ImagePoint], slots: &[i64], place: usize) -
     ensures { result ≡ output_value points.now slots.now place }
 {
     value_of(points[place].elementary, slots[place])
+}
+
+/// Whether a word of this type stands for TRUE.
+#[inline(always)]
+fn is_true_word(elementary: ElementaryType, word: i64) -> bool
+    ensures { result ≡ is_true (Some (value_at elementary word)) }
+{
+    match elementary {
+        ElementaryType::Bool => word == 1,
+        _ => false,
+    }
+}
+
+/// Whether the value of the point at a place is TRUE.
+#[inline(always)]
+pub(crate) fn is_true(points: &[ImagePoint], slots: &[i64], place: usize) -> bool
+    requires words { AreWords points.now slots.now }
+    requires within { place < length points.now }
+    ensures { result ≡ is_true (Some (output_value points.now slots.now place)) }
+{
+    is_true_word(points[place].elementary, slots[place])
 }
 
 /// Puts the values of the points at these places into the outputs, of which there is one for each.

@@ -1,9 +1,10 @@
-use Rattle.std.proofs.Common.{◌≡◌, ◌<◌, Some, None, option_map, [], length, ap, sym, ◌∙◌, arith, slice_set}
+use Rattle.std.proofs.Common.{◌≡◌, ◌<◌, Option, Some, None, option_map, [], length, ap, sym, ◌∙◌, arith, slice_set}
 use Rattle.std.proofs.lemmas.Grind.{common_steps}
 use Rattle.std.proofs.lemmas.List.{get_or_read}
 use Rattle.std.proofs.Math.Seq.{map-set_same}
 use Rattle.bay_tree.specs.Kinds.{kind_of}
 use Rattle.bay_tree.specs.Rows.{kind_at, row_at, names_of, kinds_of, with_leaf}
+use Rattle.bay_tree.specs.declared.leaf.Leaf.{Leaf}
 use Rattle.bay_tree.specs.declared.row.Row.{Row}
 use Rattle.bay_tree.proofs.NamedLemmas.{with_leaf-named}
 use Rattle.bay_tree.proofs.RowLemmas.{IsTree-set, leaf_from_kind}
@@ -33,9 +34,14 @@ returns-clause-kinds c =
     let place = c.handle.inside.index in
     let kind : kind_at rows place ≡ Some (kind_of c.args.leaf) =
     rw (c.handle.view_is, c.self.view_is, ← c.kind.ensures) (c.has_kind.ensures.0 c.if-not-has_kind.false) in
-    map-set_same (λ (r : Row). option_map kind_of r.leaf) rows place _ (record { name = []; leaf = None }) (sym kind) ∙ ap kinds_of c.self.view_is
+    map-set_same (λ (r : Row). option_map kind_of r.leaf) rows place _ (record { name = []; leaf = None }) (ap (option_map kind_of) c.put_leaf.ensures ∙ sym kind) ∙ ap kinds_of c.self.view_is
 
 pub returns-clause-named : goal.returns-clause-named
 returns-clause-named c =
-    let ok : slice_set c.self.inside.rows.items c.handle.inside.index (record { name = c.index_mut.result.now.name; leaf = Some c.args.leaf }) ≡ with_leaf c.args.self.now c.args.handle c.args.leaf = grind (arith, common_steps) in
-    ok ∙ with_leaf-named c.args.self.now c.args.handle c.args.leaf (rw (← c.self.view_is) c.self.invariant) c.requires
+    let rows = c.self.inside.rows.items in
+    let place = c.handle.inside.index in
+    let name = c.index_mut.result.now.name in
+    let put : slice_set rows place (record { name = name; leaf = c.put_leaf.new.place }) ≡ slice_set rows place (record { name = name; leaf = Some c.args.leaf }) =
+    ap (λ (l : Option Leaf). slice_set rows place (record { name = name; leaf = l })) c.put_leaf.ensures in
+    let ok : slice_set rows place (record { name = name; leaf = Some c.args.leaf }) ≡ with_leaf c.args.self.now c.args.handle c.args.leaf = grind (arith, common_steps) in
+    put ∙ ok ∙ with_leaf-named c.args.self.now c.args.handle c.args.leaf (rw (← c.self.view_is) c.self.invariant) c.requires
