@@ -153,6 +153,7 @@ fn put_last_number<W: Write>(
 }
 
 /// Writes the line of a refused event.
+#[cold]
 fn put_refused<W: Write>(
     outbox: &mut Outbox,
     writer: &mut WatchedWriter<W>,
@@ -166,6 +167,7 @@ fn put_refused<W: Write>(
 }
 
 /// Writes the line that says which line can't be read.
+#[cold]
 fn put_unreadable<W: Write>(
     outbox: &mut Outbox,
     writer: &mut WatchedWriter<W>,
