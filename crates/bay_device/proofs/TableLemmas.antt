@@ -1,6 +1,7 @@
 -- Lemmas on tables of names.
 use Rattle.std.proofs.Common.{◌≡◌, ◌≢◌, ℕ, zero, suc, ◌+◌, ◌*◌, ◌%◌, ◌<◌, ◌≤◌, Bool, true, false, cond, nat_eq, nat_lt, List, [], ◌∷◌, length, get_or, map, position, slice_get, option_map, Some, None, ◌⊎◌, ⊎_elim, inl, inr, refl, ap, sym, ◌∙◌, arith}
 use Rattle.std.specs.List.{fold, position_from}
+use Rattle.std.specs.Str.{bytes_eq}
 use Rattle.std.proofs.lemmas.Bool.Decides.{nat_tests}
 use Rattle.std.proofs.lemmas.Iterator.Adapters.{position_from-zero}
 use Rattle.std.proofs.lemmas.List.{get_or-set_same, get_or-set_other, length-set}
@@ -22,6 +23,11 @@ unfolding same_name
 same-key a b h =
     let same : upper a ≡ upper b = (bytes_eq-Decides (upper a) (upper b)).0 h in
     key-upper a 0 ∙ ap (fold (λ k octet. (k * 31 + octet) % 64) 0) same ∙ sym (key-upper b 0)
+
+-- names that are spelled alike are the same
+pub same-spelled : (a b : List ℕ) → bytes_eq a b ≡ true → same_name a b ≡ true
+unfolding same_name
+same-spelled a b e = (bytes_eq-Decides (upper a) (upper b)).1 (ap upper ((bytes_eq-Decides a b).0 e))
 
 not-true : (b : Bool) → (b ≡ true → ⊥) → b ≡ false
 not-true true h = absurd (h refl)

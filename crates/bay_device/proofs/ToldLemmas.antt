@@ -23,7 +23,7 @@ use Rattle.bay_config.specs.declared.bay.MeterField.TheVariants.{TotW, TotVAr, H
 use Rattle.bay_config.specs.declared.bay.Switch.{Switch}
 use Rattle.bay_config.specs.declared.bay.SwitchKind.{SwitchKind}
 use Rattle.bay_config.specs.declared.bay.SwitchKind.TheVariants.{Breaker, Disconnector, Earthing}
-use Rattle.bay_device.specs.Device.{is_truth, is_quality, with_status, with_enabled, with_output, counted, operation_counted, is_operation, tells, position_quality, rows_after_change, rows_after_contact, tells_measure, rows_after_measure}
+use Rattle.bay_device.specs.Device.{is_truth, is_quality, same_truth, with_status, with_enabled, with_output, counted, operation_counted, is_operation, tells, position_quality, rows_after_change, rows_after_contact, tells_measure, rows_after_measure}
 use Rattle.bay_device.specs.Names.{StatusNames, SwitchNames, switch_names, node_of, field_names, meter_names, interlocking_of, opening_of, closing_of}
 use Rattle.bay_device.specs.declared.switch.Enabled.{Enabled}
 use Rattle.bay_device.specs.Told.{AreValued, Stands, IsTold, AreTold, told_at}
@@ -219,21 +219,24 @@ good-is (Some (leaf.Reference n)) h = absurd cc
 good-is (Some (leaf.Text n)) h = absurd cc
 good-is (Some (leaf.Utc n)) h = absurd cc
 
-told-truth : (b : Bool) → is_truth b (Some (leaf.Truth b)) ≡ true
-told-truth true = refl
-told-truth false = refl
-
 -- what stands is not written again
-enabled-same : (names : StatusNames) (b : Bool) (now : ℕ) (rows : List Row) → Stands rows names b → with_enabled names b now rows ≡ rows
-enabled-same names b now rows s = rw (s.value_is, s.quality_is, told-truth b) refl
+pub enabled-same : (names : StatusNames) (b c : Bool) (now : ℕ) (rows : List Row) → Stands rows names c → same_truth b c ≡ true → with_enabled names b now rows ≡ rows
+enabled-same names b c now rows s e =
+    let is : is_truth b (Some (leaf.Truth c)) ≡ true = e in
+    rw (s.value_is, s.quality_is, is) refl
 
-pub output-same : (names : SwitchNames) (k : ℕ) (enabled : Enabled) (now : ℕ) (rows : List Row) → names.ena_opn ≡ opening_of k → names.ena_cls ≡ closing_of k → IsTold rows k enabled
-    → with_output names enabled.may_open enabled.may_close now rows ≡ rows
-output-same names k enabled now rows opens closes is =
-    ap (λ n. with_enabled names.ena_cls enabled.may_close now (with_enabled n enabled.may_open now rows)) opens
-    ∙ ap (λ n. with_enabled n enabled.may_close now (with_enabled (opening_of k) enabled.may_open now rows)) closes
-    ∙ ap (with_enabled (closing_of k) enabled.may_close now) (enabled-same (opening_of k) enabled.may_open now rows is.opening)
-    ∙ enabled-same (closing_of k) enabled.may_close now rows is.closing
+-- and what differs is written
+pub enabled-changed : (names : StatusNames) (b c : Bool) (now : ℕ) (rows : List Row) → Stands rows names c → same_truth b c ≡ false
+    → with_enabled names b now rows ≡ with_status names (leaf.Truth b) Good now rows
+enabled-changed names b c now rows s e =
+    let is : is_truth b (Some (leaf.Truth c)) ≡ false = e in
+    rw (s.value_is, s.quality_is, is) refl
+
+pub stands-valued : (rows : List Row) (names : StatusNames) (b : Bool) → Stands rows names b → AreValued rows names
+stands-valued rows names b s = record {
+  value_there = λ e. let none : Some (leaf.Truth b) ≡ None = sym s.value_is ∙ e in absurd cc;
+  quality_there = λ e. let none : Some (leaf.Quality Good) ≡ None = sym s.quality_is ∙ e in absurd cc;
+}
 
 -- the names of a status value differ, and it has a value and a quality
 record AreOwn (rows : List Row) (names : StatusNames) : Type 0 where
@@ -302,6 +305,13 @@ opening-other : (k : ℕ) (s : List ℕ) → get_or s 7 0 ≡ 67 → IsOther (in
 opening-other k s at =
     let apart : (t : List ℕ) → get_or t 7 0 ≡ 79 → interlocking_of k ++ s ≢ interlocking_of k ++ t = λ t is. one-node k s t (λ e. let same = ap (λ l. get_or l 7 0) e in omega (arith, at, is, same)) in
     record { value_other = apart _ refl; quality_other = apart _ refl; time_other = apart _ refl }
+
+-- what is said of closing stands after opening was written
+pub closing-stands : (k : ℕ) (b c : Bool) (now : ℕ) (rows : List Row) → Stands rows (closing_of k) c → Stands (with_enabled (opening_of k) b now rows) (closing_of k) c
+closing-stands k b c now rows s = record {
+  value_is = other-enabled _ (opening_of k) b now rows (opening-other k _ refl) ∙ s.value_is;
+  quality_is = other-enabled _ (opening_of k) b now rows (opening-other k _ refl) ∙ s.quality_is;
+}
 
 -- opening and closing have three names each
 suffix-apart : (k n a b : ℕ) (s t : List ℕ) → get_or s n 0 ≡ a → get_or t n 0 ≡ b → (a ≡ b → ⊥) → interlocking_of k ++ s ≢ interlocking_of k ++ t

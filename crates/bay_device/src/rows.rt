@@ -58,7 +58,8 @@ pub fn put_status(tree: &mut Tree, rows: StatusRows, value: Leaf, quality: Quali
     put(tree, rows.time, Leaf::Utc(now));
 }
 
-fn same_position(first: Dbpos, second: Dbpos) -> bool
+/// Whether two positions are one.
+pub fn same_position(first: Dbpos, second: Dbpos) -> bool
     ensures { result ≡ same_position first second }
 {
     first == second

@@ -1,5 +1,5 @@
 // What a scan reads, and what it writes (IEC 61850-7-4, CILO: EnaOpn and EnaCls).
-ghost use Rattle.std.specs.Prelude.{◌≡◌, ◌<◌, ◌^◌, ℕ, ◌↔◌, [], length, slice_get, Some, None, IsTrue};
+ghost use Rattle.std.specs.Prelude.{◌≡◌, ◌<◌, ◌^◌, ℕ, [], length, slice_get, Some, None};
 ghost use Rattle.bay_tree.specs.declared.leaf.Kind.TheVariants as kind;
 ghost use Rattle.bay_tree.specs.declared.leaf.Leaf.TheVariants as leaves;
 ghost use Rattle.il_image.specs.Images.{IsValue};
@@ -9,15 +9,15 @@ ghost use Rattle.il_scan.specs.Places.{is_true};
 ghost use Rattle.bay_device.specs.Device.{number_of_position, output_at, position_value, with_enabled, with_output};
 ghost use Rattle.bay_device.specs.Layout.{layout_of, status_in, switch_in, AreStatusRows, AreSwitchRows, AreKinded, AreMeterKinded};
 ghost use Rattle.bay_device.specs.Meaning.{type_of_origin, type_of_switch_point};
-ghost use Rattle.bay_device.specs.Told.{AreEnabling, AreInterlocked, AreTold, AreValued, IsInterlocked, IsTold};
+ghost use Rattle.bay_device.specs.Told.{AreEnabling, AreInterlocked, AreTold, AreValued, IsInterlocked, IsTold, Stands};
 ghost use Rattle.bay_device.specs.Scans.{bound_value, leaf_at, meter_value, outputs_put, switch_value};
 
 use crate::meter::BoundMeter;
 use crate::rows::{
-    StatusRows, SwitchRows, count_at, is_position, is_quality, is_truth, position_at, put_status,
+    StatusRows, SwitchRows, count_at, is_quality, is_truth, position_at, put_status, same_position,
 };
 use crate::switch::{BoundSwitch, Enabled};
-use crate::values::{ToldValues, Truths};
+use crate::values::{ToldValues, Truths, same_truth};
 use bay_config::bay::{MeterField, Origin, SwitchPoint};
 use bay_tree::leaf::{Dbpos, Leaf, Quality};
 use bay_tree::tree::Tree;
@@ -43,10 +43,11 @@ fn position_value(tree: &Tree, rows: StatusRows, point: SwitchPoint) -> Value
     ensures typed { type_of result ≡ type_of_switch_point point }
     ensures is_value { IsValue result }
 {
+    let position = position_at(tree, rows.value);
     match point {
-        SwitchPoint::Position => Value::Short(number_of_position(position_at(tree, rows.value))),
-        SwitchPoint::Open => Value::Truth(is_position(tree, rows.value, Dbpos::Off)),
-        SwitchPoint::Closed => Value::Truth(is_position(tree, rows.value, Dbpos::On)),
+        SwitchPoint::Position => Value::Short(number_of_position(position)),
+        SwitchPoint::Open => Value::Truth(same_position(Dbpos::Off, position)),
+        SwitchPoint::Closed => Value::Truth(same_position(Dbpos::On, position)),
         SwitchPoint::EnableOpen | SwitchPoint::EnableClose => Value::Truth(false),
     }
 }
@@ -183,14 +184,39 @@ fn write_output(tree: &mut Tree, rows: &SwitchRows, enabled: Enabled, now: u64)
     set_enabled(tree, rows.ena_cls, enabled.may_close, now);
 }
 
-/// Whether two answers on a switch are one.
-fn same_enabled(first: Enabled, second: Enabled) -> bool
-    ensures { IsTrue result ↔ (first ≡ second) }
+/// Gives an interlocking value a new value, where one stands there with a good quality.
+fn change_enabled(tree: &mut Tree, rows: StatusRows, stood: bool, value: bool, now: u64)
+    requires rows { AreStatusRows (layout_of tree.old) kind.Truth rows }
+    requires stands { Stands tree.old (status_in (layout_of tree.old) rows) stood }
+    ensures rows { tree.new ≡ with_enabled (status_in (layout_of tree.old) rows) value now tree.old }
+    ensures layout { layout_of tree.new ≡ layout_of tree.old }
 {
-    first.may_open == second.may_open && first.may_close == second.may_close
+    if same_truth(value, stood) {
+        return;
+    }
+    put_status(tree, rows, Leaf::Truth(value), Quality::Good, now)
 }
 
-/// Gives the interlocking values of the switch at a place new values, where the last scan did not write the same.
+/// Gives the interlocking values of the switch at a place new values, where the last scan wrote these.
+fn change_output(
+    tree: &mut Tree,
+    _place: usize,
+    rows: &SwitchRows,
+    stood: Enabled,
+    enabled: Enabled,
+    now: u64,
+)
+    requires rows { IsInterlocked (layout_of tree.old) _place rows.now }
+    requires stands { IsTold tree.old _place stood }
+    ensures rows { tree.new ≡ with_output (switch_in (layout_of tree.old) rows.now) enabled.may_open enabled.may_close now tree.old }
+    ensures layout { layout_of tree.new ≡ layout_of tree.old }
+    ensures told { IsTold tree.new _place enabled }
+{
+    change_enabled(tree, rows.ena_opn, stood.may_open, enabled.may_open, now);
+    change_enabled(tree, rows.ena_cls, stood.may_close, enabled.may_close, now);
+}
+
+/// Gives the interlocking values of the switch at a place new values. What the last scan wrote is not read again.
 fn tell(
     tree: &mut Tree,
     told: &mut ToldValues,
@@ -208,13 +234,12 @@ fn tell(
     ensures told { AreTold tree.new told.new }
     ensures sized { length told.new ≡ length told.old }
 {
-    if let Some(stood) = told.get(place) {
-        if same_enabled(stood, enabled) {
-            return;
-        }
-    }
-    write_output(tree, rows, enabled, now);
+    let stood = told.get(place);
     told.set(place, enabled);
+    match stood {
+        Some(stood) => change_output(tree, place, rows, stood, enabled, now),
+        None => write_output(tree, rows, enabled, now),
+    }
 }
 
 /// Gives each switch's interlocking values the values of their points.

@@ -58,6 +58,13 @@ fn key_of(name: &str) -> usize
     key
 }
 
+/// Whether a name is this name, whatever the case of its letters. Mostly it is spelled alike, which is seen at once.
+fn is_named(own: &str, name: &str) -> bool
+    ensures { result ≡ same_name own.now name.now }
+{
+    own == name || same_name(own, name)
+}
+
 /// For each key a place before which no name has it.
 #[derive(Drop)]
 pub struct NameTable {
@@ -94,7 +101,7 @@ impl NameTable {
         ensures { result ≡ position (λ item. same_name (T.name item) name.now) items.now }
     {
         for place in self.firsts[key_of(name)]..items.len() {
-            if same_name(items[place].name(), name) {
+            if is_named(items[place].name(), name) {
                 return Some(place);
             }
         }

@@ -157,11 +157,9 @@ impl Outbox {
         writer: &mut WatchedWriter<W>,
         text: &[u8],
     ) -> Result<(), WriteFault>
+        requires { writer.old.has_failed ≡ false }
         ensures { Puts W.contents self.old writer.old text.now self.new writer.new result }
     {
-        if writer.has_failed() {
-            return Err(WriteFault);
-        }
         if self.keep(text) {
             return Ok(());
         }
@@ -174,11 +172,9 @@ impl Outbox {
         writer: &mut WatchedWriter<W>,
         number: u64,
     ) -> Result<(), WriteFault>
+        requires { writer.old.has_failed ≡ false }
         ensures { Puts W.contents self.old writer.old (decimal number) self.new writer.new result }
     {
-        if writer.has_failed() {
-            return Err(WriteFault);
-        }
         if self.keep_number(number) {
             return Ok(());
         }

@@ -1,9 +1,9 @@
 // What is printed for a line of the trace.
-ghost use Rattle.std.specs.Prelude.{◌≡◌, ◌++◌, false, codes, IfOk, OnOk, slice_get};
+ghost use Rattle.std.specs.Prelude.{◌≡◌, ◌∷◌, [], ◌++◌, false, codes, IfOk, OnOk, slice_get};
 ghost use Rattle.std.specs.Fmt.{decimal};
 ghost use Rattle.bay_device.specs.Device.{outcome};
 ghost use Rattle.bay_io.specs.Sent.{Puts};
-ghost use Rattle.bay_main.specs.LineAnswers.{enabled_text, switch_text, switch_part, switches_text, steps_text, scan_text, refused_text, step_text, placed_event, unreadable_text, line_answer};
+ghost use Rattle.bay_main.specs.LineAnswers.{digit_of, enabled_text, switch_text, switch_part, switches_text, steps_text, scan_text, refused_text, step_text, placed_event, unreadable_text, line_answer};
 ghost use Rattle.bay_main.specs.Trace.{trace_line_of};
 ghost use Rattle.bay_main.specs.TraceView.{named_view};
 
@@ -15,16 +15,18 @@ use bay_io::outbox::{Outbox, WriteFault};
 use bay_io::writer::WatchedWriter;
 use std::io::Write;
 
-/// The sign and the digits that say whether a switch may be opened and closed.
-fn enabled_text(opens: bool, closes: bool) -> &'static [u8; 3]
-    ensures { result.now ≡ enabled_text opens closes }
+/// The digit of a truth value.
+fn digit(truth: bool) -> u8
+    ensures { result ∷ [] ≡ digit_of truth }
 {
-    match (opens, closes) {
-        (false, false) => b"=00",
-        (false, true) => b"=01",
-        (true, false) => b"=10",
-        (true, true) => b"=11",
-    }
+    b'0' + u8::from(truth)
+}
+
+/// The sign and the digits that say whether a switch may be opened and closed.
+fn enabled_text(opens: bool, closes: bool) -> [u8; 3]
+    ensures { result ≡ enabled_text opens closes }
+{
+    [b'=', digit(opens), digit(closes)]
 }
 
 /// Writes the id of a switch, after a space.
@@ -33,6 +35,7 @@ fn put_id<W: Write>(
     writer: &mut WatchedWriter<W>,
     id: &str,
 ) -> Result<(), WriteFault>
+    requires { writer.old.has_failed ≡ false }
     ensures { Puts W.contents outbox.old writer.old (codes " " ++ id.now) outbox.new writer.new result }
 {
     outbox.put(writer, b" ")?;
@@ -47,6 +50,7 @@ fn put_switch<W: Write>(
     opens: bool,
     closes: bool,
 ) -> Result<(), WriteFault>
+    requires { writer.old.has_failed ≡ false }
     ensures { Puts W.contents outbox.old writer.old (switch_text id.now opens closes) outbox.new writer.new result }
 {
     put_id(outbox, writer, id)?;
@@ -94,6 +98,7 @@ fn put_moment<W: Write>(
     moment: u64,
     text: &[u8],
 ) -> Result<(), WriteFault>
+    requires { writer.old.has_failed ≡ false }
     ensures { Puts W.contents outbox.old writer.old (decimal moment ++ text.now) outbox.new writer.new result }
 {
     outbox.put_number(writer, moment)?;
@@ -107,6 +112,7 @@ fn put_steps<W: Write>(
     moment: u64,
     steps: u32,
 ) -> Result<(), WriteFault>
+    requires { writer.old.has_failed ≡ false }
     ensures { Puts W.contents outbox.old writer.old (steps_text moment steps) outbox.new writer.new result }
 {
     put_moment(outbox, writer, moment, b" scan steps=")?;
@@ -134,6 +140,7 @@ fn put_scan<W: Write>(
     moment: u64,
     steps: u32,
 ) -> Result<(), WriteFault>
+    requires { writer.old.has_failed ≡ false }
     ensures { Puts W.contents outbox.old writer.old (scan_text moment steps device.now) outbox.new writer.new result }
 {
     put_steps(outbox, writer, moment, steps)?;
@@ -146,6 +153,7 @@ fn put_last_number<W: Write>(
     writer: &mut WatchedWriter<W>,
     number: u64,
 ) -> Result<(), WriteFault>
+    requires { writer.old.has_failed ≡ false }
     ensures { Puts W.contents outbox.old writer.old (decimal number ++ codes "\n") outbox.new writer.new result }
 {
     outbox.put_number(writer, number)?;
@@ -160,6 +168,7 @@ fn put_refused<W: Write>(
     moment: u64,
     fault: StepFault,
 ) -> Result<(), WriteFault>
+    requires { writer.old.has_failed ≡ false }
     ensures { Puts W.contents outbox.old writer.old (refused_text moment fault) outbox.new writer.new result }
 {
     put_moment(outbox, writer, moment, b" refused ")?;
@@ -173,6 +182,7 @@ fn put_unreadable<W: Write>(
     writer: &mut WatchedWriter<W>,
     number: usize,
 ) -> Result<(), WriteFault>
+    requires { writer.old.has_failed ≡ false }
     ensures { Puts W.contents outbox.old writer.old (unreadable_text number) outbox.new writer.new result }
 {
     outbox.put(writer, b"fault 120 line ")?;

@@ -31,6 +31,9 @@ fn replay_trace<W: Write>(
     requires { length trace.now ≤ scenario_limit }
     ensures { Prints W.contents (HeadReport head.now device.old (lines_of trace.now)) writer.old writer.new result }
 {
+    if writer.has_failed() {
+        return Err(WriteFault);
+    }
     let mut outbox = Outbox::new();
     outbox.put(writer, head)?;
     let mut rest = trace;

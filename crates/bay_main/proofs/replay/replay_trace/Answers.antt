@@ -1,9 +1,13 @@
-use Rattle.std.proofs.Common.{◌≡◌, ◌∙◌, sym, ap, length, arith}
+use Rattle.std.proofs.Common.{◌≡◌, ◌∙◌, [], refl, sym, ap, length, arith}
 use Rattle.std.proofs.lemmas.Bool.Decides.{nat_tests}
 use Rattle.bay_main.specs.Report.{HeadReport}
 use Rattle.bay_main.specs.Scenario.{lines_of}
 use Rattle.bay_main.proofs.ReportLemmas.{Prints-err, Progress-step, Progress-line_cut, Progress-fault, Progress-fault_cut, Progress-end, Progress-end_cut, Progress-load_cut, lines-cut, nil_from_length}
+use Rattle.bay_io.proofs.SentLemmas.{SendsPart-none}
 use Rattle.bay_main.proofs.replay.replay_trace.Goals as goal
+
+pub returns-then-has_failed : goal.returns-then-has_failed
+returns-then-has_failed g c = (Progress-load_cut c.args.head.now c.args.device.now (lines_of c.args.trace.now) _ _ [] refl (SendsPart-none _ _), sym c.if-has_failed.ensures)
 
 pub returns-in_err-put : goal.returns-in_err-put
 returns-in_err-put g c =

@@ -9,13 +9,13 @@ pub loop-place-init : goal.loop-place-init
 loop-place-init g c =
     rw c.key_of.ensures.key (passed-over g.T.Named.name c.args.items.now c.args.self.now.firsts c.args.name.now c.requires)
 
-pub returns-then-same_name : goal.returns-then-same_name
-returns-then-same_name g c =
+pub returns-then-is_named : goal.returns-then-is_named
+returns-then-is_named g c =
     let items = c.args.items.now in
     let item = c.index-items-place.result in
     let here : slice_get items c.loop-place.place ≡ Some item = slice_get_read items (length items) c.loop-place.place item refl c.loop-place-test.true c.index-items-place.is in
-    let asked : c.same_name.result ≡ same_name (g.T.Named.name item) c.args.name.now = ◌∙◌ {b = same_name c.name.result.now c.args.name.now} c.same_name.ensures (ap (λ n. same_name n c.args.name.now) c.name.ensures) in
-    let same = sym asked ∙ c.if-same_name.true in
+    let asked : c.is_named.result ≡ same_name (g.T.Named.name item) c.args.name.now = ◌∙◌ {b = same_name c.name.result.now c.args.name.now} c.is_named.ensures (ap (λ n. same_name n c.args.name.now) c.name.ensures) in
+    let same = sym asked ∙ c.if-is_named.true in
     sym (found-at (λ x. same_name (g.T.Named.name x) c.args.name.now) items c.loop-place.place item c.loop-place.invariant here same)
 
 pub loop-place-preserved : goal.loop-place-preserved
@@ -23,8 +23,8 @@ loop-place-preserved g c =
     let items = c.args.items.now in
     let item = c.index-items-place.result in
     let here : slice_get items c.loop-place.place ≡ Some item = slice_get_read items (length items) c.loop-place.place item refl c.loop-place-test.true c.index-items-place.is in
-    let asked : c.same_name.result ≡ same_name (g.T.Named.name item) c.args.name.now = ◌∙◌ {b = same_name c.name.result.now c.args.name.now} c.same_name.ensures (ap (λ n. same_name n c.args.name.now) c.name.ensures) in
-    let other = sym asked ∙ c.if-same_name.false in
+    let asked : c.is_named.result ≡ same_name (g.T.Named.name item) c.args.name.now = ◌∙◌ {b = same_name c.name.result.now c.args.name.now} c.is_named.ensures (ap (λ n. same_name n c.args.name.now) c.name.ensures) in
+    let other = sym asked ∙ c.if-is_named.false in
     Passed-more (λ x. same_name (g.T.Named.name x) c.args.name.now) items c.loop-place.place item c.loop-place.invariant here other
 
 pub returns : goal.returns

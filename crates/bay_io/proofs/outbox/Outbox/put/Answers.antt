@@ -1,9 +1,6 @@
 use Rattle.std.proofs.Common.{◌≡◌, sym}
-use Rattle.bay_io.proofs.SentLemmas.{not_kept, SendsPart-none}
+use Rattle.bay_io.proofs.SentLemmas.{not_kept}
 use Rattle.bay_io.proofs.outbox.Outbox.put.Goals as goal
-
-pub returns-then-has_failed : goal.returns-then-has_failed
-returns-then-has_failed g c = (SendsPart-none _ _, sym c.if-has_failed.ensures)
 
 pub returns : goal.returns
 returns g c =

@@ -1,11 +1,8 @@
 use Rattle.std.proofs.Common.{◌≡◌, ◌∙◌, subst, sym}
 use Rattle.std.specs.Fmt.{decimal}
 use Rattle.bay_io.specs.Sent.{Puts}
-use Rattle.bay_io.proofs.SentLemmas.{not_kept, SendsPart-none}
+use Rattle.bay_io.proofs.SentLemmas.{not_kept}
 use Rattle.bay_io.proofs.outbox.Outbox.put_number.Goals as goal
-
-pub returns-then-has_failed : goal.returns-then-has_failed
-returns-then-has_failed g c = (SendsPart-none _ _, sym c.if-has_failed.ensures)
 
 pub returns : goal.returns
 returns g c =
