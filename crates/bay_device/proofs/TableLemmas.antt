@@ -1,6 +1,7 @@
 -- Lemmas on tables of names.
-use Rattle.std.proofs.Common.{◌≡◌, ◌≢◌, ℕ, zero, suc, ◌+◌, ◌*◌, ◌%◌, ◌<◌, ◌≤◌, Bool, true, false, cond, nat_eq, nat_lt, List, [], ◌∷◌, length, get_or, map, position, slice_get, option_map, Some, None, ◌⊎◌, ⊎_elim, inl, inr, refl, ap, sym, ◌∙◌, arith}
+use Rattle.std.proofs.Common.{◌≡◌, ◌≢◌, ℕ, zero, suc, ◌+◌, ◌-◌, ◌*◌, ◌%◌, ◌<◌, ◌≤◌, Bool, true, false, cond, nat_eq, nat_lt, List, [], ◌∷◌, length, get_or, map, position, slice_get, option_map, Some, None, ◌⊎◌, ⊎_elim, inl, inr, refl, ap, sym, ◌∙◌, arith}
 use Rattle.std.specs.List.{fold, position_from}
+use Rattle.std.specs.Char.{to_ascii_uppercase}
 use Rattle.std.specs.Str.{bytes_eq}
 use Rattle.std.proofs.lemmas.Bool.Decides.{nat_tests}
 use Rattle.std.proofs.lemmas.Iterator.Adapters.{position_from-zero}
@@ -13,16 +14,28 @@ use Rattle.bay_device.specs.Table.{IsTable, key_after, key_of, noted}
 
 -- ---- keys
 
+-- a letter in upper case leaves the same by 32
+upper-rest : (c : ℕ) → to_ascii_uppercase c % 32 ≡ c % 32
+upper-rest c = by_low (nat_lt c 97) refl
+  where
+    by_high : (v : Bool) → nat_lt c 123 ≡ v → nat_lt c 97 ≡ false → cond v (c - 32) c % 32 ≡ c % 32
+    by_high true e low = let back : c ≡ (c - 32) + 32 = grind (arith, nat_tests) in omega (arith, back)
+    by_high false e low = refl
+
+    by_low : (v : Bool) → nat_lt c 97 ≡ v → cond v c (cond (nat_lt c 123) (c - 32) c) % 32 ≡ c % 32
+    by_low true e = refl
+    by_low false e = by_high (nat_lt c 123) refl e
+
 -- the key is that of the name in upper case
-key-upper : (name : List ℕ) (key : ℕ) → fold key_after key name ≡ fold (λ k octet. (k * 31 + octet) % 64) key (upper name)
+key-upper : (name : List ℕ) (key : ℕ) → fold key_after key name ≡ fold key_after key (upper name)
 key-upper [] key = refl
-key-upper (b ∷ bs) key = key-upper bs (key_after key b)
+key-upper (b ∷ bs) key = key-upper bs (key_after key b) ∙ ap (λ r. fold key_after ((key * 31 + r) % 64) (upper bs)) (sym (upper-rest b))
 
 pub same-key : (a b : List ℕ) → same_name a b ≡ true → key_of a ≡ key_of b
 unfolding same_name
 same-key a b h =
     let same : upper a ≡ upper b = (bytes_eq-Decides (upper a) (upper b)).0 h in
-    key-upper a 0 ∙ ap (fold (λ k octet. (k * 31 + octet) % 64) 0) same ∙ sym (key-upper b 0)
+    key-upper a 0 ∙ ap (fold key_after 0) same ∙ sym (key-upper b 0)
 
 -- names that are spelled alike are the same
 pub same-spelled : (a b : List ℕ) → bytes_eq a b ≡ true → same_name a b ≡ true

@@ -1,14 +1,13 @@
 -- Where names stand: for each key a place before which no name has it.
 use Rattle.std.specs.Prelude.{◌≡◌, ℕ, ◌+◌, ◌*◌, ◌<◌, ◌≤◌, ◌%◌, nat_lt, List, length, map, get_or, slice_get, slice_set, Some, if◌then◌else◌}
-use Rattle.std.specs.Char.{to_ascii_uppercase}
 use Rattle.std.specs.List.{fold}
 use Rattle.bay_device.specs.declared.meter.BoundMeter.{BoundMeter}
 use Rattle.bay_device.specs.declared.switch.BoundSwitch.{BoundSwitch}
 use Rattle.bay_device.specs.declared.table.NameTables.{NameTables}
 
--- the key of a name, below 64: the same for a name in other letters
+-- the key of a name, below 64: the same for a name in other letters, whose octets differ by 32
 abbrev pub key_after : ℕ → ℕ → ℕ
-key_after key octet = (key * 31 + to_ascii_uppercase octet) % 64
+key_after key octet = (key * 31 + octet % 32) % 64
 
 abbrev pub key_of : List ℕ → ℕ
 key_of name = fold key_after 0 name

@@ -53,7 +53,7 @@ fn key_of(name: &str) -> usize
 {
     let mut key = 0;
     for octet in name.as_bytes() {
-        key = (key * 31 + octet.to_ascii_uppercase() as usize) % KEYS;
+        key = (key * 31 + usize::from(octet % 32)) % KEYS;
     }
     key
 }

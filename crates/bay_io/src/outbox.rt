@@ -1,5 +1,5 @@
 // What is written goes through a buffer, so that a writer is asked for 64 KiB at a time.
-ghost use Rattle.std.specs.Prelude.{◌≡◌, ◌++◌, [], true, false, is_err, OnOk, OnErr, if◌then◌else◌};
+ghost use Rattle.std.specs.Prelude.{◌≡◌, ◌+◌, ◌≤◌, ◌++◌, [], length, true, false, is_err, OnOk, OnErr, if◌then◌else◌};
 ghost use Rattle.std.specs.Fmt.{decimal};
 ghost use Rattle.std.specs.Io.KnownBytes.{Appends, Keeps};
 ghost use Rattle.bay_io.specs.Sent.{Puts, SendsPart};
@@ -13,6 +13,9 @@ use thiserror::Error;
 
 /// How many octets the buffer holds at most.
 const ROOM: usize = 65_536;
+
+/// A text of at most so many octets is short.
+const SHORT: usize = 4;
 
 /// A write or a flush failed, or the writer took nothing of what it was given.
 #[derive(Clone, Copy, Debug, PartialEq, Eq, Error)]
@@ -65,6 +68,33 @@ pub fn write_last<W: Write>(writer: &mut WatchedWriter<W>, text: &[u8]) -> Resul
     flush_out(writer)
 }
 
+/// Adds a short text octet by octet, which costs less than a call that copies it.
+fn keep_octets(pending: &mut ArrayVec<u8, ROOM>, text: &[u8])
+    requires { length pending.old.items + length text.now ≤ 65536 }
+    ensures { pending.new.items ≡ pending.old.items ++ text.now }
+{
+    for octet in text {
+        pending.push(*octet);
+    }
+}
+
+/// Adds a text that is mostly short where there is room for it, and answers whether there was.
+#[inline(always)]
+fn keep_short(pending: &mut ArrayVec<u8, ROOM>, text: &[u8]) -> bool
+    requires { length pending.old.items ≤ 65536 }
+    ensures items { pending.new.items ≡ (if result then pending.old.items ++ text.now else pending.old.items) }
+    ensures room { length pending.new.items ≤ 65536 }
+{
+    if text.len() > SHORT {
+        return pending.try_extend_from_slice(text).is_ok();
+    }
+    if pending.remaining_capacity() < text.len() {
+        return false;
+    }
+    keep_octets(pending, text);
+    true
+}
+
 /// Octets that are not yet written, at most 65,536. It takes no memory beside its own.
 #[derive(Drop)]
 pub struct Outbox {
@@ -106,9 +136,7 @@ impl Outbox {
         ensures { self.new ≡ (if result then self.old ++ decimal number else self.old) }
     {
         let digits = self.digits.format(number);
-        self.pending
-            .try_extend_from_slice(digits.as_bytes())
-            .is_ok()
+        keep_short(&mut self.pending, digits.as_bytes())
     }
 
     /// Writes out what is pending.
@@ -161,6 +189,21 @@ impl Outbox {
         ensures { Puts W.contents self.old writer.old text.now self.new writer.new result }
     {
         if self.keep(text) {
+            return Ok(());
+        }
+        self.put_after_flush(writer, text)
+    }
+
+    /// Adds a text that is mostly short, like the id of a switch: of up to four octets faster than `put`.
+    pub fn put_short<W: Write>(
+        &mut self,
+        writer: &mut WatchedWriter<W>,
+        text: &[u8],
+    ) -> Result<(), WriteFault>
+        requires { writer.old.has_failed ≡ false }
+        ensures { Puts W.contents self.old writer.old text.now self.new writer.new result }
+    {
+        if keep_short(&mut self.pending, text) {
             return Ok(());
         }
         self.put_after_flush(writer, text)

@@ -5,8 +5,8 @@ use Rattle.std.proofs.lemmas.List.Splits.{join_with_byte-slice_split}
 use Rattle.std.proofs.lemmas.Slice.Eq.{bytes_eq-Decides}
 use Rattle.std.proofs.lemmas.Str.{IsUtf8-append, IsUtf8-from_ascii, IsUtf8-from_is_utf8}
 use Rattle.std.proofs.lemmas.Str.Ascii.{IsAscii-cons, IsAscii-nil}
-use Rattle.std.specs.Char.{is_ascii_digit}
-use Rattle.std.specs.List.{join_with_byte, slice_split}
+use Rattle.std.specs.Char.{is_ascii, is_ascii_digit}
+use Rattle.std.specs.List.{join_with_byte, list_all, slice_split}
 use Rattle.std.specs.Str.{all_ascii_digits, bytes_eq, IsAscii, is_utf8, IsUtf8}
 use Rattle.std.proofs.lemmas.Bool.{and_parts}
 use Rattle.std.specs.Prelude.{IfSome}
@@ -35,14 +35,13 @@ mapped f (Some x) y e = (x, refl)
 -- ---- words of a form
 
 abbrev is_plain : List ℕ → Bool
-is_plain [] = true
-is_plain (b ∷ bs) = nat_lt b 128 && is_plain bs
+is_plain bs = list_all is_ascii bs
 
 plain : (bs : List ℕ) → is_plain bs ≡ true → IsAscii bs
 plain [] e = IsAscii-nil
 plain (b ∷ bs) e = let both = and_parts (nat_lt b 128) (is_plain bs) e in let lt = both.0 in IsAscii-cons b bs (grind (arith, nat_tests)) (plain bs both.1)
 
-plain_text : (bs : List ℕ) → is_plain bs ≡ true → IsUtf8 bs
+pub plain_text : (bs : List ℕ) → is_plain bs ≡ true → IsUtf8 bs
 plain_text bs ascii = IsUtf8-from_ascii bs (plain bs ascii)
 
 choice : {X : Type 0} (word text : List ℕ) (x y : X) (rest : Option X) → is_plain text ≡ true → (rest ≡ Some y → IsUtf8 word) → cond (bytes_eq word text) (Some x) rest ≡ Some y → IsUtf8 word

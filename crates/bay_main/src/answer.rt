@@ -22,11 +22,11 @@ fn digit(truth: bool) -> u8
     b'0' + u8::from(truth)
 }
 
-/// The sign and the digits that say whether a switch may be opened and closed.
-fn enabled_text(opens: bool, closes: bool) -> [u8; 3]
-    ensures { result ≡ enabled_text opens closes }
+/// The digits that say whether a switch may be opened and closed.
+fn digits(opens: bool, closes: bool) -> [u8; 2]
+    ensures { result ≡ digit_of opens ++ digit_of closes }
 {
-    [b'=', digit(opens), digit(closes)]
+    [digit(opens), digit(closes)]
 }
 
 /// Writes the id of a switch, after a space.
@@ -39,7 +39,21 @@ fn put_id<W: Write>(
     ensures { Puts W.contents outbox.old writer.old (codes " " ++ id.now) outbox.new writer.new result }
 {
     outbox.put(writer, b" ")?;
-    outbox.put(writer, id.as_bytes())
+    outbox.put_short(writer, id.as_bytes())
+}
+
+/// Writes whether a switch may be opened and closed, after a sign.
+fn put_enabled<W: Write>(
+    outbox: &mut Outbox,
+    writer: &mut WatchedWriter<W>,
+    opens: bool,
+    closes: bool,
+) -> Result<(), WriteFault>
+    requires { writer.old.has_failed ≡ false }
+    ensures { Puts W.contents outbox.old writer.old (enabled_text opens closes) outbox.new writer.new result }
+{
+    outbox.put(writer, b"=")?;
+    outbox.put(writer, digits(opens, closes).as_slice())
 }
 
 /// Writes the part of a scan's line on one switch: its id, and whether it may be opened and closed.
@@ -54,7 +68,7 @@ fn put_switch<W: Write>(
     ensures { Puts W.contents outbox.old writer.old (switch_text id.now opens closes) outbox.new writer.new result }
 {
     put_id(outbox, writer, id)?;
-    outbox.put(writer, enabled_text(opens, closes).as_slice())
+    put_enabled(outbox, writer, opens, closes)
 }
 
 /// Writes the part of a scan's line on the switch at a place, if there is one.

@@ -1,6 +1,6 @@
 // The parts of a scenario, and its lines.
-ghost use Rattle.std.specs.Prelude.{◌≡◌, ◌+◌, ◌-◌, ◌<◌, ◌≤◌, ℕ, true, false, length, slice_index, option_map, IfSome};
-ghost use Rattle.bay_main.specs.Scenario.{is_line_feed, pieces, content, is_separator, part_of, scenario_of, CutsLine};
+ghost use Rattle.std.specs.Prelude.{◌≡◌, ◌∷◌, [], ◌<◌, ◌≤◌, length, option_map, IfSome};
+ghost use Rattle.bay_main.specs.Scenario.{pieces, without_end, is_separator, part_of, scenario_of, CutsLine};
 ghost use Rattle.bay_main.specs.ScenarioView.{scenario_view};
 
 use memchr::memchr_iter;
@@ -16,42 +16,27 @@ pub struct Scenario<'a> {
     pub trace: &'a [u8],
 }
 
-/// How many octets the first line takes, with its line feed.
-fn first_piece_len(text: &[u8]) -> usize
-    requires { 0 < length text.now }
-    ensures some { 0 < result }
-    ensures within { result ≤ length text.now }
-    ensures before { (k : ℕ) → k + 1 < result → is_line_feed (slice_index text.now k) ≡ false }
-    ensures at { result < length text.now → is_line_feed (slice_index text.now (result - 1)) ≡ true }
+/// A line without the CR that may stand before its LF.
+fn without_return(line: &[u8]) -> &[u8]
+    ensures { result.now ≡ without_end (13 ∷ []) line.now }
 {
-    // An iterator looks at the next 32 octets first, and a line is short.
-    match memchr_iter(b'\n', text).next() {
-        Some(at) => at + 1,
-        None => text.len(),
-    }
-}
-
-/// A line without its end, which is LF or CR LF.
-fn content(piece: &[u8]) -> &[u8]
-    ensures { result.now ≡ content piece.now }
-{
-    let Some(line) = piece.strip_suffix(b"\n") else {
-        return piece;
-    };
     match line.strip_suffix(b"\r") {
         Some(line) => line,
         None => line,
     }
 }
 
-/// The first line without its end, and what follows it.
+/// The first line without its end, which is LF or CR LF, and what follows it.
 pub fn cut_line(text: &[u8]) -> (&[u8], &[u8])
     requires { 0 < length text.now }
     ensures cuts { CutsLine text.now result.0.now result.1.now }
     ensures shorter { length result.1.now < length text.now }
 {
-    let (piece, rest) = text.split_at(first_piece_len(text));
-    (content(piece), rest)
+    // An iterator looks at the next 32 octets first, and a line is short.
+    match memchr_iter(b'\n', text).next() {
+        Some(at) => (without_return(&text[..at]), &text[at + 1..]),
+        None => (text, &text[text.len()..]),
+    }
 }
 
 /// Whether the line parts a scenario.

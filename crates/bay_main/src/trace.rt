@@ -158,12 +158,15 @@ fn field(word: &[u8]) -> Option<MeterField>
     }
 }
 
-/// A name, which is UTF-8 and not empty.
+/// A name, which is UTF-8 and not empty. Most names are ASCII, which is UTF-8 as it stands.
 fn name(word: &[u8]) -> Option<&str>
     ensures { option_map (λ name. name.now) result ≡ name_of word.now }
 {
     if word.is_empty() {
         return None;
+    }
+    if word.iter().all(|octet| octet.is_ascii()) {
+        return Some(unsafe { std::str::from_utf8_unchecked(word) });
     }
     match std::str::from_utf8(word) {
         Ok(name) => Some(name),

@@ -8,4 +8,4 @@ returns-in_err-put g c =
 
 pub returns : goal.returns
 returns g c =
-    Puts-then g.W.Write.contents c.args.outbox.now c.args.writer.now c.put.new.writer c.put-2.new.writer (codes " ") (c.as_bytes.result.now) _ c.put.new.self c.put-2.new.self c.put-2.result (ap (λ t. codes " " ++ t) (sym c.as_bytes.ensures.value)) c.in_ok-put.ensures c.put-2.ensures
+    Puts-then g.W.Write.contents c.args.outbox.now c.args.writer.now c.put.new.writer c.put_short.new.writer (codes " ") (c.as_bytes.result.now) _ c.put.new.self c.put_short.new.self c.put_short.result (ap (λ t. codes " " ++ t) (sym c.as_bytes.ensures.value)) c.in_ok-put.ensures c.put_short.ensures

@@ -1,4 +1,4 @@
-use Rattle.std.proofs.Common.{◌++◌, ◌∙◌, codes, sym, ap, refl}
+use Rattle.std.proofs.Common.{◌++◌, codes, refl}
 use Rattle.bay_main.specs.LineAnswers.{enabled_text}
 use Rattle.bay_io.proofs.SentLemmas.{Puts-cut, Puts-then}
 use Rattle.bay_main.proofs.answer.put_switch.Goals as goal
@@ -9,4 +9,4 @@ returns-in_err-put_id g c =
 
 pub returns : goal.returns
 returns g c =
-    Puts-then g.W.Write.contents c.args.outbox.now c.args.writer.now c.put_id.new.writer c.put.new.writer (codes " " ++ c.args.id.now) c.as_slice.result.now _ c.put_id.new.outbox c.put.new.self c.put.result (ap (λ t. (codes " " ++ c.args.id.now) ++ t) (sym (c.as_slice.ensures ∙ c.enabled_text.ensures))) c.in_ok-put_id.ensures c.put.ensures
+    Puts-then g.W.Write.contents c.args.outbox.now c.args.writer.now c.put_id.new.writer c.put_enabled.new.writer (codes " " ++ c.args.id.now) (enabled_text c.args.opens c.args.closes) _ c.put_id.new.outbox c.put_enabled.new.outbox c.put_enabled.result refl c.in_ok-put_id.ensures c.put_enabled.ensures
