@@ -132,6 +132,7 @@ impl Outbox {
     }
 
     /// Adds a number's decimal digits where the buffer has room for them, and answers whether it had.
+    #[inline(always)]
     fn keep_number(&mut self, number: u64) -> bool
         ensures { self.new ≡ (if result then self.old ++ decimal number else self.old) }
     {
@@ -210,6 +211,7 @@ impl Outbox {
     }
 
     /// Adds a number, in decimal digits.
+    #[inline(always)]
     pub fn put_number<W: Write>(
         &mut self,
         writer: &mut WatchedWriter<W>,
