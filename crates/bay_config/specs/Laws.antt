@@ -6,8 +6,8 @@ use Rattle.bay_tree.specs.declared.leaf.Dbpos.TheVariants.{Intermediate}
 use Rattle.bay_tree.specs.declared.leaf.Quality.TheVariants.{Invalid}
 use Rattle.bay_tree.specs.Rows.{IsTree}
 use Rattle.bay_config.specs.declared.bay.Bay.{Bay}
-use Rattle.bay_config.specs.declared.bay.Origin.{Origin}
-use Rattle.bay_config.specs.declared.bay.Origin.TheVariants as origins
+use Rattle.bay_config.specs.declared.bay.Source.{Source}
+use Rattle.bay_config.specs.declared.bay.Source.TheVariants as sources
 use Rattle.bay_config.specs.declared.bay.Point.{Point}
 use Rattle.bay_config.specs.declared.bay.Switch.{Switch}
 use Rattle.bay_config.specs.declared.nameplate.Nameplate.{Nameplate}
@@ -32,14 +32,14 @@ pub record OwnsField (meters : List (List ℕ)) (place : ℕ) (point : Point) : 
   pub here : slice_get meters place ≡ Some id
   pub has : Contains (meter_points place id) point
 
--- the point is one of the switch, the input or the meter that an origin names
-abbrev pub IsOwnedAt : List Switch → List (List ℕ) → List (List ℕ) → Point → Origin → Type 0
-IsOwnedAt switches inputs meters point (origins.Switch place which) = Owns switches place point
-IsOwnedAt switches inputs meters point (origins.Input place) = OwnsInput inputs place point
-IsOwnedAt switches inputs meters point (origins.Meter place field) = OwnsField meters place point
+-- the point is one of the switch, the input or the meter that an source names
+abbrev pub IsOwnedAt : List Switch → List (List ℕ) → List (List ℕ) → Point → Source → Type 0
+IsOwnedAt switches inputs meters point (sources.Switch place which) = Owns switches place point
+IsOwnedAt switches inputs meters point (sources.Input place) = OwnsInput inputs place point
+IsOwnedAt switches inputs meters point (sources.Meter place field) = OwnsField meters place point
 
 abbrev pub IsOwned : List Switch → List (List ℕ) → List (List ℕ) → Point → Type 0
-IsOwned switches inputs meters point = IsOwnedAt switches inputs meters point point.origin
+IsOwned switches inputs meters point = IsOwnedAt switches inputs meters point point.source
 
 -- what the section `bay` said of a bay
 abbrev pub nameplate_of : Bay → Nameplate
@@ -54,7 +54,7 @@ pub record IsBay (bay : Bay) : Type 0 where
   -- its points and rows are those of its nameplate, its switches, its inputs and its meters
   pub points : bay.points ≡ points_of_all bay.switches bay.inputs bay.meters
   pub rows : bay.rows ≡ rows_of_all (nameplate_of bay) bay.switches bay.meters
-  -- no two points have one name, and each belongs to what its origin names
+  -- no two points have one name, and each belongs to what its source names
   pub names : AllPairs (λ p q. p.name ≢ q.name) bay.points
   pub owners : All (IsOwned bay.switches bay.inputs bay.meters) bay.points
   -- names of rows are distinct, and each row's parent is a structure before it

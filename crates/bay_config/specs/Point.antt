@@ -4,7 +4,7 @@ use Rattle.std.specs.List.{list_any}
 use Rattle.std.specs.Str.{str_to_ascii_uppercase}
 use Rattle.bay_config.specs.declared.bay.Switch.{Switch}
 use Rattle.bay_config.specs.declared.bay.Point.{Point}
-use Rattle.bay_config.specs.declared.bay.Origin.TheVariants as origins
+use Rattle.bay_config.specs.declared.bay.Source.TheVariants as sources
 use Rattle.bay_config.specs.declared.bay.MeterField.{MeterField}
 use Rattle.bay_config.specs.declared.bay.MeterField.TheVariants.{TotW, TotVAr, Hz, PhaseA, PhaseB, PhaseC}
 use Rattle.bay_config.specs.declared.bay.SwitchPoint.{SwitchPoint}
@@ -23,7 +23,7 @@ point_of place id ending kind writable which = record {
   name = str_to_ascii_uppercase id ++ ending;
   kind = kind;
   writable = writable;
-  origin = origins.Switch place which;
+  source = sources.Switch place which;
 }
 
 -- the points that tell its position
@@ -52,7 +52,7 @@ points_from place (switch ∷ switches) = points_of place switch ++ points_from 
 
 -- the point of the input at a place, which has its name
 abbrev pub input_point : ℕ → List ℕ → Point
-input_point place name = record { name = str_to_ascii_uppercase name; kind = Truth; writable = false; origin = origins.Input place }
+input_point place name = record { name = str_to_ascii_uppercase name; kind = Truth; writable = false; source = sources.Input place }
 
 -- the points of inputs, of which the first stands at a place
 abbrev pub inputs_from : ℕ → List (List ℕ) → List Point
@@ -61,7 +61,7 @@ inputs_from place (name ∷ names) = input_point place name ∷ inputs_from (pla
 
 -- a field of the meter at a place with this id: what follows the id in its name, and which field it is
 abbrev pub field_point : ℕ → List ℕ → List ℕ → MeterField → Point
-field_point place id ending field = record { name = str_to_ascii_uppercase id ++ ending; kind = Dint; writable = false; origin = origins.Meter place field }
+field_point place id ending field = record { name = str_to_ascii_uppercase id ++ ending; kind = Dint; writable = false; source = sources.Meter place field }
 
 -- the points of the meter at a place
 abbrev pub meter_points : ℕ → List ℕ → List Point

@@ -75,12 +75,12 @@ pub struct Point {
     /// Whether the program may write it.
     pub writable: bool,
     /// What it stands for.
-    pub origin: Origin,
+    pub source: Source,
 }
 
 /// What a point stands for.
 #[derive(Clone, Copy, Debug, PartialEq, Eq)]
-pub enum Origin {
+pub enum Source {
     /// A point of the switch at this place, counted from 0 in the order of the file.
     Switch { switch: usize, point: SwitchPoint },
     /// The input at this place.

@@ -6,7 +6,7 @@ ghost use Rattle.bay_base.specs.Exact.{judged};
 ghost use Rattle.bay_config.specs.Point.{position_points, enable_points, points_of, points_from, inputs_from, field_point, meter_points, meters_from, points_of_all, has_twin, names_refusal};
 ghost use Rattle.bay_base.specs.Words.{reserved_of};
 
-use crate::bay::{MeterField, Origin, Point, Switch, SwitchPoint};
+use crate::bay::{MeterField, Point, Source, Switch, SwitchPoint};
 use crate::fault::BayFault;
 use bay_base::listing::Listing;
 use bay_base::text::Text;
@@ -22,10 +22,10 @@ fn push_point(
     ending: &str,
     kind: ElementaryType,
     writable: bool,
-    origin: Origin,
+    source: Source,
 ) -> Result<(), AllocError>
     ensures { IfOk result (λ _. points.new.items ≡ points.old.items
-        ++ record { name = str_to_ascii_uppercase id.now ++ ending.now; kind = kind; writable = writable; origin = origin } ∷ []) }
+        ++ record { name = str_to_ascii_uppercase id.now ++ ending.now; kind = kind; writable = writable; source = source } ∷ []) }
 {
     let mut name = String::from_str(alloc, id)?;
     name.make_ascii_uppercase();
@@ -34,7 +34,7 @@ fn push_point(
         name: Text::new(name),
         kind,
         writable,
-        origin,
+        source,
     })?;
     Ok(())
 }
@@ -48,15 +48,15 @@ fn push_position(
 ) -> Result<(), AllocError>
     ensures { IfOk result (λ _. points.new.items ≡ points.old.items ++ position_points switch id.now) }
 {
-    let position = Origin::Switch {
+    let position = Source::Switch {
         switch,
         point: SwitchPoint::Position,
     };
-    let open = Origin::Switch {
+    let open = Source::Switch {
         switch,
         point: SwitchPoint::Open,
     };
-    let closed = Origin::Switch {
+    let closed = Source::Switch {
         switch,
         point: SwitchPoint::Closed,
     };
@@ -99,11 +99,11 @@ fn push_enables(
 ) -> Result<(), AllocError>
     ensures { IfOk result (λ _. points.new.items ≡ points.old.items ++ enable_points switch id.now) }
 {
-    let opens = Origin::Switch {
+    let opens = Source::Switch {
         switch,
         point: SwitchPoint::EnableOpen,
     };
-    let closes = Origin::Switch {
+    let closes = Source::Switch {
         switch,
         point: SwitchPoint::EnableClose,
     };
@@ -169,7 +169,7 @@ fn push_inputs(alloc: Global, points: &mut Vec<Point>, inputs: &[Text]) -> Resul
             "",
             ElementaryType::Bool,
             false,
-            Origin::Input { input },
+            Source::Input { input },
         )?;
     }
     Ok(())
@@ -186,7 +186,7 @@ fn push_field(
 ) -> Result<(), AllocError>
     ensures { IfOk result (λ _. points.new.items ≡ points.old.items ++ field_point meter id.now ending.now field ∷ []) }
 {
-    let origin = Origin::Meter { meter, field };
+    let source = Source::Meter { meter, field };
     push_point(
         alloc,
         points,
@@ -194,7 +194,7 @@ fn push_field(
         ending,
         ElementaryType::Dint,
         false,
-        origin,
+        source,
     )
 }
 

@@ -3,7 +3,7 @@ pub mod ListLemmas
 pub mod LoadLemmas
 pub mod MeaningLemmas
 pub mod NodeLemmas
-pub mod OriginLemmas
+pub mod SourceLemmas
 pub mod ScanLemmas
 pub mod TableLemmas
 pub mod ToldLemmas

@@ -2,7 +2,7 @@
 use Rattle.std.proofs.Common.{◌≡◌, ◌≢◌, ℕ, zero, suc, ◌+◌, ◌<◌, Bool, true, false, cond, nat_le, Result, Ok, Err, List, [], ◌∷◌, ◌++◌, length, get_or, slice_get, Some, refl, ap, sym, ◌∙◌, arith}
 use Rattle.std.proofs.lemmas.Option.{slice_get_within}
 use Rattle.bay_config.specs.declared.bay.Bay.{Bay}
-use Rattle.bay_config.specs.declared.bay.Origin.{Origin}
+use Rattle.bay_config.specs.declared.bay.Source.{Source}
 use Rattle.bay_config.specs.declared.bay.Switch.{Switch}
 use Rattle.bay_tree.specs.declared.row.Row.{Row}
 use Rattle.il_image.specs.Images.{Image}
@@ -24,7 +24,7 @@ use Rattle.bay_device.specs.declared.switch.BoundSwitch.{BoundSwitch}
 use Rattle.bay_device.proofs.ListLemmas.{get-within}
 
 -- one switch more
-pub bound-snoc : (writes : List Origin) (k : ℕ) (switches : List Switch) (rows : List SwitchRows) (s : Switch) (r : SwitchRows) (n : ℕ) → n ≡ length switches → n < length rows → r ≡ get_or rows n r
+pub bound-snoc : (writes : List Source) (k : ℕ) (switches : List Switch) (rows : List SwitchRows) (s : Switch) (r : SwitchRows) (n : ℕ) → n ≡ length switches → n < length rows → r ≡ get_or rows n r
     → bound_from writes k (switches ++ s ∷ []) rows ≡ bound_from writes k switches rows ++ record { switch = s; rows = r; outputs = outputs_at writes (k + n) } ∷ []
 bound-snoc writes k [] [] s r n e lt is = absurd (omega arith)
 bound-snoc writes k [] (q ∷ rows) s r n e lt is =
@@ -40,17 +40,17 @@ bound-snoc writes k (t ∷ switches) (q ∷ rows) s r (suc n) e lt is =
     ∙ ap (λ m. bound_from writes (k + 1) switches rows ++ record { switch = s; rows = r; outputs = outputs_at writes m } ∷ []) more)
 
 -- the switches are the bay's, and each stands with its rows and its writes
-pub bound-switches : (writes : List Origin) (k : ℕ) (switches : List Switch) (rows : List SwitchRows) → length switches ≡ length rows → switches_of (bound_from writes k switches rows) ≡ switches
+pub bound-switches : (writes : List Source) (k : ℕ) (switches : List Switch) (rows : List SwitchRows) → length switches ≡ length rows → switches_of (bound_from writes k switches rows) ≡ switches
 bound-switches writes k [] rows same = refl
 bound-switches writes k (s ∷ switches) [] same = absurd (omega arith)
 bound-switches writes k (s ∷ switches) (r ∷ rows) same = ap (λ ss. s ∷ ss) (bound-switches writes (k + 1) switches rows (omega arith))
 
-pub record Stands (writes : List Origin) (k : ℕ) (switches : List Switch) (rows : List SwitchRows) (j : ℕ) (b : BoundSwitch) : Type 0 where
+pub record Stands (writes : List Source) (k : ℕ) (switches : List Switch) (rows : List SwitchRows) (j : ℕ) (b : BoundSwitch) : Type 0 where
   pub switch_is : slice_get switches j ≡ Some b.switch
   pub rows_are : slice_get rows j ≡ Some b.rows
   pub outputs_are : b.outputs ≡ outputs_at writes (k + j)
 
-bound-stands : (writes : List Origin) (k : ℕ) (switches : List Switch) (rows : List SwitchRows) (j : ℕ) (b : BoundSwitch) → slice_get (bound_from writes k switches rows) j ≡ Some b → Stands writes k switches rows j b
+bound-stands : (writes : List Source) (k : ℕ) (switches : List Switch) (rows : List SwitchRows) (j : ℕ) (b : BoundSwitch) → slice_get (bound_from writes k switches rows) j ≡ Some b → Stands writes k switches rows j b
 bound-stands writes k [] rows j b h = absurd cc
 bound-stands writes k (s ∷ switches) [] j b h = absurd cc
 bound-stands writes k (s ∷ switches) (r ∷ rows) zero b h =
@@ -67,7 +67,7 @@ bound-stands writes k (s ∷ switches) (r ∷ rows) (suc j) b h =
     let more : k + 1 + j ≡ k + suc j = omega arith in
     record { switch_is = w.switch_is; rows_are = w.rows_are; outputs_are = w.outputs_are ∙ ap (outputs_at writes) more }
 
-pub are-bound : (bay : Bay) (nodes : List Nodes) (layout : Layout) (writes : List Origin) (rows : List SwitchRows) → AreAllNodes bay nodes → AreAllRows layout nodes rows → length nodes ≡ length bay.switches → length rows ≡ length nodes
+pub are-bound : (bay : Bay) (nodes : List Nodes) (layout : Layout) (writes : List Source) (rows : List SwitchRows) → AreAllNodes bay nodes → AreAllRows layout nodes rows → length nodes ≡ length bay.switches → length rows ≡ length nodes
     → AreBound layout writes (bound_from writes 0 bay.switches rows)
 are-bound bay nodes layout writes rows named placed same long k b h =
     let w = bound-stands writes 0 bay.switches rows k b h in
@@ -91,7 +91,7 @@ are-bound bay nodes layout writes rows named placed same long k b h =
     }
 
 -- a device before its first event
-pub loaded-view : (bay : Bay) (image : Image) (rows : List Row) (switches : List Switch) (input_values : List Bool) (meters : List (List ℕ)) (reads writes : List Origin) (machine : Held)
+pub loaded-view : (bay : Bay) (image : Image) (rows : List Row) (switches : List Switch) (input_values : List Bool) (meters : List (List ℕ)) (reads writes : List Source) (machine : Held)
     → let s : State = initial_device bay image in
     rows ≡ s.rows → switches ≡ s.switches → input_values ≡ s.input_values → meters ≡ s.meters → reads ≡ s.reads → writes ≡ s.writes → machine ≡ s.machine
     → record s { rows = rows; switches = switches; input_values = input_values; meters = meters; reads = reads; writes = writes; machine = machine } ≡ s

@@ -8,8 +8,8 @@ use Rattle.bay_config.specs.Laws.{IsBay}
 use Rattle.bay_config.specs.declared.bay.Bay.{Bay}
 use Rattle.bay_config.specs.declared.bay.Point.{Point}
 use Rattle.bay_config.specs.declared.bay.MeterField.{MeterField}
-use Rattle.bay_config.specs.declared.bay.Origin.{Origin}
-use Rattle.bay_config.specs.declared.bay.Origin.TheVariants as origin
+use Rattle.bay_config.specs.declared.bay.Source.{Source}
+use Rattle.bay_config.specs.declared.bay.Source.TheVariants as source
 use Rattle.bay_config.specs.declared.bay.Switch.{Switch}
 use Rattle.bay_config.specs.declared.bay.SwitchPoint.TheVariants.{Position, Open, Closed, EnableOpen, EnableClose}
 use Rattle.il_image.specs.Machine.{Halted, run, start}
@@ -29,11 +29,11 @@ use Rattle.il_compile.specs.Compiled.{image_of, point_of}
 use Rattle.il_compile.specs.Correct.{DoesTheText, Follows, HasTypes}
 use Rattle.il_compile.specs.Senses.{timer_of}
 use Rattle.bay_device.specs.Load.{initial_device}
-use Rattle.bay_device.proofs.OriginLemmas.{IsTyped, bay-typed, points-fit, reads-typed}
+use Rattle.bay_device.proofs.SourceLemmas.{IsTyped, bay-typed, points-fit, reads-typed}
 use Rattle.il_compile.specs.Meaning.{Memory}
 use Rattle.il_scan.specs.Scans.{first_input, first_slots, first_value, outputs_of, read_only, type_of_point, with_inputs}
 use Rattle.bay_device.specs.Device.{Outcome, State, Ran, contact_outcome, ending_at, event_outcome, input_outcome, inputs_of, last_moment, measure_outcome, outcome, outcomes, point_value, ran_at, ran_of, scanned, with_outputs}
-use Rattle.bay_device.specs.Meaning.{AllMean, Means, MeansAt, Runs, memory_before, memory_of, type_of_origin}
+use Rattle.bay_device.specs.Meaning.{AllMean, Means, MeansAt, Runs, memory_before, memory_of, type_of_source}
 use Rattle.bay_device.specs.declared.event.Event.{Event}
 use Rattle.bay_device.specs.declared.event.Event.TheVariants.{Contact, Input, Measure, Scan}
 
@@ -46,16 +46,16 @@ first-of elementary.Time = refl
 
 -- ---- inputs have the types of what they stand for
 
-value-typed : (s : State) (o : Origin) → type_of (point_value s o) ≡ type_of_origin o
-value-typed s (origin.Switch k Position) = refl
-value-typed s (origin.Switch k Open) = refl
-value-typed s (origin.Switch k Closed) = refl
-value-typed s (origin.Switch k EnableOpen) = refl
-value-typed s (origin.Switch k EnableClose) = refl
-value-typed s (origin.Input k) = refl
-value-typed s (origin.Meter k field) = refl
+value-typed : (s : State) (o : Source) → type_of (point_value s o) ≡ type_of_source o
+value-typed s (source.Switch k Position) = refl
+value-typed s (source.Switch k Open) = refl
+value-typed s (source.Switch k Closed) = refl
+value-typed s (source.Switch k EnableOpen) = refl
+value-typed s (source.Switch k EnableClose) = refl
+value-typed s (source.Input k) = refl
+value-typed s (source.Meter k field) = refl
 
-values-typed : (s : State) (os : List Origin) → map type_of (map (point_value s) os) ≡ map type_of_origin os
+values-typed : (s : State) (os : List Source) → map type_of (map (point_value s) os) ≡ map type_of_source os
 values-typed s [] = refl
 values-typed s (o ∷ os) = ap₂ (λ (t : ElementaryType) (ts : List ElementaryType). t ∷ ts) (value-typed s o) (values-typed s os)
 

@@ -4,8 +4,8 @@ use Rattle.std.proofs.lemmas.Option.{slice_get-map, slice_get-get_or}
 use Rattle.bay_tree.specs.declared.row.Row.{Row}
 use Rattle.bay_tree.specs.Rows.{leaf_of}
 use Rattle.bay_config.specs.declared.bay.MeterField.{MeterField}
-use Rattle.bay_config.specs.declared.bay.Origin.{Origin}
-use Rattle.bay_config.specs.declared.bay.Origin.TheVariants as origin
+use Rattle.bay_config.specs.declared.bay.Source.{Source}
+use Rattle.bay_config.specs.declared.bay.Source.TheVariants as source
 use Rattle.bay_config.specs.declared.bay.Switch.{Switch}
 use Rattle.bay_config.specs.declared.bay.SwitchPoint.{SwitchPoint}
 use Rattle.il_image.specs.Machine.{Halted, Ending, run}
@@ -26,14 +26,14 @@ use Rattle.bay_device.specs.declared.switch.BoundSwitch.{BoundSwitch}
 use Rattle.bay_device.proofs.ContactLemmas.{field-named}
 
 -- the values at the handles of bound switches and meters have the kinds that a step wants
-pub kinded : (layout : Layout) (writes : List Origin) (bound : List BoundSwitch) → AreBound layout writes bound → AreKinded layout bound
+pub kinded : (layout : Layout) (writes : List Source) (bound : List BoundSwitch) → AreBound layout writes bound → AreKinded layout bound
 kinded layout writes bound all k d lt = (all k (get_or bound k d) (slice_get-get_or bound k d lt)).kinded
 
 pub meters-kinded : (layout : Layout) (bound : List BoundMeter) → AreMetersBound layout bound → AreMeterKinded layout bound
 meters-kinded layout bound all k d lt = (all k (get_or bound k d) (slice_get-get_or bound k d lt)).kinded
 
 -- those of the interlocking values have their names
-pub interlocked : (layout : Layout) (writes : List Origin) (bound : List BoundSwitch) → AreBound layout writes bound → AreInterlocked layout bound
+pub interlocked : (layout : Layout) (writes : List Source) (bound : List BoundSwitch) → AreBound layout writes bound → AreInterlocked layout bound
 interlocked layout writes bound all k b here =
     let is = all k b here in
     record { kinded = is.kinded; named = record { opening = ap (λ (n : SwitchNames). n.ena_opn) is.named; closing = ap (λ (n : SwitchNames). n.ena_cls) is.named } }
@@ -52,27 +52,27 @@ module _ (d : DeviceState) where
       ap (λ (n : StatusNames). Long (number_of_leaf (leaf_of n.value d.tree)))
       (field-named (layout_of d.tree) m.rows field ∙ ap (field_names field) (d.metered k m here).named)
 
-  pub point-named : (o : Origin) → bound_value d.tree d.switches d.input_values d.meters o ≡ point_value (state_view d) o
-  point-named (origin.Switch k point) =
+  pub point-named : (o : Source) → bound_value d.tree d.switches d.input_values d.meters o ≡ point_value (state_view d) o
+  point-named (source.Switch k point) =
       switch-named k point (slice_get d.switches k) refl
       ∙ ap (λ s. position_value point (position_leaf (switches_of d.switches) d.tree k s)) (sym (slice_get-map (λ (b : BoundSwitch). b.switch) d.switches k))
-  point-named (origin.Input k) = refl
-  point-named (origin.Meter k field) =
+  point-named (source.Input k) = refl
+  point-named (source.Meter k field) =
       meter-named k field (slice_get d.meters k) refl
       ∙ ap (λ m. Long (number_of_leaf (measure_leaf d.tree k field m))) (sym (slice_get-map (λ (m : BoundMeter). m.id) d.meters k))
 
-  points-named : (os : List Origin) → map (bound_value d.tree d.switches d.input_values d.meters) os ≡ map (point_value (state_view d)) os
+  points-named : (os : List Source) → map (bound_value d.tree d.switches d.input_values d.meters) os ≡ map (point_value (state_view d)) os
   points-named [] = refl
   points-named (o ∷ os) =
       ap (λ v. v ∷ map (bound_value d.tree d.switches d.input_values d.meters) os) (point-named o)
       ∙ ap (λ (vs : List Value). point_value (state_view d) o ∷ vs) (points-named os)
 
-  pub inputs-named : (switches : List BoundSwitch) (meters : List BoundMeter) (reads : List Origin) → switches ≡ d.switches → meters ≡ d.meters → reads ≡ d.reads
+  pub inputs-named : (switches : List BoundSwitch) (meters : List BoundMeter) (reads : List Source) → switches ≡ d.switches → meters ≡ d.meters → reads ≡ d.reads
       → map (bound_value d.tree switches d.input_values meters) reads ≡ inputs_of (state_view d)
   inputs-named switches meters reads a b c = rw (a, b, c) (points-named d.reads)
 
 -- the interlocking values of all switches
-module _ (layout : Layout) (switches : List Switch) (writes : List Origin) (outputs : List Value) (now : ℕ) where
+module _ (layout : Layout) (switches : List Switch) (writes : List Source) (outputs : List Value) (now : ℕ) where
   outputs-named : (k : ℕ) (bound : List BoundSwitch) (rows : List Row)
       → ((j : ℕ) (b : BoundSwitch) → slice_get bound j ≡ Some b → IsBound layout writes switches (k + j) b)
       → outputs_put layout bound outputs now rows ≡ with_outputs switches writes outputs now k (switches_of bound) rows

@@ -12,8 +12,8 @@ use Rattle.bay_tree.specs.declared.leaf.Quality.{Quality}
 use Rattle.bay_tree.specs.declared.leaf.Quality.TheVariants.{Good, Invalid}
 use Rattle.bay_config.specs.declared.bay.Switch.{Switch}
 use Rattle.bay_config.specs.declared.bay.MeterField.{MeterField}
-use Rattle.bay_config.specs.declared.bay.Origin.{Origin}
-use Rattle.bay_config.specs.declared.bay.Origin.TheVariants as origin
+use Rattle.bay_config.specs.declared.bay.Source.{Source}
+use Rattle.bay_config.specs.declared.bay.Source.TheVariants as source
 use Rattle.bay_config.specs.declared.bay.SwitchPoint.{SwitchPoint}
 use Rattle.bay_config.specs.declared.bay.SwitchPoint.TheVariants.{Position, Open, Closed, EnableOpen, EnableClose}
 use Rattle.il_image.specs.Machine.{Ending, Halted, Trapped, Unfinished, run}
@@ -43,8 +43,8 @@ pub record State : Type 0 where
   pub inputs : List (List ℕ)
   pub input_values : List Bool
   pub meters : List (List ℕ)
-  pub reads : List Origin
-  pub writes : List Origin
+  pub reads : List Source
+  pub writes : List Source
   pub machine : Held
   pub rows : List Row
   pub moment : ℕ
@@ -198,10 +198,10 @@ measure_leaf rows k field None = None
 measure_leaf rows k field (Some id) = leaf_of (field_names field (meter_names k)).value rows
 
 -- the value that the contacts, the inputs and the measures give a point
-abbrev pub point_value : State → Origin → Value
-point_value s (origin.Switch k point) = position_value point (position_leaf s.switches s.rows k (slice_get s.switches k))
-point_value s (origin.Input k) = Truth (unwrap_or (slice_get s.input_values k) false)
-point_value s (origin.Meter k field) = Long (number_of_leaf (measure_leaf s.rows k field (slice_get s.meters k)))
+abbrev pub point_value : State → Source → Value
+point_value s (source.Switch k point) = position_value point (position_leaf s.switches s.rows k (slice_get s.switches k))
+point_value s (source.Input k) = Truth (unwrap_or (slice_get s.input_values k) false)
+point_value s (source.Meter k field) = Long (number_of_leaf (measure_leaf s.rows k field (slice_get s.meters k)))
 
 -- the values of the points that the program only reads
 abbrev pub inputs_of : State → List Value
@@ -216,10 +216,10 @@ same_point EnableClose EnableClose = true
 same_point p q = false
 
 -- this point of the switch at a place
-abbrev pub is_point : ℕ → SwitchPoint → Origin → Bool
-is_point k point (origin.Switch j which) = j == k && same_point which point
-is_point k point (origin.Input j) = false
-is_point k point (origin.Meter j field) = false
+abbrev pub is_point : ℕ → SwitchPoint → Source → Bool
+is_point k point (source.Switch j which) = j == k && same_point which point
+is_point k point (source.Input j) = false
+is_point k point (source.Meter j field) = false
 
 -- the value at a place, if there is one
 abbrev pub output_at : Option ℕ → List Value → Option Value
@@ -227,7 +227,7 @@ output_at None outputs = None
 output_at (Some n) outputs = slice_get outputs n
 
 -- what the program gave a point of the switch at a place; FALSE where it does not name it
-abbrev pub output_of : ℕ → SwitchPoint → List Origin → List Value → Bool
+abbrev pub output_of : ℕ → SwitchPoint → List Source → List Value → Bool
 output_of k point writes outputs = is_true (output_at (position (is_point k point) writes) outputs)
 
 -- an interlocking value and its quality, with the moment where one of them changed
@@ -241,7 +241,7 @@ abbrev pub with_output : SwitchNames → Bool → Bool → ℕ → List Row → 
 with_output names opens closes now rows = with_enabled names.ena_cls closes now (with_enabled names.ena_opn opens now rows)
 
 -- the interlocking values of all switches take their points' values, from place k on
-abbrev pub with_outputs : List Switch → List Origin → List Value → ℕ → ℕ → List Switch → List Row → List Row
+abbrev pub with_outputs : List Switch → List Source → List Value → ℕ → ℕ → List Switch → List Row → List Row
 with_outputs switches writes outputs now k [] rows = rows
 with_outputs switches writes outputs now k (s ∷ ss) rows =
     with_outputs switches writes outputs now (k + 1) ss

@@ -9,7 +9,7 @@ use Rattle.bay_device.specs.Names.{StatusNames, SwitchNames, switch_names, Meter
 use Rattle.bay_device.specs.declared.switch.SwitchOutputs.{SwitchOutputs}
 use Rattle.bay_config.specs.declared.bay.SwitchPoint.TheVariants.{EnableOpen, EnableClose}
 use Rattle.bay_device.specs.Device.{is_point}
-use Rattle.bay_config.specs.declared.bay.Origin.{Origin}
+use Rattle.bay_config.specs.declared.bay.Source.{Source}
 use Rattle.bay_config.specs.declared.bay.MeterField.{MeterField}
 use Rattle.bay_config.specs.declared.bay.MeterField.TheVariants.{TotW, TotVAr, Hz, PhaseA, PhaseB, PhaseC}
 use Rattle.bay_device.specs.declared.meter.BoundMeter.{BoundMeter}
@@ -69,20 +69,20 @@ abbrev pub switches_of : List BoundSwitch → List Switch
 switches_of bound = map (λ b. b.switch) bound
 
 -- among the points that may be written, the places of the interlocking values of the switch at a place
-abbrev pub outputs_at : List Origin → ℕ → SwitchOutputs
+abbrev pub outputs_at : List Source → ℕ → SwitchOutputs
 outputs_at writes k = record { ena_opn = position (is_point k EnableOpen) writes; ena_cls = position (is_point k EnableClose) writes }
 
 -- the handles of the switch at a place have its names, and its outputs are those of its points
-pub record IsBound (layout : Layout) (writes : List Origin) (switches : List Switch) (k : ℕ) (bound : BoundSwitch) : Type 0 where
+pub record IsBound (layout : Layout) (writes : List Source) (switches : List Switch) (k : ℕ) (bound : BoundSwitch) : Type 0 where
   pub named : switch_in layout bound.rows ≡ switch_names switches k bound.switch
   pub kinded : AreSwitchRows layout bound.rows
   pub outputs : bound.outputs ≡ outputs_at writes k
 
-abbrev pub AreBound : Layout → List Origin → List BoundSwitch → Type 0
+abbrev pub AreBound : Layout → List Source → List BoundSwitch → Type 0
 AreBound layout writes bound = (k : ℕ) (b : BoundSwitch) → slice_get bound k ≡ Some b → IsBound layout writes (switches_of bound) k b
 
 -- the switches with their rows, from place k on, and the places of their interlocking values
-abbrev pub bound_from : List Origin → ℕ → List Switch → List SwitchRows → List BoundSwitch
+abbrev pub bound_from : List Source → ℕ → List Switch → List SwitchRows → List BoundSwitch
 bound_from writes k [] rows = []
 bound_from writes k (s ∷ ss) [] = []
 bound_from writes k (s ∷ ss) (r ∷ rs) = record { switch = s; rows = r; outputs = outputs_at writes k } ∷ bound_from writes (k + 1) ss rs

@@ -4,7 +4,7 @@ use Rattle.std.specs.Bool.{beq}
 use Rattle.std.specs.List.{cons_option}
 use Rattle.bay_config.specs.Code as bay_code
 use Rattle.bay_config.specs.declared.bay.Bay.{Bay}
-use Rattle.bay_config.specs.declared.bay.Origin.{Origin}
+use Rattle.bay_config.specs.declared.bay.Source.{Source}
 use Rattle.bay_config.specs.declared.bay.Point.{Point}
 use Rattle.bay_config.specs.declared.fault.BayFault.{BayFault}
 use Rattle.il_text.specs.Code as text_code
@@ -32,14 +32,14 @@ use Rattle.bay_device.specs.declared.fault.LoadFault.{LoadFault}
 use Rattle.bay_device.specs.declared.fault.LoadFault.TheVariants.{Refused, OutOfMemory}
 
 -- what an image's point stands for: the bay's point of its name, its type and its writability
-abbrev pub origin_of : List Point → ImagePoint → Option Origin
-origin_of bay p = option_map (λ b. b.origin) (find (is_point p) bay)
+abbrev pub source_of : List Point → ImagePoint → Option Source
+source_of bay p = option_map (λ b. b.source) (find (is_point p) bay)
 
 -- what those of an image's points stand for that may be written, or those that may not
-abbrev pub origins_of : Bool → List Point → List ImagePoint → List Origin
-origins_of writable bay [] = []
-origins_of writable bay (p ∷ points) =
-    if beq p.writable writable then cons_option (origin_of bay p) (origins_of writable bay points) else origins_of writable bay points
+abbrev pub sources_of : Bool → List Point → List ImagePoint → List Source
+sources_of writable bay [] = []
+sources_of writable bay (p ∷ points) =
+    if beq p.writable writable then cons_option (source_of bay p) (sources_of writable bay points) else sources_of writable bay points
 
 -- a device before its first event
 abbrev pub initial_device : Bay → Image → State
@@ -53,8 +53,8 @@ initial_device bay image = record {
   inputs = bay.inputs;
   input_values = map (λ _. false) bay.inputs;
   meters = bay.meters;
-  reads = origins_of false bay.points image.points;
-  writes = origins_of true bay.points image.points;
+  reads = sources_of false bay.points image.points;
+  writes = sources_of true bay.points image.points;
   machine = held_first image;
   rows = bay.rows;
   moment = 0;

@@ -2,8 +2,8 @@
 use Rattle.std.specs.Prelude.{ℕ, ◌≡◌, ◌≤◌, Bool, false, nat_lt, ◌||◌, List, [], ◌∷◌, length, map, take, drop, Some}
 use Rattle.bay_base.specs.declared.types.ElementaryType.{ElementaryType}
 use Rattle.bay_base.specs.declared.types.ElementaryType.TheVariants as elementary
-use Rattle.bay_config.specs.declared.bay.Origin.{Origin}
-use Rattle.bay_config.specs.declared.bay.Origin.TheVariants as origin
+use Rattle.bay_config.specs.declared.bay.Source.{Source}
+use Rattle.bay_config.specs.declared.bay.Source.TheVariants as source
 use Rattle.bay_config.specs.declared.bay.SwitchPoint.{SwitchPoint}
 use Rattle.bay_config.specs.declared.bay.SwitchPoint.TheVariants.{Position, Open, Closed, EnableOpen, EnableClose}
 use Rattle.il_image.specs.Machine.{Halted}
@@ -85,10 +85,10 @@ type_of_switch_point Closed = elementary.Bool
 type_of_switch_point EnableOpen = elementary.Bool
 type_of_switch_point EnableClose = elementary.Bool
 
-abbrev pub type_of_origin : Origin → ElementaryType
-type_of_origin (origin.Switch k point) = type_of_switch_point point
-type_of_origin (origin.Input k) = elementary.Bool
-type_of_origin (origin.Meter k field) = elementary.Dint
+abbrev pub type_of_source : Source → ElementaryType
+type_of_source (source.Switch k point) = type_of_switch_point point
+type_of_source (source.Input k) = elementary.Bool
+type_of_source (source.Meter k field) = elementary.Dint
 
 -- The device runs the program: its image has the program's externals as points and code that does what the text means, its slots
 -- and timers hold values of the program's types, and the points that it only reads have their types.
@@ -96,4 +96,4 @@ pub record Runs (c : Checked) (s : State) : Type 0 where
   pub points : s.machine.image.points ≡ map point_of c.externals
   pub does : DoesTheText c s.machine.image.code
   pub types : HasTypes c (memory_of c s.machine.slots s.machine.timers)
-  pub reads : map type_of_origin s.reads ≡ map type_of_point (read_only s.machine.image.points)
+  pub reads : map type_of_source s.reads ≡ map type_of_point (read_only s.machine.image.points)

@@ -4,8 +4,8 @@ use Rattle.bay_tree.specs.Rows.{leaf_of}
 use Rattle.bay_tree.specs.declared.leaf.Leaf.{Leaf}
 use Rattle.bay_tree.specs.declared.row.Row.{Row}
 use Rattle.bay_config.specs.declared.bay.MeterField.{MeterField}
-use Rattle.bay_config.specs.declared.bay.Origin.{Origin}
-use Rattle.bay_config.specs.declared.bay.Origin.TheVariants as origin
+use Rattle.bay_config.specs.declared.bay.Source.{Source}
+use Rattle.bay_config.specs.declared.bay.Source.TheVariants as source
 use Rattle.bay_config.specs.declared.bay.SwitchPoint.{SwitchPoint}
 use Rattle.il_image.specs.declared.value.Value.{Value}
 use Rattle.il_image.specs.declared.value.Value.TheVariants.{Truth, Long}
@@ -28,10 +28,10 @@ meter_value rows field None = Long (number_of_leaf None)
 meter_value rows field (Some m) = Long (number_of_leaf (leaf_at rows (field_rows m.rows field).value))
 
 -- what the contacts, the inputs and the measures give a point
-abbrev pub bound_value : List Row → List BoundSwitch → List Bool → List BoundMeter → Origin → Value
-bound_value rows switches inputs meters (origin.Switch k point) = switch_value rows point (slice_get switches k)
-bound_value rows switches inputs meters (origin.Input k) = Truth (unwrap_or (slice_get inputs k) false)
-bound_value rows switches inputs meters (origin.Meter k field) = meter_value rows field (slice_get meters k)
+abbrev pub bound_value : List Row → List BoundSwitch → List Bool → List BoundMeter → Source → Value
+bound_value rows switches inputs meters (source.Switch k point) = switch_value rows point (slice_get switches k)
+bound_value rows switches inputs meters (source.Input k) = Truth (unwrap_or (slice_get inputs k) false)
+bound_value rows switches inputs meters (source.Meter k field) = meter_value rows field (slice_get meters k)
 
 -- the interlocking values of the switches take their points' values
 abbrev pub outputs_put : Layout → List BoundSwitch → List Value → ℕ → List Row → List Row

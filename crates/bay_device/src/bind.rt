@@ -3,13 +3,13 @@ ghost use Rattle.std.specs.Prelude.{◌≡◌, false, length, map, option_map, p
 ghost use Rattle.il_verify.specs.Binding.{is_point as is_image_point};
 ghost use Rattle.bay_device.specs.Device.{same_point, is_point};
 ghost use Rattle.bay_device.specs.Layout.{bound_from, outputs_at};
-ghost use Rattle.bay_device.specs.Load.{origin_of, origins_of};
+ghost use Rattle.bay_device.specs.Load.{source_of, sources_of};
 
 use crate::rows::SwitchRows;
 use crate::switch::{BoundSwitch, SwitchOutputs};
 use crate::values::{ToldValues, Truths};
 use bay_base::text::Text;
-use bay_config::bay::{Origin, Point, Switch, SwitchPoint};
+use bay_config::bay::{Point, Source, Switch, SwitchPoint};
 use il_image::image::ImagePoint;
 use std::alloc::{AllocError, Global};
 
@@ -23,31 +23,31 @@ fn is_same(point: &ImagePoint, other: &Point) -> bool
 }
 
 /// What an image's point stands for in the bay, if it is one of the bay's.
-fn origin_of(bay: &[Point], point: &ImagePoint) -> Option<Origin>
-    ensures { result ≡ origin_of bay.now point.now }
+fn source_of(bay: &[Point], point: &ImagePoint) -> Option<Source>
+    ensures { result ≡ source_of bay.now point.now }
 {
     let found = bay.iter().find(|other| is_same(point, other))?;
-    Some(found.origin)
+    Some(found.source)
 }
 
 /// What those of an image's points stand for that may be written, or those that may not, in their order.
-pub fn origins_of(
+pub fn sources_of(
     alloc: Global,
     writable: bool,
     bay: &[Point],
     points: &[ImagePoint],
-) -> Result<Vec<Origin>, AllocError>
-    ensures { IfOk result (λ origins. origins.items ≡ origins_of writable bay.now points.now) }
+) -> Result<Vec<Source>, AllocError>
+    ensures { IfOk result (λ sources. sources.items ≡ sources_of writable bay.now points.now) }
 {
-    let mut origins = Vec::new(alloc);
+    let mut sources = Vec::new(alloc);
     for point in points {
         if point.writable == writable {
-            if let Some(origin) = origin_of(bay, point) {
-                origins.push(origin)?;
+            if let Some(source) = source_of(bay, point) {
+                sources.push(source)?;
             }
         }
     }
-    Ok(origins)
+    Ok(sources)
 }
 
 fn same_point(first: SwitchPoint, second: SwitchPoint) -> bool
@@ -57,29 +57,29 @@ fn same_point(first: SwitchPoint, second: SwitchPoint) -> bool
 }
 
 /// Whether this is a point of the switch at a place.
-fn is_point(origin: Origin, switch: usize, point: SwitchPoint) -> bool
-    ensures { result ≡ is_point switch point origin }
+fn is_point(source: Source, switch: usize, point: SwitchPoint) -> bool
+    ensures { result ≡ is_point switch point source }
 {
-    match origin {
-        Origin::Switch {
+    match source {
+        Source::Switch {
             switch: at,
             point: which,
         } => at == switch && same_point(which, point),
-        Origin::Input { .. } | Origin::Meter { .. } => false,
+        Source::Input { .. } | Source::Meter { .. } => false,
     }
 }
 
 /// The place of a point of the switch at a place, if it is among these.
-fn output_place(writes: &[Origin], switch: usize, point: SwitchPoint) -> Option<usize>
+fn output_place(writes: &[Source], switch: usize, point: SwitchPoint) -> Option<usize>
     ensures { result ≡ position (is_point switch point) writes.now }
 {
     writes
         .iter()
-        .position(|origin| is_point(*origin, switch, point))
+        .position(|source| is_point(*source, switch, point))
 }
 
 /// The places of the interlocking values of the switch at a place, among the points that may be written.
-fn outputs_at(writes: &[Origin], switch: usize) -> SwitchOutputs
+fn outputs_at(writes: &[Source], switch: usize) -> SwitchOutputs
     ensures { result ≡ outputs_at writes.now switch }
 {
     SwitchOutputs {
@@ -93,7 +93,7 @@ pub fn bind_switches(
     alloc: Global,
     switches: Vec<Switch>,
     rows: &[SwitchRows],
-    writes: &[Origin],
+    writes: &[Source],
 ) -> Result<Vec<BoundSwitch>, AllocError>
     requires { length rows.now ≡ length switches.items }
     ensures { IfOk result (λ bound. bound.items ≡ bound_from writes.now 0 switches.items rows.now) }

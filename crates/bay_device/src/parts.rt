@@ -6,14 +6,14 @@ ghost use Rattle.bay_device.specs.Layout.{layout_of};
 ghost use Rattle.bay_device.specs.Nodes.{AreAllMeters, AreAllNodes, HasSwitches, HaveMeters};
 ghost use Rattle.bay_device.specs.Parts.{AreBoundRows, AreBoundSwitches, IsWired};
 
-use crate::bind::{bind_switches, nothing_told, origins_of};
+use crate::bind::{bind_switches, nothing_told, sources_of};
 use crate::meter::BoundMeter;
 use crate::meters::{all_meter_nodes, bind_meters};
 use crate::nodes::{Nodes, all_nodes, all_switch_rows};
 use crate::switch::BoundSwitch;
 use crate::values::ToldValues;
 use bay_base::text::Text;
-use bay_config::bay::{Bay, Origin, Point, Switch};
+use bay_config::bay::{Bay, Point, Source, Switch};
 use bay_tree::row::Row;
 use bay_tree::tree::Tree;
 use il_scan::machine::Machine;
@@ -25,8 +25,8 @@ use std::alloc::{AllocError, Global};
 pub struct WiredMachine {
     pub machine: Machine,
     /// What the points stand for that the program only reads, and those that it may write, in the order of its points.
-    pub reads: Vec<Origin>,
-    pub writes: Vec<Origin>,
+    pub reads: Vec<Source>,
+    pub writes: Vec<Source>,
 }
 
 /// A machine with a verified image, before its first scan.
@@ -48,8 +48,8 @@ pub fn wired_machine(
     ensures { IfOk result (IsWired bay.now verified) }
 {
     let points = verified.image().points();
-    let reads = origins_of(alloc, false, bay, points)?;
-    let writes = origins_of(alloc, true, bay, points)?;
+    let reads = sources_of(alloc, false, bay, points)?;
+    let writes = sources_of(alloc, true, bay, points)?;
     let machine = machine_of(alloc, verified)?;
     Ok(WiredMachine {
         machine,
@@ -93,7 +93,7 @@ fn bound_switches(
     tree: &Tree,
     switches: Vec<Switch>,
     nodes: &[Nodes],
-    writes: &[Origin],
+    writes: &[Source],
 ) -> Result<Vec<BoundSwitch>, AllocError>
     requires sized { length nodes.now ≡ length switches.items }
     requires there { HasSwitches tree.now nodes.now }
@@ -111,7 +111,7 @@ pub fn bound_rows(
     switches: Vec<Switch>,
     meters: &[Text],
     nodes: &NodeNames,
-    writes: &[Origin],
+    writes: &[Source],
 ) -> Result<BoundRows, AllocError>
     requires tree { IsTree rows.items }
     requires switches_sized { length nodes.now.switches.items ≡ length switches.items }

@@ -8,7 +8,7 @@ ghost use Rattle.bay_base.specs.declared.types.ElementaryType.TheVariants as ele
 ghost use Rattle.il_scan.specs.Places.{is_true};
 ghost use Rattle.bay_device.specs.Device.{number_of_position, output_at, position_value, with_enabled, with_output};
 ghost use Rattle.bay_device.specs.Layout.{layout_of, status_in, switch_in, AreStatusRows, AreSwitchRows, AreKinded, AreMeterKinded};
-ghost use Rattle.bay_device.specs.Meaning.{type_of_origin, type_of_switch_point};
+ghost use Rattle.bay_device.specs.Meaning.{type_of_source, type_of_switch_point};
 ghost use Rattle.bay_device.specs.Told.{AreEnabling, AreInterlocked, AreTold, AreValued, IsInterlocked, IsTold, Stands};
 ghost use Rattle.bay_device.specs.Scans.{bound_value, leaf_at, meter_value, outputs_put, switch_value};
 
@@ -18,7 +18,7 @@ use crate::rows::{
 };
 use crate::switch::{BoundSwitch, Enabled};
 use crate::values::{ToldValues, Truths, same_truth};
-use bay_config::bay::{MeterField, Origin, SwitchPoint};
+use bay_config::bay::{MeterField, Source, SwitchPoint};
 use bay_tree::leaf::{Dbpos, Leaf, Quality};
 use bay_tree::tree::Tree;
 use il_image::value::Value;
@@ -96,18 +96,18 @@ fn point_value(
     switches: &[BoundSwitch],
     inputs: &Truths,
     meters: &[BoundMeter],
-    origin: Origin,
+    source: Source,
 ) -> Value
     requires switches { AreKinded (layout_of tree.now) switches.now }
     requires meters { AreMeterKinded (layout_of tree.now) meters.now }
-    ensures value { result ≡ bound_value tree.now switches.now inputs.now meters.now origin }
-    ensures typed { type_of result ≡ type_of_origin origin }
+    ensures value { result ≡ bound_value tree.now switches.now inputs.now meters.now source }
+    ensures typed { type_of result ≡ type_of_source source }
     ensures is_value { IsValue result }
 {
-    match origin {
-        Origin::Switch { switch, point } => switch_value(tree, switches, switch, point),
-        Origin::Input { input } => Value::Truth(inputs.get(input).unwrap_or(false)),
-        Origin::Meter { meter, field } => meter_value(tree, meters, meter, field),
+    match source {
+        Source::Switch { switch, point } => switch_value(tree, switches, switch, point),
+        Source::Input { input } => Value::Truth(inputs.get(input).unwrap_or(false)),
+        Source::Meter { meter, field } => meter_value(tree, meters, meter, field),
     }
 }
 
@@ -118,7 +118,7 @@ pub struct ReadPoints<'a> {
     pub switches: &'a [BoundSwitch],
     pub inputs: &'a Truths,
     pub meters: &'a [BoundMeter],
-    pub reads: &'a [Origin],
+    pub reads: &'a [Source],
     ghost kinded: { AreKinded (layout_of tree.now) switches.now },
     ghost metered: { AreMeterKinded (layout_of tree.now) meters.now },
 }
@@ -127,10 +127,10 @@ impl<'a> Inputs for ReadPoints<'a> {
     ghost use Rattle.std.specs.Prelude.{map};
     ghost use Rattle.std.proofs.Common.{sym, ◌∙◌};
     ghost use Rattle.std.proofs.lemmas.List.{length-map};
-    ghost use Rattle.bay_device.specs.Meaning.{type_of_origin};
+    ghost use Rattle.bay_device.specs.Meaning.{type_of_source};
     ghost use Rattle.bay_device.specs.Scans.{bound_value};
 
-    ghost types = { λ points. map type_of_origin points.reads.now };
+    ghost types = { λ points. map type_of_source points.reads.now };
 
     ghost values = { λ points. map (bound_value points.tree.now points.switches.now points.inputs.now points.meters.now) points.reads.now };
 
@@ -145,7 +145,7 @@ impl<'a> Inputs for ReadPoints<'a> {
         )
     }
 
-    ghost sized = { λ points. length-map points.reads.now (bound_value points.tree.now points.switches.now points.inputs.now points.meters.now) ∙ sym (length-map points.reads.now type_of_origin) };
+    ghost sized = { λ points. length-map points.reads.now (bound_value points.tree.now points.switches.now points.inputs.now points.meters.now) ∙ sym (length-map points.reads.now type_of_source) };
 }
 
 /// Gives an interlocking value the value of its point.

@@ -2,7 +2,7 @@
 ghost use Rattle.std.specs.Prelude.{◌≡◌, length, map};
 ghost use Rattle.il_scan.specs.Scans.{read_only, type_of_point};
 ghost use Rattle.bay_device.specs.Layout.{layout_of, AreBound, AreMetersBound};
-ghost use Rattle.bay_device.specs.Meaning.{type_of_origin};
+ghost use Rattle.bay_device.specs.Meaning.{type_of_source};
 ghost use Rattle.bay_device.specs.Table.{AreTables};
 ghost use Rattle.bay_device.specs.Told.{AreTold};
 
@@ -12,7 +12,7 @@ use crate::table::NameTables;
 use crate::values::{ToldValues, Truths};
 use bay_base::listing::Listing;
 use bay_base::text::Text;
-use bay_config::bay::Origin;
+use bay_config::bay::Source;
 use bay_tree::tree::Tree;
 use il_scan::machine::Machine;
 
@@ -40,8 +40,8 @@ pub struct DeviceState {
     /// Where the ids of the switches, the names of the inputs and the ids of the meters stand.
     pub tables: NameTables,
     /// What the points stand for that the program only reads, and those that it may write, in the order of its points.
-    pub reads: Listing<Origin>,
-    pub writes: Listing<Origin>,
+    pub reads: Listing<Source>,
+    pub writes: Listing<Source>,
     pub machine: Machine,
     /// The moment of the last accepted event, in milliseconds since 1970.
     pub moment: u64,
@@ -54,5 +54,5 @@ pub struct DeviceState {
     ghost told_stands: { AreTold tree told },
     ghost told_sized: { length told ≡ length switches },
     ghost tabled: { AreTables switches inputs meters tables },
-    ghost typed: { map type_of_origin reads ≡ map type_of_point (read_only machine.image.points) },
+    ghost typed: { map type_of_source reads ≡ map type_of_point (read_only machine.image.points) },
 }

@@ -14,7 +14,7 @@ fn point_text(alloc: Global, point: &Point) -> Result<String, AllocError> {
         point.name.as_str(),
         point.kind,
         point.writable,
-        point.origin
+        point.source
     )
 }
 

@@ -161,7 +161,7 @@ external_added : (name : List ℕ) (kind : ElementaryType) (o : Option Point) (e
     → IsAdded es (option_to_list (external_at name kind o)) vs [] ts [] (meaning.Variable (slot.External (length es)) kind (is_writable o))
 external_added name kind None es vs ts there named few timers = absurd (cc)
 external_added name kind (Some p) es vs ts there named few timers =
-    let e : External = record { name = upper name; kind = kind; writable = p.writable; origin = p.origin } in
+    let e : External = record { name = upper name; kind = kind; writable = p.writable; source = p.source } in
     record {
       slots = let a = length-append es (e ∷ []) in let b = length-append vs [] in omega arith;
       timers = let a = length-append ts [] in omega arith;

@@ -93,7 +93,7 @@ is_writable (Some p) = p.writable
 
 abbrev pub external_at : List ℕ → ElementaryType → Option Point → Option given.External
 external_at name kind None = None
-external_at name kind (Some p) = Some (record { name = upper name; kind = kind; writable = p.writable; origin = p.origin })
+external_at name kind (Some p) = Some (record { name = upper name; kind = kind; writable = p.writable; source = p.source })
 
 -- what a declaration adds to the externals, the variables and the timers
 abbrev pub external_in : List Point → text.Declared → Scope → DeclaredType → Option given.External

@@ -25,7 +25,7 @@ counts_in d = record { externals = vec_len d.externals; variables = vec_len d.va
 -- an external, and a variable, of a name in upper case
 abbrev pub external_named : List ℕ → ElementaryType → Option Point → Option External
 external_named name kind None = None
-external_named name kind (Some p) = Some (record { name = name; kind = kind; writable = p.writable; origin = p.origin })
+external_named name kind (Some p) = Some (record { name = name; kind = kind; writable = p.writable; source = p.source })
 
 abbrev pub variable_named : List ℕ → Option Value → Option Variable
 variable_named name None = None

@@ -250,7 +250,7 @@ impl Declarations {
                 name,
                 kind,
                 writable: point.writable,
-                origin: point.origin,
+                source: point.source,
             })?;
         }
         Ok(())

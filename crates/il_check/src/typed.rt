@@ -3,7 +3,7 @@ ghost use Rattle.std.specs.Prelude.{◌≡◌};
 
 use bay_base::text::Text;
 use bay_base::types::ElementaryType;
-use bay_config::bay::Origin;
+use bay_config::bay::Source;
 use il_image::value::Value;
 use il_text::program::{Condition, Conversion, Input, Operator, Output, StoreKind, TimerKind};
 
@@ -16,7 +16,7 @@ pub struct External {
     /// Whether the program may write it.
     pub writable: bool,
     /// What its point stands for.
-    pub origin: Origin,
+    pub source: Source,
 }
 
 /// A variable of the program (IEC 61131-3:2003, 2.4.3, VAR).

@@ -122,7 +122,7 @@ bound_at points name kind (Some p) es e h t rest =
     let f = found_holds (λ q. same_name q.name name) points p e h in
     let named : upper name ≡ p.name = sym (same_upper p.name name f.0) ∙ f.1 in
     let typed : same_type kind p.kind ≡ true = subst (λ k. same_type kind k ≡ true) (sym (same_is p.kind kind t)) (same_self kind) in (
-      found_any (λ q. same_name q.name name) (λ b. is_point (point_of (record { name = upper name; kind = kind; writable = p.writable; origin = p.origin })) b) points p e
+      found_any (λ q. same_name q.name name) (λ b. is_point (point_of (record { name = upper name; kind = kind; writable = p.writable; source = p.source })) b) points p e
           (both (bytes_eq (upper name) p.name) (same_type kind p.kind && beq p.writable p.writable) ((bytes_eq-Decides (upper name) p.name).1 named)
           (both (same_type kind p.kind) (beq p.writable p.writable) typed (equal_self p.writable))),
       rest,

@@ -9,7 +9,7 @@
 use anyhow::{Context, Result, bail};
 use bay_base::text::Text;
 use bay_base::types::ElementaryType;
-use bay_config::bay::{Origin, Point, SwitchPoint};
+use bay_config::bay::{Point, Source, SwitchPoint};
 use il_check::check::check;
 use il_text::program::Program;
 use il_text::read::read_program;
@@ -27,7 +27,7 @@ fn point(
         name: Text::from_str(alloc, name)?,
         kind,
         writable,
-        origin: Origin::Switch { switch: 0, point },
+        source: Source::Switch { switch: 0, point },
     })
 }
 

@@ -6,7 +6,7 @@ ghost use Rattle.language_tests.specs.FirstLine.{are_first};
 
 use bay_base::text::Text;
 use bay_base::types::ElementaryType;
-use bay_config::bay::{Origin, Point, SwitchPoint};
+use bay_config::bay::{Point, Source, SwitchPoint};
 use il_check::check::check;
 use il_check::fault::CheckFault;
 use il_text::program::{
@@ -152,7 +152,7 @@ fn fault_of_name(alloc: Global, name: &str) -> Result<Option<CheckFault>, Fail> 
         name: Text::from_str(alloc, name)?,
         kind: ElementaryType::Bool,
         writable: true,
-        origin: Origin::Switch {
+        source: Source::Switch {
             switch: 0,
             point: SwitchPoint::EnableOpen,
         },

@@ -1,7 +1,7 @@
 // What is left of a checked program, and what faults say.
 use bay_base::text::Text;
 use bay_base::types::ElementaryType;
-use bay_config::bay::{Origin, Point, SwitchPoint};
+use bay_config::bay::{Point, Source, SwitchPoint};
 use il_check::check::check;
 use il_check::fault::CheckFault;
 use il_check::program::Typed;
@@ -15,7 +15,7 @@ use il_text::read::read_program;
 use std::alloc::{AllocError, Global};
 use std::test::Fail;
 
-const ENABLE: Origin = Origin::Switch {
+const ENABLE: Source = Source::Switch {
     switch: 0,
     point: SwitchPoint::EnableOpen,
 };
@@ -26,7 +26,7 @@ fn checked(alloc: Global, text: &str) -> Result<Typed, Fail> {
         name: Text::from_str(alloc, "QA1_ENA_OPN")?,
         kind: ElementaryType::Bool,
         writable: true,
-        origin: ENABLE,
+        source: ENABLE,
     };
     let points = vec![in alloc; point]?;
     let program = read_program(alloc, text)?;
@@ -48,7 +48,7 @@ fn externals_text(alloc: Global, externals: &[External]) -> Result<String, Alloc
     let mut text = String::new(alloc);
     for external in externals {
         let (name, kind, writable) = (external.name.as_str(), external.kind, external.writable);
-        let shown = format!(in alloc; "{name} {kind:?} {writable} {:?}; ", external.origin)?;
+        let shown = format!(in alloc; "{name} {kind:?} {writable} {:?}; ", external.source)?;
         text.push_str(shown.as_str())?;
     }
     Ok(text)

@@ -4,11 +4,11 @@ use Rattle.bay_config.specs.declared.bay.Point.{Point}
 use Rattle.il_image.specs.Images.{Each}
 use Rattle.il_scan.specs.Scans.{Held, read_only, type_of_point}
 use Rattle.bay_device.specs.Layout.{Layout, bound_from, layout_of, meters_of, switches_of}
-use Rattle.bay_device.specs.Load.{origins_of}
-use Rattle.bay_device.specs.Meaning.{type_of_origin}
+use Rattle.bay_device.specs.Load.{sources_of}
+use Rattle.bay_device.specs.Meaning.{type_of_source}
 use Rattle.bay_device.proofs.LoadLemmas.{are-bound, bound-switches, loaded-view}
 use Rattle.bay_device.proofs.NodeLemmas.{has-switches, have-meters}
-use Rattle.bay_device.proofs.OriginLemmas.{IsTyped, bay-typed, points-fit, reads-typed}
+use Rattle.bay_device.proofs.SourceLemmas.{IsTyped, bay-typed, points-fit, reads-typed}
 use Rattle.bay_device.proofs.ToldLemmas.{none-told}
 use Rattle.bay_device.proofs.load.state_of.Goals as goal
 
@@ -31,7 +31,7 @@ invariant_of-result c =
     let writes = c.in_ok-wired.wired.writes.items in
     let rows = did.of_switches.rows in
     let made : c.new.result ≡ bound_from writes 0 bay.switches rows = c.new.ensures ∙ rw (c.as_slice-4.ensures.value, c.into_vec-2.ensures) at did.of_switches.is in
-    let read : c.new-3.result ≡ origins_of false bay.points c.args.verified.points = c.new-3.ensures ∙ rw c.as_slice.ensures at wired.reads in
+    let read : c.new-3.result ≡ sources_of false bay.points c.args.verified.points = c.new-3.ensures ∙ rw c.as_slice.ensures at wired.reads in
     let typed = reads-typed bay.points (subst (λ (ps : List Point). Each IsTyped ps) (sym c.requires.bay.points) (bay-typed bay.switches bay.inputs bay.meters)) c.args.verified.points (points-fit bay.points c.args.verified c.requires.verified.fits) in
     record {
       bound = rw (c.new-4.ensures, made) (are-bound bay nodes layout writes rows c.in_ok-nodes.ensures.switches_named did.of_switches.named c.in_ok-nodes.ensures.switches_sized did.of_switches.sized);
@@ -39,7 +39,7 @@ invariant_of-result c =
       told_stands = rw did.told (none-told c.in_ok-bound.bound.switches.items tree);
       told_sized = ap length did.told ∙ length-map c.in_ok-bound.bound.switches.items _ ∙ sym (ap length c.new.ensures);
       tabled = rw (c.new.ensures, c.new-2.ensures) (rw (c.as_slice-5.ensures.value, c.as_slice-6.ensures, c.as_slice-7.ensures.value) at c.tables_of-tables.ensures);
-      typed = ap (map type_of_origin) read ∙ typed ∙ sym (ap (λ (h : Held). map type_of_point (read_only h.image.points)) wired.machine);
+      typed = ap (map type_of_source) read ∙ typed ∙ sym (ap (λ (h : Held). map type_of_point (read_only h.image.points)) wired.machine);
     }
 
 pub returns : goal.returns

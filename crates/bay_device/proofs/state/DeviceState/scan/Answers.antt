@@ -3,7 +3,7 @@ use Rattle.il_image.specs.Images.{Image}
 use Rattle.il_scan.specs.Scans.{outputs_of, read_only, type_of_point}
 use Rattle.bay_device.specs.Device.{Ran}
 use Rattle.bay_device.specs.Layout.{layout_of}
-use Rattle.bay_device.specs.Meaning.{type_of_origin}
+use Rattle.bay_device.specs.Meaning.{type_of_source}
 use Rattle.bay_device.proofs.ScanLemmas.{halted, inputs-named, interlocked, kinded, meters-kinded, ran, scan-done}
 use Rattle.bay_device.proofs.state.DeviceState.scan.Goals as goal
 
@@ -16,7 +16,7 @@ invariant_of-points c =
     }
 
 pub scan_points-steps-requires : goal.scan_points-steps-requires
-scan_points-steps-requires c = ap (map type_of_origin) c.as_slice-3.ensures ∙ c.args.self.now.typed
+scan_points-steps-requires c = ap (map type_of_source) c.as_slice-3.ensures ∙ c.args.self.now.typed
 
 pub write_outputs-requires-clause-interlocked : goal.write_outputs-requires-clause-interlocked
 write_outputs-requires-clause-interlocked c =

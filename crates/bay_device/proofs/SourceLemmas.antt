@@ -6,7 +6,7 @@ use Rattle.std.specs.Str.{bytes_eq}
 use Rattle.bay_base.specs.Types.{same_type}
 use Rattle.bay_base.specs.declared.types.ElementaryType.{ElementaryType}
 use Rattle.bay_config.specs.Point.{inputs_from, meters_from, points_from, points_of_all}
-use Rattle.bay_config.specs.declared.bay.Origin.{Origin}
+use Rattle.bay_config.specs.declared.bay.Source.{Source}
 use Rattle.bay_config.specs.declared.bay.Point.{Point}
 use Rattle.bay_config.specs.declared.bay.Switch.{Switch}
 use Rattle.il_image.specs.Images.{Each}
@@ -15,12 +15,12 @@ use Rattle.il_image.proofs.KindLemmas.{same_is}
 use Rattle.il_image.specs.Images.{Image}
 use Rattle.il_verify.specs.Binding.{are_points, fits, is_point}
 use Rattle.il_scan.specs.Scans.{read_only, type_of_point}
-use Rattle.bay_device.specs.Load.{origin_of, origins_of}
-use Rattle.bay_device.specs.Meaning.{type_of_origin}
+use Rattle.bay_device.specs.Load.{source_of, sources_of}
+use Rattle.bay_device.specs.Meaning.{type_of_source}
 
 -- the point stands for something of its type
 abbrev pub IsTyped : Point → Type 0
-IsTyped p = type_of_origin p.origin ≡ p.kind
+IsTyped p = type_of_source p.source ≡ p.kind
 
 both : (xs ys : List Point) → Each IsTyped xs → Each IsTyped ys → Each IsTyped (xs ++ ys)
 both [] ys h k = k
@@ -71,21 +71,21 @@ kind-is p q e = same_is p.elementary q.kind (first (same_type p.elementary q.kin
 
 -- the points that may only be read stand for what has their types
 module _ (bay : List Point) (typed : Each IsTyped bay) where
-  one : (p : ImagePoint) (rest : List Origin) (types : List ElementaryType) → list_any (is_point p) bay ≡ true → map type_of_origin rest ≡ types
-      → map type_of_origin (cons_option (origin_of bay p) rest) ≡ p.elementary ∷ types
+  one : (p : ImagePoint) (rest : List Source) (types : List ElementaryType) → list_any (is_point p) bay ≡ true → map type_of_source rest ≡ types
+      → map type_of_source (cons_option (source_of bay p) rest) ≡ p.elementary ∷ types
   one p rest types any e =
       let f = any-found (is_point p) bay typed any in
-      ap (λ o. map type_of_origin (cons_option (option_map (λ (b : Point). b.origin) o) rest)) f.is
-      ∙ ap (λ t. t ∷ map type_of_origin rest) (f.typed ∙ sym (kind-is p f.point f.passes))
+      ap (λ o. map type_of_source (cons_option (option_map (λ (b : Point). b.source) o) rest)) f.is
+      ∙ ap (λ t. t ∷ map type_of_source rest) (f.typed ∙ sym (kind-is p f.point f.passes))
       ∙ ap (λ (ts : List ElementaryType). p.elementary ∷ ts) e
 
-  more : (p : ImagePoint) (points : List ImagePoint) → list_any (is_point p) bay ≡ true → map type_of_origin (origins_of false bay points) ≡ map type_of_point (read_only points) → (w : Bool)
-      → map type_of_origin (cond (beq w false) (cons_option (origin_of bay p) (origins_of false bay points)) (origins_of false bay points))
+  more : (p : ImagePoint) (points : List ImagePoint) → list_any (is_point p) bay ≡ true → map type_of_source (sources_of false bay points) ≡ map type_of_point (read_only points) → (w : Bool)
+      → map type_of_source (cond (beq w false) (cons_option (source_of bay p) (sources_of false bay points)) (sources_of false bay points))
       ≡ map type_of_point (cond (not w) (p ∷ read_only points) (read_only points))
   more p points any rest true = rest
-  more p points any rest false = one p (origins_of false bay points) (map type_of_point (read_only points)) any rest
+  more p points any rest false = one p (sources_of false bay points) (map type_of_point (read_only points)) any rest
 
-  pub reads-typed : (points : List ImagePoint) → are_points bay points ≡ true → map type_of_origin (origins_of false bay points) ≡ map type_of_point (read_only points)
+  pub reads-typed : (points : List ImagePoint) → are_points bay points ≡ true → map type_of_source (sources_of false bay points) ≡ map type_of_point (read_only points)
   reads-typed [] e = refl
   reads-typed (p ∷ points) e =
       more p points (first (list_any (is_point p) bay) _ (first _ (are_points bay points) e)) (reads-typed points (second _ (are_points bay points) e)) p.writable
