@@ -1,0 +1,3 @@
+pub mod BackingLemmas
+pub mod LeadsLemmas
+pub mod SelectionLemmas

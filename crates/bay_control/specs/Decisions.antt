@@ -1,0 +1,214 @@
+-- The decisions on select, operate and cancel (IEC 61850-7-2, 20): their answers, and the controls after them.
+use Rattle.std.specs.Prelude.{ℕ, ◌+◌, Bool, false, not, ◌&&◌, ◌||◌, ◌==◌, nat_le, if◌then◌else◌, List, [], ◌∷◌, map, Option, None, Some, Result, Ok, Err, is_ok}
+use Rattle.bay_config.specs.declared.bay.Switch.{Switch}
+use Rattle.bay_tree.specs.declared.leaf.Dbpos.{Dbpos}
+use Rattle.bay_control.specs.Requests.{asked_choice, control_of, is_controlled, is_enhanced, is_normal, is_reached, is_released, is_sbo, same_choice}
+use Rattle.bay_control.specs.declared.cause.AddCause.{AddCause}
+use Rattle.bay_control.specs.declared.cause.AddCause.TheVariants.{NotSupported, SelectFailed, PositionReached, BlockedByMode, BlockedByInterlocking, CommandAlreadyInExecution, OneOfNControl, ObjectNotSelected}
+use Rattle.bay_control.specs.declared.control.SwitchControl.{SwitchControl}
+use Rattle.bay_control.specs.declared.request.Ask.{Ask}
+use Rattle.bay_control.specs.declared.request.Choice.{Choice}
+use Rattle.bay_control.specs.declared.request.View.{View}
+use Rattle.bay_control.specs.declared.selection.Execution.{Execution}
+use Rattle.bay_control.specs.declared.selection.Selection.{Selection}
+use Rattle.bay_control.specs.declared.selection.Standing.{Standing}
+
+-- the controls of a bay: what its file says of each switch, the selected switch and the operating one
+pub record State : Type 0 where
+  pub controls : List SwitchControl
+  pub selection : Option Selection
+  pub execution : Option Execution
+
+-- what the bay file says of a switch's control
+abbrev pub control_in : Switch → SwitchControl
+control_in switch = record { model = switch.control; sbo_timeout_ms = switch.sbo_timeout_ms; travel_ms = switch.travel_ms }
+
+abbrev pub controls_of : List Switch → List SwitchControl
+controls_of switches = map control_in switches
+
+abbrev pub initial : List SwitchControl → State
+initial controls = record { controls = controls; selection = None; execution = None }
+
+-- ---- what has run out
+
+-- the selection at a moment: it ends where its time is over
+abbrev pub selection_at : ℕ → List SwitchControl → Option Selection → Option Selection
+selection_at now controls None = None
+selection_at now controls (Some s) = if nat_le (s.since + (control_of controls s.switch).sbo_timeout_ms) now then None else Some s
+
+-- the execution's time is over
+abbrev pub is_over_at : ℕ → List SwitchControl → Execution → Bool
+is_over_at now controls e = nat_le (e.start + (control_of controls e.switch).travel_ms) now
+
+abbrev pub execution_at : ℕ → List SwitchControl → Option Execution → Option Execution
+execution_at now controls None = None
+execution_at now controls (Some e) = if is_over_at now controls e then None else Some e
+
+-- the switch whose execution has run out
+abbrev pub run_out : ℕ → List SwitchControl → Option Execution → Option ℕ
+run_out now controls None = None
+run_out now controls (Some e) = if is_over_at now controls e then Some e.switch else None
+
+-- the controls without what has run out
+abbrev pub advanced : ℕ → State → State
+advanced now s = record s { selection = selection_at now s.controls s.selection; execution = execution_at now s.controls s.execution }
+
+-- ---- tests of the selection and the execution
+
+-- the association has selected the switch
+abbrev pub is_selected_by : ℕ → ℕ → Option Selection → Bool
+is_selected_by a k None = false
+is_selected_by a k (Some s) = s.association == a && s.switch == k
+
+-- another association has
+abbrev pub is_selected_by_other : ℕ → ℕ → Option Selection → Bool
+is_selected_by_other a k None = false
+is_selected_by_other a k (Some s) = not (s.association == a) && s.switch == k
+
+-- another switch is selected
+abbrev pub other_is_selected : ℕ → Option Selection → Bool
+other_is_selected k None = false
+other_is_selected k (Some s) = not (s.switch == k)
+
+-- a select with value asked for the same
+abbrev pub is_choice : Choice → Option Choice → Bool
+is_choice c None = false
+is_choice c (Some d) = same_choice c d
+
+abbrev pub is_chosen : Choice → Option Selection → Bool
+is_chosen c None = false
+is_chosen c (Some s) = is_choice c s.choice
+
+abbrev pub is_executing : ℕ → Option Execution → Bool
+is_executing k None = false
+is_executing k (Some e) = e.switch == k
+
+abbrev pub other_is_executing : ℕ → Option Execution → Bool
+other_is_executing k None = false
+other_is_executing k (Some e) = not (e.switch == k)
+
+-- ---- the table of checks
+
+-- a check that refuses where it holds, with its cause
+pub record Row : Type 0 where
+  pub refuses : Bool
+  pub cause : AddCause
+
+abbrev pub row : Bool → AddCause → Row
+row refuses cause = record { refuses = refuses; cause = cause }
+
+-- the first row that refuses gives the answer; where none does, the request is accepted
+abbrev pub answer_of : List Row → Result (Unit {0}) AddCause
+answer_of [] = Ok tt
+answer_of (r ∷ rows) = if r.refuses then Err r.cause else answer_of rows
+
+-- the rows that a select with value shares with one without
+abbrev pub select_rows : Bool → ℕ → ℕ → State → List Row → List Row
+select_rows is_supported a k s more =
+    row (not is_supported) NotSupported
+    ∷ row (is_executing k s.execution) CommandAlreadyInExecution
+    ∷ row (is_selected_by_other a k s.selection) SelectFailed
+    ∷ row (other_is_selected k s.selection) OneOfNControl
+    ∷ more
+
+abbrev pub rows_of_select : ℕ → ℕ → State → List Row
+rows_of_select a k s = select_rows (is_normal (control_of s.controls k).model) a k s []
+
+abbrev pub rows_of_select_with : ℕ → ℕ → Ask → State → List Row
+rows_of_select_with a k ask s = select_rows (is_enhanced (control_of s.controls k).model) a k s (row ask.test BlockedByMode ∷ [])
+
+-- the association has not selected the switch, or has selected it with value for something else
+abbrev pub is_unselected : SwitchControl → ℕ → ℕ → Choice → Option Selection → Bool
+is_unselected c a k choice selection =
+    is_sbo c.model && not (is_selected_by a k selection && (not (is_enhanced c.model) || is_chosen choice selection))
+
+abbrev pub rows_of_operate : ℕ → ℕ → Ask → View → State → List Row
+rows_of_operate a k ask view s =
+    let c = control_of s.controls k in
+    row (not (is_controlled c.model)) NotSupported
+    ∷ row (is_unselected c a k (asked_choice ask) s.selection) ObjectNotSelected
+    ∷ row ask.test BlockedByMode
+    ∷ row (is_executing k s.execution) CommandAlreadyInExecution
+    ∷ row (other_is_executing k s.execution) OneOfNControl
+    ∷ row (is_reached ask.on view.pos) PositionReached
+    ∷ row (not view.fresh) BlockedByInterlocking
+    ∷ row (not (is_released ask.on view)) BlockedByInterlocking
+    ∷ []
+
+abbrev pub rows_of_cancel : ℕ → ℕ → State → List Row
+rows_of_cancel a k s =
+    row (not (is_sbo (control_of s.controls k).model)) NotSupported
+    ∷ row (is_executing k s.execution) CommandAlreadyInExecution
+    ∷ row (not (is_selected_by a k s.selection)) ObjectNotSelected
+    ∷ []
+
+-- ---- answers, and the controls after them: what has run out counts as ended
+
+pub record Outcome : Type 0 where
+  pub answer : Result (Unit {0}) AddCause
+  pub after : State
+
+abbrev pub select_of : ℕ → ℕ → ℕ → Option Choice → Result (Unit {0}) AddCause → State → Outcome
+select_of a k now choice answer s = record {
+  answer = answer;
+  after = record s {
+    selection = if is_ok answer then Some (record { switch = k; association = a; since = now; choice = choice }) else s.selection;
+  };
+}
+
+abbrev pub select_outcome : ℕ → ℕ → ℕ → State → Outcome
+select_outcome a k now s = let t = advanced now s in select_of a k now None (answer_of (rows_of_select a k t)) t
+
+abbrev pub select_with_outcome : ℕ → ℕ → Ask → ℕ → State → Outcome
+select_with_outcome a k ask now s = let t = advanced now s in select_of a k now (Some (asked_choice ask)) (answer_of (rows_of_select_with a k ask t)) t
+
+-- an operate by the association that selected the switch ends the selection, accepted or not; an accepted one starts the execution
+abbrev pub operate_of : ℕ → ℕ → Bool → ℕ → Result (Unit {0}) AddCause → State → Outcome
+operate_of a k on now answer s = record {
+  answer = answer;
+  after = record s {
+    selection = if is_selected_by a k s.selection then None else s.selection;
+    execution = if is_ok answer then Some (record { switch = k; start = now; on = on }) else s.execution;
+  };
+}
+
+abbrev pub operate_outcome : ℕ → ℕ → Ask → View → ℕ → State → Outcome
+operate_outcome a k ask view now s = let t = advanced now s in operate_of a k ask.on now (answer_of (rows_of_operate a k ask view t)) t
+
+abbrev pub cancel_of : Result (Unit {0}) AddCause → State → Outcome
+cancel_of answer s = record { answer = answer; after = record s { selection = if is_ok answer then None else s.selection } }
+
+abbrev pub cancel_outcome : ℕ → ℕ → ℕ → State → Outcome
+cancel_outcome a k now s = let t = advanced now s in cancel_of (answer_of (rows_of_cancel a k t)) t
+
+-- ---- what ends without a request
+
+-- the selection without that of an association
+abbrev pub selection_without : ℕ → Option Selection → Option Selection
+selection_without a None = None
+selection_without a (Some s) = if s.association == a then None else Some s
+
+abbrev pub dropped : ℕ → State → State
+dropped a s = record s { selection = selection_without a s.selection }
+
+-- a contact tells that the execution is done
+abbrev pub is_done : ℕ → Dbpos → Option Execution → Bool
+is_done k position None = false
+is_done k position (Some e) = e.switch == k && is_reached e.on position
+
+abbrev pub contacted : ℕ → Dbpos → State → State
+contacted k position s = record s { execution = if is_done k position s.execution then None else s.execution }
+
+-- ---- what is taken and put back
+
+abbrev pub standing_of : State → Standing
+standing_of s = record { selection = s.selection; execution = s.execution }
+
+abbrev pub restored : Standing → State → State
+restored standing s = record s { selection = standing.selection; execution = standing.execution }
+
+-- ---- what is shown
+
+abbrev pub selected_switch : Option Selection → Option ℕ
+selected_switch None = None
+selected_switch (Some s) = Some s.switch

@@ -1,0 +1,110 @@
+-- What happens to the controls of a bay, what it comes to, and what of it is seen from outside.
+use Rattle.std.specs.Prelude.{ℕ, ◌≡◌, Bool, true, not, ◌&&◌, ◌||◌, ◌==◌, List, [], ◌∷◌, ◌++◌, Option, None, Some, Ok, is_ok}
+use Rattle.bay_tree.specs.declared.leaf.Dbpos.{Dbpos}
+use Rattle.bay_control.specs.Acts.{Act, Entry}
+use Rattle.bay_control.specs.Acts as act
+use Rattle.bay_control.specs.Decisions.{Outcome, State, advanced, cancel_outcome, contacted, dropped, operate_outcome, select_outcome, select_with_outcome}
+use Rattle.bay_control.specs.Requests.{asked_choice}
+use Rattle.bay_control.specs.declared.request.Ask.{Ask}
+use Rattle.bay_control.specs.declared.request.View.{View}
+
+-- the calls of the controls: an association a is opened or closed, or asks for something on a switch k; a contact of a switch comes;
+-- time alone passes
+pub data Call : Type 0 where
+  Open : (a : ℕ) → Call
+  Close : (a : ℕ) → Call
+  Select : (a k : ℕ) → Call
+  SelectWith : (a k : ℕ) (ask : Ask) → Call
+  Operate : (a k : ℕ) (ask : Ask) (view : View) → Call
+  Cancel : (a k : ℕ) → Call
+  Contact : (k : ℕ) (position : Dbpos) → Call
+  Advance : Call
+
+-- a call at a moment
+pub record Happening : Type 0 where
+  pub now : ℕ
+  pub call : Call
+
+-- what is no request is accepted
+abbrev pub unasked : State → Outcome
+unasked s = record { answer = Ok tt; after = s }
+
+abbrev pub outcome_of : Call → ℕ → State → Outcome
+outcome_of (Open a) now s = unasked s
+outcome_of (Close a) now s = unasked (dropped a s)
+outcome_of (Select a k) now s = select_outcome a k now s
+outcome_of (SelectWith a k ask) now s = select_with_outcome a k ask now s
+outcome_of (Operate a k ask view) now s = operate_outcome a k ask view now s
+outcome_of (Cancel a k) now s = cancel_outcome a k now s
+outcome_of (Contact k position) now s = unasked (contacted k position s)
+outcome_of Advance now s = unasked (advanced now s)
+
+-- what is seen of a call: neither what the decision sees of the switch, nor contacts and time
+abbrev pub act_of : Call → Option Act
+act_of (Open a) = Some (act.Opened a)
+act_of (Close a) = Some (act.Closed a)
+act_of (Select a k) = Some (act.Select a k)
+act_of (SelectWith a k ask) = Some (act.SelectWith a k (asked_choice ask))
+act_of (Operate a k ask view) = Some (act.Operate a k (asked_choice ask))
+act_of (Cancel a k) = Some (act.Cancel a k)
+act_of (Contact k position) = None
+act_of Advance = None
+
+abbrev pub entries_of : ℕ → Option Act → Bool → List Entry
+entries_of now None is_accepted = []
+entries_of now (Some act) is_accepted = record { now = now; act = act; is_accepted = is_accepted } ∷ []
+
+-- what is seen of a list of happenings
+abbrev pub history : List Happening → State → List Entry
+history [] s = []
+history (h ∷ hs) s =
+    let o = outcome_of h.call h.now s in
+    entries_of h.now (act_of h.call) (is_ok o.answer) ++ history hs o.after
+
+-- the controls after a list of happenings
+abbrev pub after_all : List Happening → State → State
+after_all [] s = s
+after_all (h ∷ hs) s = after_all hs (outcome_of h.call h.now s).after
+
+-- ---- which associations are open
+
+-- only a closed association is opened, and only an open one is closed or asks for something
+abbrev pub is_orderly_call : (ℕ → Bool) → Call → Bool
+is_orderly_call is_open (Open a) = not (is_open a)
+is_orderly_call is_open (Close a) = is_open a
+is_orderly_call is_open (Select a k) = is_open a
+is_orderly_call is_open (SelectWith a k ask) = is_open a
+is_orderly_call is_open (Operate a k ask view) = is_open a
+is_orderly_call is_open (Cancel a k) = is_open a
+is_orderly_call is_open (Contact k position) = true
+is_orderly_call is_open Advance = true
+
+-- whether an association is open after a call
+abbrev pub is_open_after : (ℕ → Bool) → Call → ℕ → Bool
+is_open_after is_open (Open a) b = b == a || is_open b
+is_open_after is_open (Close a) b = not (b == a) && is_open b
+is_open_after is_open (Select a k) b = is_open b
+is_open_after is_open (SelectWith a k ask) b = is_open b
+is_open_after is_open (Operate a k ask view) b = is_open b
+is_open_after is_open (Cancel a k) b = is_open b
+is_open_after is_open (Contact k position) b = is_open b
+is_open_after is_open Advance b = is_open b
+
+abbrev pub AreOrderly : (ℕ → Bool) → List Happening → Type 0
+AreOrderly is_open [] = Unit {0}
+AreOrderly is_open (h ∷ hs) = (is_orderly_call is_open h.call ≡ true) × AreOrderly (is_open_after is_open h.call) hs
+
+abbrev pub is_open_after_all : (ℕ → Bool) → List Happening → ℕ → Bool
+is_open_after_all is_open [] b = is_open b
+is_open_after_all is_open (h ∷ hs) b = is_open_after_all (is_open_after is_open h.call) hs b
+
+-- ---- runs
+
+-- Some happenings lead controls from one state to another, and these entries are seen of them; which associations are open before and
+-- after goes with them.
+pub record Leads (entries : List Entry) (open_before : ℕ → Bool) (before : State) (open_after : ℕ → Bool) (after : State) : Type 0 where
+  pub happened : List Happening
+  pub orderly : AreOrderly open_before happened
+  pub seen : entries ≡ history happened before
+  pub ends : after ≡ after_all happened before
+  pub opens : (a : ℕ) → open_after a ≡ is_open_after_all open_before happened a

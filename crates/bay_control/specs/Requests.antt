@@ -1,0 +1,83 @@
+-- What a bay file says of a switch's control, what is asked for and what is seen, as tests (IEC 61850-7-2, 20; IEC 61850-7-3: ctlModel,
+-- Originator, Dbpos).
+use Rattle.std.specs.Prelude.{ℕ, Bool, true, false, not, ◌&&◌, if◌then◌else◌, List, nat_eq, slice_get, Option, None, Some}
+use Rattle.std.specs.Cmp.Lexicographic.{pointwise}
+use Rattle.std.specs.Ordering.{int_eq}
+use Rattle.bay_config.specs.declared.bay.Control.{Control}
+use Rattle.bay_config.specs.declared.bay.Control.TheVariants.{Status, Direct, Sbo, SboEnhanced}
+use Rattle.bay_tree.specs.declared.leaf.Dbpos.{Dbpos}
+use Rattle.bay_tree.specs.declared.leaf.Dbpos.TheVariants.{Intermediate, Off, On, Bad}
+use Rattle.bay_control.specs.declared.control.SwitchControl.{SwitchControl}
+use Rattle.bay_control.specs.declared.request.Ask.{Ask}
+use Rattle.bay_control.specs.declared.request.Choice.{Choice}
+use Rattle.bay_control.specs.declared.request.Origin.{Origin}
+use Rattle.bay_control.specs.declared.request.View.{View}
+
+-- ---- what the bay file says of a switch's control
+
+abbrev pub no_control : SwitchControl
+no_control = record { model = Status; sbo_timeout_ms = 0; travel_ms = 0 }
+
+-- a switch that is not there has no control
+abbrev pub control_or_none : Option SwitchControl → SwitchControl
+control_or_none None = no_control
+control_or_none (Some c) = c
+
+abbrev pub control_of : List SwitchControl → ℕ → SwitchControl
+control_of controls k = control_or_none (slice_get controls k)
+
+-- there is a control
+abbrev pub is_controlled : Control → Bool
+is_controlled Status = false
+is_controlled Direct = true
+is_controlled Sbo = true
+is_controlled SboEnhanced = true
+
+-- selected without a value before it is operated
+abbrev pub is_normal : Control → Bool
+is_normal Status = false
+is_normal Direct = false
+is_normal Sbo = true
+is_normal SboEnhanced = false
+
+-- selected with a value before it is operated
+abbrev pub is_enhanced : Control → Bool
+is_enhanced Status = false
+is_enhanced Direct = false
+is_enhanced Sbo = false
+is_enhanced SboEnhanced = true
+
+-- selected before it is operated, either way
+abbrev pub is_sbo : Control → Bool
+is_sbo Status = false
+is_sbo Direct = false
+is_sbo Sbo = true
+is_sbo SboEnhanced = true
+
+-- ---- what is asked for
+
+-- the position and the originator that are asked for
+abbrev pub asked_choice : Ask → Choice
+asked_choice ask = record { on = ask.on; origin = ask.origin }
+
+abbrev pub same_truth : Bool → Bool → Bool
+same_truth a b = if a then b else not b
+
+abbrev pub same_origin : Origin → Origin → Bool
+same_origin c d = int_eq c.cat d.cat && pointwise nat_eq c.ident.items d.ident.items
+
+abbrev pub same_choice : Choice → Choice → Bool
+same_choice c d = same_truth c.on d.on && same_origin c.origin d.origin
+
+-- ---- what is seen
+
+-- the position is the one that is asked for
+abbrev pub is_reached : Bool → Dbpos → Bool
+is_reached on Intermediate = false
+is_reached on Off = not on
+is_reached on On = on
+is_reached on Bad = false
+
+-- the interlocking releases the operation
+abbrev pub is_released : Bool → View → Bool
+is_released on view = if on then view.ena_cls else view.ena_opn

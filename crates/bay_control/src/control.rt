@@ -1,0 +1,45 @@
+// What the bay file says of a switch's control.
+ghost use Rattle.std.specs.Prelude.{◌≡◌, ◌+◌, nat_le};
+ghost use Rattle.bay_control.specs.Requests.{is_sbo, no_control};
+
+use bay_config::bay::Control;
+
+/// The control of a switch, as the bay file has it.
+#[derive(Clone, Copy, Debug)]
+pub struct SwitchControl {
+    /// The kind (IEC 61850-7-3, ctlModel).
+    pub model: Control,
+    /// How long a selection stands, in milliseconds (IEC 61850-7-3, sboTimeout).
+    pub sbo_timeout_ms: u32,
+    /// How long an execution lasts, in milliseconds.
+    pub travel_ms: u32,
+}
+
+impl SwitchControl {
+    /// The switch is selected before it is operated, with normal or enhanced security.
+    pub(crate) fn is_sbo(self) -> bool
+        ensures { result ≡ is_sbo self.model }
+    {
+        matches!(self.model, Control::Sbo | Control::SboEnhanced)
+    }
+}
+
+impl Default for SwitchControl {
+    ghost is_default = { λ c. c ≡ no_control };
+
+    /// The control of a switch that has none.
+    fn default() -> Self {
+        SwitchControl {
+            model: Control::Status,
+            sbo_timeout_ms: 0,
+            travel_ms: 0,
+        }
+    }
+}
+
+/// A span of milliseconds that began at a moment is over.
+pub(crate) fn is_over(since: u64, span: u32, now: u64) -> bool
+    ensures { result ≡ nat_le (since + span) now }
+{
+    since <= now && u64::from(span) <= now - since
+}

@@ -1,0 +1,17 @@
+// The controls of a bay's switches: select, operate and cancel (IEC 61850-7-2, 20). They are decided on what the bay file says
+// of each switch, on what is selected and operating, and on what is seen of the switch. Nothing here takes memory.
+//
+// - `cause`: why a control is refused.
+// - `control`: what the bay file says of a switch's control.
+// - `request`: what a client asks for, and what a decision sees of the switch.
+// - `selection`: which switch is selected, and which is operating.
+// - `controls`: the controls of one bay.
+// - `laws`: what holds of whole runs.
+#![tactic(auto)]
+
+pub mod cause;
+pub mod control;
+pub mod controls;
+pub mod laws;
+pub mod request;
+pub mod selection;

@@ -1,0 +1,106 @@
+// What a client asks for, and what a decision sees of the switch.
+ghost use Rattle.std.specs.Prelude.{◌≡◌};
+ghost use Rattle.bay_control.specs.Requests.{asked_choice, is_reached, is_released, same_choice, same_origin};
+
+use arrayvec::ArrayVec;
+use bay_tree::leaf::Dbpos;
+
+/// Who asks for a control (IEC 61850-7-3, Originator).
+#[derive(Debug, Drop)]
+pub struct Origin {
+    /// The category (orCat).
+    pub cat: i8,
+    /// The identity, at most 64 octets (orIdent).
+    pub ident: ArrayVec<u8, 64>,
+}
+
+impl Origin {
+    /// The two are the same.
+    pub(crate) fn is_same(&self, other: &Origin) -> bool
+        ensures { result ≡ same_origin self.now other.now }
+    {
+        self.cat == other.cat && self.ident.as_slice() == other.ident.as_slice()
+    }
+
+    /// A copy, which takes no memory.
+    pub(crate) fn duplicate(&self) -> Origin
+        ensures { result ≡ self.now }
+    {
+        let mut ident = ArrayVec::new();
+        let _ = ident.try_extend_from_slice(self.ident.as_slice());
+        Origin {
+            cat: self.cat,
+            ident,
+        }
+    }
+}
+
+/// What a select with value is granted for: a position and who asks.
+#[derive(Debug, Drop)]
+pub struct Choice {
+    /// Close the switch, and not open it (ctlVal).
+    pub on: bool,
+    pub origin: Origin,
+}
+
+impl Choice {
+    /// This is what a request asks for.
+    pub(crate) fn is_asked(&self, ask: &Ask) -> bool
+        ensures { result ≡ same_choice (asked_choice ask.now) self.now }
+    {
+        ask.on == self.on && ask.origin.is_same(&self.origin)
+    }
+
+    /// A copy, which takes no memory.
+    pub(crate) fn duplicate(&self) -> Choice
+        ensures { result ≡ self.now }
+    {
+        Choice {
+            on: self.on,
+            origin: self.origin.duplicate(),
+        }
+    }
+}
+
+/// A request to operate a switch, or to select it with value (IEC 61850-7-2, 20: Oper and SBOw).
+#[derive(Debug, Drop)]
+pub struct Ask {
+    /// Close the switch, and not open it (ctlVal).
+    pub on: bool,
+    /// It is a test, which moves nothing (Test).
+    pub test: bool,
+    pub origin: Origin,
+}
+
+/// What a decision sees of the switch.
+#[derive(Clone, Copy, Debug)]
+pub struct View {
+    /// The position.
+    pub pos: Dbpos,
+    /// The last scan is fresh: no input has changed since, and it is not too old.
+    pub fresh: bool,
+    /// The interlocking releases opening (IEC 61850-7-4, CILO: EnaOpn).
+    pub ena_opn: bool,
+    /// The interlocking releases closing (EnaCls).
+    pub ena_cls: bool,
+}
+
+impl View {
+    /// The interlocking releases the operation.
+    pub(crate) fn is_released(self, on: bool) -> bool
+        ensures { result ≡ is_released on self }
+    {
+        if on { self.ena_cls } else { self.ena_opn }
+    }
+}
+
+/// The position is the one that is asked for.
+pub(crate) fn is_reached(on: bool, position: Dbpos) -> bool
+    ensures { result ≡ is_reached on position }
+{
+    match position {
+        Dbpos::On => on,
+        Dbpos::Off => !on,
+        Dbpos::Intermediate | Dbpos::Bad => false,
+    }
+}

@@ -1,0 +1,116 @@
+// Which switch is selected, and which is operating.
+ghost use Rattle.std.specs.Prelude.{◌≡◌};
+ghost use Rattle.bay_control.specs.Decisions.{is_chosen, is_done, is_executing, is_selected_by, is_selected_by_other, other_is_executing, other_is_selected};
+ghost use Rattle.bay_control.specs.Requests.{asked_choice};
+
+use crate::request::{Ask, Choice, is_reached};
+use bay_tree::leaf::Dbpos;
+
+/// A switch that an association has selected.
+#[derive(Debug, Drop)]
+pub struct Selection {
+    /// The place of the switch in the bay file, from 0.
+    pub switch: usize,
+    pub association: u16,
+    /// The moment of the last select, in milliseconds since 1970.
+    pub since: u64,
+    /// What a select with value was granted for.
+    pub choice: Option<Choice>,
+}
+
+impl Selection {
+    /// A copy, which takes no memory.
+    pub(crate) fn duplicate(&self) -> Selection
+        ensures { result ≡ self.now }
+    {
+        Selection {
+            switch: self.switch,
+            association: self.association,
+            since: self.since,
+            choice: self.choice.as_ref().map(|c| c.duplicate()),
+        }
+    }
+}
+
+/// A switch that is operating.
+#[derive(Clone, Copy, Debug)]
+pub struct Execution {
+    /// The place of the switch in the bay file, from 0.
+    pub switch: usize,
+    /// The moment of the operate, in milliseconds since 1970.
+    pub start: u64,
+    /// It is closing, and not opening.
+    pub on: bool,
+}
+
+/// What is selected and what is operating, taken from controls to be put back.
+#[derive(Debug, Drop)]
+pub struct Standing {
+    pub selection: Option<Selection>,
+    pub execution: Option<Execution>,
+}
+
+/// The association has selected the switch.
+pub(crate) fn is_selected_by(selection: &Option<Selection>, association: u16, switch: usize) -> bool
+    ensures { result ≡ is_selected_by association switch selection.now }
+{
+    selection
+        .as_ref()
+        .is_some_and(|s| s.association == association && s.switch == switch)
+}
+
+/// Another association has selected the switch.
+pub(crate) fn is_selected_by_other(
+    selection: &Option<Selection>,
+    association: u16,
+    switch: usize,
+) -> bool
+    ensures { result ≡ is_selected_by_other association switch selection.now }
+{
+    selection
+        .as_ref()
+        .is_some_and(|s| s.association != association && s.switch == switch)
+}
+
+/// Another switch is selected.
+pub(crate) fn other_is_selected(selection: &Option<Selection>, switch: usize) -> bool
+    ensures { result ≡ other_is_selected switch selection.now }
+{
+    selection.as_ref().is_some_and(|s| s.switch != switch)
+}
+
+/// A select with value was granted for what is asked for.
+pub(crate) fn is_chosen(selection: &Option<Selection>, ask: &Ask) -> bool
+    ensures { result ≡ is_chosen (asked_choice ask.now) selection.now }
+{
+    match selection {
+        Some(
+            Selection {
+                choice: Some(choice),
+                ..
+            },
+        ) => choice.is_asked(ask),
+        _ => false,
+    }
+}
+
+/// The switch is operating.
+pub(crate) fn is_executing(execution: Option<Execution>, switch: usize) -> bool
+    ensures { result ≡ is_executing switch execution }
+{
+    execution.is_some_and(|e| e.switch == switch)
+}
+
+/// Another switch is operating.
+pub(crate) fn other_is_executing(execution: Option<Execution>, switch: usize) -> bool
+    ensures { result ≡ other_is_executing switch execution }
+{
+    execution.is_some_and(|e| e.switch != switch)
+}
+
+/// A position of the switch tells that its execution is done.
+pub(crate) fn is_done(execution: Option<Execution>, switch: usize, position: Dbpos) -> bool
+    ensures { result ≡ is_done switch position execution }
+{
+    execution.is_some_and(|e| e.switch == switch && is_reached(e.on, position))
+}
