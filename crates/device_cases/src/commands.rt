@@ -4,6 +4,7 @@ use bay_device::device::Device;
 use bay_device::fault::LoadFault;
 use bay_device::load::load_image;
 use bay_main::words::{WordsFault, job_of};
+use cases::octets::octets_of;
 use std::alloc::{AllocError, Global};
 
 /// The job that words ask for, which are parted by spaces, as Rust's `{:?}` prints it, or `refused`.
@@ -34,6 +35,6 @@ fn loaded_text(alloc: Global, loaded: &Result<Device, LoadFault>) -> Result<Stri
 /// What the octets of an image load to, in hexadecimal digits: the size of its program, and the octets that the device gives; or
 /// why they are refused.
 pub fn image_text(alloc: Global, bay: &str, octets: &str) -> Result<String> {
-    let octets = hex::decode(alloc, octets)?;
+    let octets = octets_of(alloc, octets)?;
     loaded_text(alloc, &load_image(alloc, bay, octets.as_slice()))
 }

@@ -1,10 +1,11 @@
 // A device, call by call: its steps, its runs, its look-ups and its rows.
-use crate::words::{field_of, first_word, place_of, position_of};
+use crate::words::{field_of, place_of, position_of};
 use anyhow::{Context, Result, bail};
 use bay_device::device::Device;
 use bay_device::event::{Event, Step};
 use bay_device::fault::StepFault;
 use bay_tree::tree::Tree;
+use cases::words::first_word;
 use std::alloc::{AllocError, Global};
 
 /// An event in words: `scan`, `contact SWITCH POSITION`, `input INPUT 0` or `1`, `measure METER FIELD VALUE`.

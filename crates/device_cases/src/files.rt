@@ -1,9 +1,9 @@
 // What becomes of bay files: with one part replaced, or with many entries.
-use crate::words::first_word;
 use anyhow::{Context, Result};
 use bay_device::device::Device;
 use bay_device::fault::LoadFault;
 use bay_device::load::load;
+use cases::words::first_word;
 use std::alloc::{AllocError, Global};
 
 /// So many entries of a list, with a name of its own each at the key, and the other lines.

@@ -1,10 +1,9 @@
-// Runs the cases that come on standard input, and prints how many there were; the first that ends otherwise than it
-// says is told, and the program fails.
+// Runs the cases of the device that come on standard input, and prints each that comes out otherwise than it says, and how many do.
 //
 // The cases are sections, each with a head `== NAME`. `bay`, `frame`, `logic` and `trace` are texts, which stand until
-// another takes their place; the logic follows the frame. `report STATUS` is a case: the scenario of these texts ends
+// another takes their place; the logic follows the frame. `report STATUS [NAME]` is a case: the scenario of these texts ends
 // with this status and this report. `fields`, `nodes` (names of logical nodes), `points` and `rows` are what is read of
-// the bay, and `names` those of a tree, which lists them in pages. Values are spelled as Rust's `{:?}` prints them.
+// the bay, and `names` those of a tree, which lists them in pages. Values are spelled as Rust's `{:?}` prints them. `note` is none.
 //
 // In the other sections each line is a case. In `octets` it is `SCENARIO -> STATUS REPORT`, octet by octet. Else it is
 // `QUESTION -> ANSWER`: in `device` what a new device of these texts is asked or does, one line after the other; in
@@ -12,6 +11,8 @@
 // switches, inputs and meters a bay file has, and its last line; in `trees` the names of rows; in `images` the octets of an
 // image for the bay, in hexadecimal digits; in `jobs` the words of a command line; in `messages` a fault; in `endings` the
 // answer of a replay.
+//
+// The sections behind `== note examples` are those of examples/, as `tools/examples_stdin` makes them of the examples' files.
 #![tactic(auto)]
 
 mod bay;
@@ -26,6 +27,8 @@ mod words;
 use anyhow::{Context, Result, bail};
 use bay::check_bay;
 use bay_device::device::Device;
+use cases::told::Told;
+use cases::words::first_word;
 use names::check_names;
 use scenario::{Texts, check_octets, check_report, device_of};
 use std::alloc::Global;
@@ -62,14 +65,19 @@ fn check_line(alloc: Global, texts: &Texts, head: &str, line: &str) -> Result<()
     check_answer(answer(alloc, texts, head, question)?.as_str(), wanted)
 }
 
-/// The cases of a section with a case in each line, and how many there are.
-fn check_lines(alloc: Global, texts: &Texts, head: &str, body: &str) -> Result<u32> {
-    let mut cases = 0u32;
+/// What came of a case that fails where it is not as it says.
+fn outcome_of(checked: Result<()>) -> Result<bool> {
+    checked?;
+    Ok(true)
+}
+
+/// The cases of a section with a case in each line.
+fn tell_lines(alloc: Global, told: &mut Told, texts: &Texts, head: &str, body: &str) -> Result<()> {
     for line in body.lines() {
-        check_line(alloc, texts, head, line).context(line)?;
-        cases = cases.saturating_add(1);
+        let outcome = outcome_of(check_line(alloc, texts, head, line));
+        told.tell(line, outcome)?;
     }
-    Ok(cases)
+    Ok(())
 }
 
 /// A line of what a device is asked or does.
@@ -78,42 +86,58 @@ fn check_step(alloc: Global, device: &mut Device, line: &str) -> Result<()> {
     check_answer(device::answer(alloc, device, question)?.as_str(), wanted)
 }
 
-/// The lines of what a device is asked or does, and how many there are.
-fn check_steps(alloc: Global, device: &mut Device, body: &str) -> Result<u32> {
-    let mut cases = 0u32;
+/// The lines of what a device is asked or does.
+fn tell_steps(alloc: Global, told: &mut Told, device: &mut Device, body: &str) -> Result<()> {
     for line in body.lines() {
-        check_step(alloc, device, line).context(line)?;
-        cases = cases.saturating_add(1);
+        let outcome = outcome_of(check_step(alloc, device, line));
+        told.tell(line, outcome)?;
     }
-    Ok(cases)
+    Ok(())
 }
 
-/// The lines of what a new device of the texts is asked or does, and how many there are.
-fn check_device(alloc: Global, texts: &Texts, body: &str) -> Result<u32> {
+/// The lines of what a new device of the texts is asked or does.
+fn tell_device(alloc: Global, told: &mut Told, texts: &Texts, body: &str) -> Result<()> {
     let mut device = device_of(alloc, texts)?;
-    check_steps(alloc, &mut device, body)
+    tell_steps(alloc, told, &mut device, body)
 }
 
-/// The cases of a section, and how many there are.
-fn check_section(alloc: Global, texts: &Texts, head: &str, body: &str) -> Result<u32> {
-    match head {
-        "device" => return check_device(alloc, texts, body),
-        "fields" | "nodes" | "points" | "rows" => check_bay(alloc, texts.bay, head, body)?,
-        "names" => check_names(alloc, body)?,
-        _ => match head.strip_prefix("report ") {
-            Some(status) => check_report(alloc, texts, status, body)?,
-            None => return check_lines(alloc, texts, head, body),
-        },
+/// The case that a whole section is.
+fn check_whole(alloc: Global, texts: &Texts, head: &str, body: &str) -> Result<()> {
+    let (kind, rest) = first_word(head);
+    let (status, _) = first_word(rest);
+    match kind {
+        "report" => check_report(alloc, texts, status, body),
+        "names" => check_names(alloc, body),
+        _ => check_bay(alloc, texts.bay, head, body),
     }
-    Ok(1)
 }
 
-/// Runs the cases of all sections, and counts them.
-fn check_all(alloc: Global, text: &str) -> Result<u32> {
+/// The cases of a section.
+fn tell_section(
+    alloc: Global,
+    told: &mut Told,
+    texts: &Texts,
+    head: &str,
+    body: &str,
+) -> Result<()> {
+    let (kind, _) = first_word(head);
+    match kind {
+        "note" => Ok(()),
+        "device" => tell_device(alloc, told, texts, body),
+        "fields" | "nodes" | "points" | "rows" | "names" | "report" => {
+            let outcome = outcome_of(check_whole(alloc, texts, head, body));
+            told.tell(head, outcome)
+        }
+        _ => tell_lines(alloc, told, texts, head, body),
+    }
+}
+
+/// What is told of the cases of all sections.
+fn run(alloc: Global, text: &str) -> Result<String> {
     let text = text.strip_prefix("== ").context("no section")?;
     let text = text.strip_suffix("\n").unwrap_or(text);
     let mut texts = Texts::new();
-    let mut cases = 0u32;
+    let mut told = Told::new(alloc);
     for section in text.split("\n== ") {
         let (head, body) = section.split_once("\n").unwrap_or((section, ""));
         match head {
@@ -121,19 +145,16 @@ fn check_all(alloc: Global, text: &str) -> Result<u32> {
             "frame" => texts.frame = body,
             "logic" => texts.logic = body,
             "trace" => texts.trace = body,
-            _ => {
-                let more = check_section(alloc, &texts, head, body).context(head)?;
-                cases = cases.saturating_add(more);
-            }
+            _ => tell_section(alloc, &mut told, &texts, head, body).context(head)?,
         }
     }
-    Ok(cases)
+    told.finish()
 }
 
 fn main(rt: HostRuntime) -> Result<()> {
     let mut text = String::new(rt.alloc());
     rt.reader().read_to_string(&mut text)?;
-    let cases = check_all(rt.alloc(), text.as_str())?;
-    println!(&rt; "{cases} cases agree")?;
+    let told = run(rt.alloc(), text.as_str())?;
+    print!(&rt; "{told}")?;
     Ok(())
 }

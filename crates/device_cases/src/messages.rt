@@ -1,11 +1,11 @@
 // What faults are told as, and how a program ends.
-use crate::words::first_word;
 use anyhow::{Result, bail};
 use bay_config::fault::BayFault;
 use bay_device::fault::{LoadFault, StepFault};
 use bay_io::outbox::WriteFault;
-use bay_main::replay::exit_of;
+use bay_main::ending::Ended;
 use bay_tree::fault::{NamesFault, TreeFault};
+use cases::words::first_word;
 use std::alloc::Global;
 
 /// The message of the fault of a bay file with this number; None is want of memory's.
@@ -97,6 +97,6 @@ pub fn ending(alloc: Global, question: &str) -> Result<String> {
         Ok(status) => Ok(status),
         Err(_) => Err(WriteFault),
     };
-    let ending = exit_of(answer);
-    Ok(format!(in alloc; "{} [{}]", ending.status, ending.complaint.trim_end())?)
+    let ended = Ended::of(answer);
+    Ok(format!(in alloc; "{} [{}]", ended.status(), ended.complaint().trim_end())?)
 }

@@ -1,11 +1,11 @@
 // Scenarios and their reports.
-use crate::words::first_word;
 use anyhow::{Context, Result, bail};
 use bay_device::device::Device;
 use bay_device::load::load;
 use bay_io::reader::WatchedReader;
 use bay_io::writer::WatchedWriter;
 use bay_main::replay::replay_run;
+use cases::words::first_word;
 use std::alloc::{AllocError, Global};
 
 /// The texts that the next case is made of.

@@ -3,11 +3,6 @@ use anyhow::{Context, Result, bail};
 use bay_config::bay::MeterField;
 use bay_tree::leaf::Dbpos;
 
-/// The first word of a line, and the others.
-pub fn first_word(line: &str) -> (&str, &str) {
-    line.split_once(" ").unwrap_or((line, ""))
-}
-
 /// What follows the first lines of a text, which are to be these.
 pub fn after<'a>(text: &'a str, lines: &str) -> Result<&'a str> {
     let Some(rest) = text.strip_prefix(lines) else {

@@ -1,0 +1,21 @@
+// Tests of what can't be a line of cases: programs and points that no text gives, values call by call, verdicts that hand an image
+// back, and a replay with readers and writers that fail. They use public calls alone, and stand in a crate of their own, since a
+// crate with tests is proved a second time for them.
+//
+// - `by_hand`: programs that no text gives.
+// - `check`: what is left of a checked program, and what faults say.
+// - `image`: values, timers, instructions and images.
+// - `verify`: refused images, handed back.
+// - `replay`: readers and writers that go by a few octets at a time, and that fail.
+#![tactic(auto)]
+
+#[cfg(test)]
+mod by_hand;
+#[cfg(test)]
+mod check;
+#[cfg(test)]
+mod image;
+#[cfg(test)]
+mod replay;
+#[cfg(test)]
+mod verify;

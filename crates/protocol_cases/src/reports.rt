@@ -1,0 +1,113 @@
+// Reports of controls, and lengths of pages.
+use crate::rows::position_of;
+use crate::written::is_written;
+use anyhow::{Result, bail};
+use bay_mms::page::{name_length, page_length};
+use bay_mms::report::{ControlError, Operate, Origin, write_failure, write_termination};
+use cases::octets::octets_of;
+use cases::words::{first_word, truth_of};
+use std::alloc::Global;
+
+/// The report of a failure.
+fn failure_of<'a>(
+    alloc: Global,
+    object: &'a str,
+    category: i8,
+    identity: &'a [u8],
+    number: u8,
+    cause: u8,
+) -> Result<Vec<u8>> {
+    let origin = Origin { category, identity };
+    let failure = ControlError {
+        object,
+        origin,
+        number,
+        cause,
+    };
+    Ok(write_failure(alloc, &failure)?)
+}
+
+/// Whether an operate of an object that fails is told so: its octets, the object, the category and the identity of its origin, its
+/// number and its cause.
+pub fn is_failure(alloc: Global, words: &str) -> Result<bool> {
+    let (octets, rest) = first_word(words);
+    let (object, rest) = first_word(rest);
+    let (category, rest) = first_word(rest);
+    let (identity, rest) = first_word(rest);
+    let (number, cause) = first_word(rest);
+    let category = category.parse::<i8>()?;
+    let number = number.parse::<u8>()?;
+    let cause = cause.parse::<u8>()?;
+    let identity = octets_of(alloc, identity)?;
+    let written = failure_of(alloc, object, category, identity.as_slice(), number, cause)?;
+    is_written(alloc, written.as_slice(), octets)
+}
+
+/// The eight octets of a moment.
+fn moment_of(alloc: Global, word: &str) -> Result<[u8; 8]> {
+    let octets = octets_of(alloc, word)?;
+    match octets.as_slice() {
+        [a, b, c, d, e, f, g, h] => Ok([*a, *b, *c, *d, *e, *f, *g, *h]),
+        _ => bail!("no moment: {word}"),
+    }
+}
+
+/// An operate of its value and its origin, and the other words of it: its number, its moment, whether it is a test, and its check.
+fn operate_of<'a>(
+    alloc: Global,
+    value: &str,
+    origin: Origin<'a>,
+    words: &str,
+) -> Result<Operate<'a>> {
+    let (number, rest) = first_word(words);
+    let (moment, rest) = first_word(rest);
+    let (is_test, check) = first_word(rest);
+    Ok(Operate {
+        value: truth_of(value)?,
+        origin,
+        number: number.parse::<u8>()?,
+        moment: moment_of(alloc, moment)?,
+        is_test: truth_of(is_test)?,
+        check: position_of(check)?,
+    })
+}
+
+/// Whether an operate that has ended well is told so: its octets, the domain, the item, the value, the category and the identity of
+/// its origin, its number, its moment, whether it is a test, and its check.
+pub fn is_termination(alloc: Global, words: &str) -> Result<bool> {
+    let (octets, rest) = first_word(words);
+    let (domain, rest) = first_word(rest);
+    let (item, rest) = first_word(rest);
+    let (value, rest) = first_word(rest);
+    let (category, rest) = first_word(rest);
+    let (identity, rest) = first_word(rest);
+    let category = category.parse::<i8>()?;
+    let identity = octets_of(alloc, identity)?;
+    let origin = Origin {
+        category,
+        identity: identity.as_slice(),
+    };
+    let operate = operate_of(alloc, value, origin, rest)?;
+    let written = write_termination(alloc, domain, item, &operate)?;
+    is_written(alloc, written.as_slice(), octets)
+}
+
+/// Whether a page of names of so many octets has this length under an invoke id.
+pub fn is_page(words: &str) -> Result<bool> {
+    let (id, rest) = first_word(words);
+    let (names, length) = first_word(rest);
+    let names = names.parse::<u32>()?;
+    if names > 1_000_000 {
+        bail!("a page of {names} octets");
+    }
+    Ok(page_length(id.parse::<u32>()?, names) == length.parse::<u64>()?)
+}
+
+/// Whether a name takes so many octets of a page.
+pub fn is_name(words: &str) -> Result<bool> {
+    let (name, length) = first_word(words);
+    if name.len() > 1_000 {
+        bail!("a name that is too long");
+    }
+    Ok(name_length(name) == length.parse::<u64>()?)
+}
