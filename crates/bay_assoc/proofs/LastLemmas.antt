@@ -6,14 +6,17 @@ use Rattle.bay_ber.specs.Spelling.{Spells}
 use Rattle.bay_ber.specs.Values.{Part, value, SpellAll}
 use Rattle.bay_ber.proofs.ReadLemmas.{IsBytes}
 use Rattle.bay_mms.specs.Tags.{constructed, sequence, int_tag}
+use Rattle.bay_assoc.specs.declared.hearing.Heard.{Heard}
+use Rattle.bay_assoc.specs.declared.hearing.Heard.TheVariants as heard
 use Rattle.bay_assoc.specs.declared.hearing.Phase.{Phase}
 use Rattle.bay_assoc.specs.declared.hearing.Phase.TheVariants.{Idle, Open, Over, Failed}
 use Rattle.bay_assoc.specs.Hearing.{mms, hearing}
-use Rattle.bay_assoc.specs.Hears.{link_of}
+use Rattle.bay_assoc.specs.Hears.{link_of, StandsLast, IsOpenFor}
 use Rattle.bay_assoc.specs.Presentation.{Carried}
 use Rattle.bay_assoc.specs.SpelledHearing.{IsHeard}
 use Rattle.bay_assoc.specs.SpelledValues.{IsCarried, IsUser}
 use Rattle.bay_assoc.specs.Tags.{application}
+use Rattle.bay_assoc.specs.Views.{hearing_of}
 use Rattle.bay_assoc.proofs.HearingBackLemmas.{heard_is_spelled}
 
 -- The octets end with others.
@@ -49,14 +52,20 @@ heard_last (Open link) new octets pdu is =
 heard_last Over new octets pdu is = absurd is
 heard_last Failed new octets pdu is = absurd is
 
-pub pdu_last : (old new : Phase) (octets pdu : List ℕ) → IsBytes octets → hearing old octets ≡ Ok (mms pdu, new) → (front : List ℕ) × (octets ≡ front ++ pdu)
-pdu_last old new octets pdu b heard = let e = heard_last old new octets pdu (heard_is_spelled old new octets (mms pdu) b heard) in (e.front, e.is)
-
-heard_open : (old new : Phase) (octets pdu : List ℕ) → IsHeard old octets (mms pdu) new → IsSome (link_of old) × (new ≡ old)
+heard_open : (old new : Phase) (octets pdu : List ℕ) → IsHeard old octets (mms pdu) new → IsSome (link_of new)
 heard_open Idle new octets pdu is = absurd is
-heard_open (Open link) new octets pdu is = (refl, is.3)
+heard_open (Open link) new octets pdu is = rw is.3 refl
 heard_open Over new octets pdu is = absurd is
 heard_open Failed new octets pdu is = absurd is
 
-pub pdu_open : (old new : Phase) (octets pdu : List ℕ) → IsBytes octets → hearing old octets ≡ Ok (mms pdu, new) → IsSome (link_of old) × (new ≡ old)
-pdu_open old new octets pdu b heard = heard_open old new octets pdu (heard_is_spelled old new octets (mms pdu) b heard)
+pub stands_last : (old new : Phase) (octets : List ℕ) (h : Heard) → IsBytes octets → hearing old octets ≡ Ok (hearing_of h, new) → StandsLast octets h
+stands_last old new octets (heard.Answer answer) b e = tt
+stands_last old new octets (heard.Mms pdu) b e = let l = heard_last old new octets pdu.now (heard_is_spelled old new octets (mms pdu.now) b e) in (l.front, l.is)
+stands_last old new octets (heard.Released answer) b e = tt
+stands_last old new octets heard.Aborted b e = tt
+
+pub open_for : (old new : Phase) (octets : List ℕ) (h : Heard) → IsBytes octets → hearing old octets ≡ Ok (hearing_of h, new) → IsOpenFor h new
+open_for old new octets (heard.Answer answer) b e = tt
+open_for old new octets (heard.Mms pdu) b e = heard_open old new octets pdu.now (heard_is_spelled old new octets (mms pdu.now) b e)
+open_for old new octets (heard.Released answer) b e = tt
+open_for old new octets heard.Aborted b e = tt

@@ -1,9 +1,10 @@
 -- What a call answers of a TSDU, and which phase it leaves.
-use Rattle.std.specs.Prelude.{ℕ, ◌≡◌, ◌⊎◌, List, Option, Some, None, Result, Ok, Err}
+use Rattle.std.specs.Prelude.{ℕ, ◌≡◌, ◌⊎◌, ◌++◌, List, Option, Some, None, IsSome, Result, Ok, Err}
 use Rattle.bay_assoc.specs.declared.fault.AssocFault.{AssocFault}
 use Rattle.bay_assoc.specs.declared.fault.AssocFault.TheVariants.{OutOfMemory}
 use Rattle.bay_assoc.specs.declared.hearing.Link.{Link}
 use Rattle.bay_assoc.specs.declared.hearing.Heard.{Heard}
+use Rattle.bay_assoc.specs.declared.hearing.Heard.TheVariants as heard
 use Rattle.bay_assoc.specs.declared.hearing.Phase.{Phase}
 use Rattle.bay_assoc.specs.declared.hearing.Phase.TheVariants.{Idle, Open, Over, Failed}
 use Rattle.bay_assoc.specs.Hearing.{hearing}
@@ -18,5 +19,19 @@ link_of Failed = None
 
 -- What is heard is answered, and its phase follows; its fault, or want of memory, leaves an association that has failed.
 abbrev pub Hears : Phase → List ℕ → Result Heard AssocFault → Phase → Type 0
-Hears old octets (Ok heard) new = hearing old octets ≡ Ok (hearing_of heard, new)
+Hears old octets (Ok h) new = hearing old octets ≡ Ok (hearing_of h, new)
 Hears old octets (Err fault) new = (new ≡ Failed) × ((fault ≡ OutOfMemory) ⊎ (hearing old octets ≡ Err fault))
+
+-- A PDU of MMS stands last in its TSDU,
+abbrev pub StandsLast : List ℕ → Heard → Type 0
+StandsLast octets (heard.Answer answer) = Unit {0}
+StandsLast octets (heard.Mms pdu) = (front : List ℕ) × (octets ≡ front ++ pdu.now)
+StandsLast octets (heard.Released answer) = Unit {0}
+StandsLast octets heard.Aborted = Unit {0}
+
+-- and is heard where the association is open.
+abbrev pub IsOpenFor : Heard → Phase → Type 0
+IsOpenFor (heard.Answer answer) phase = Unit {0}
+IsOpenFor (heard.Mms pdu) phase = IsSome (link_of phase)
+IsOpenFor (heard.Released answer) phase = Unit {0}
+IsOpenFor heard.Aborted phase = Unit {0}

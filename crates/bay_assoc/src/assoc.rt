@@ -1,7 +1,7 @@
 // An association as its user sees it.
 ghost use Rattle.std.specs.Prelude.{◌≡◌, ◌≤◌, ◌++◌, ◌↔◌, ℕ, List, Ok, length, IfOk, IfSome, IsErrOf, IsSome, IsTrue};
 ghost use Rattle.bay_assoc.specs.Hearing.{mms, hearing};
-ghost use Rattle.bay_assoc.specs.Hears.{link_of, Hears};
+ghost use Rattle.bay_assoc.specs.Hears.{link_of, Hears, StandsLast, IsOpenFor};
 ghost use Rattle.bay_assoc.specs.Session.{spdu_in};
 ghost use Rattle.bay_assoc.specs.Sized.{IsShort};
 ghost use Rattle.bay_assoc.specs.TakesMemory.{TakesMemory};
@@ -52,8 +52,10 @@ impl Assoc {
         ensures heard { Hears self.old tsdu.now result self.new }
         // Memory is wanting only where an answer is due.
         ensures memory { IsErrOf result AssocFault.OutOfMemory → TakesMemory self.old (spdu_in tsdu.now) }
-        // An answer has at most 1,000 octets.
+        // An answer has at most 1,000 octets. A PDU of MMS stands last in the TSDU, and is heard where it can be answered.
         ensures short { IfOk result IsShort }
+        ensures last { IfOk result (StandsLast tsdu.now) }
+        ensures open { IfOk result (λ heard. IsOpenFor heard self.new) }
     {
         let phase = self.phase;
         self.phase = Phase::Failed;
