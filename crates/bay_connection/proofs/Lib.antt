@@ -1,0 +1,3 @@
+pub mod CuttingLemmas
+pub mod FeedingLemmas
+pub mod HearingLemmas

@@ -1,0 +1,57 @@
+-- What the layers of a connection hold.
+use Rattle.std.specs.Prelude.{ℕ, ◌≡◌, ◌-◌, ◌≤◌, List, [], ◌∷◌, length, drop, Option, Some, None, option_to_list, IfSome, IsSome}
+use Rattle.bay_transport.specs.declared.fed.Got.{Got}
+use Rattle.bay_transport.specs.declared.fed.Got.TheVariants as got
+use Rattle.bay_transport.specs.Doings.{Doing, Left, Going, Over, Broken}
+use Rattle.bay_transport.specs.Feeding.{agreed}
+use Rattle.bay_assoc.specs.declared.hearing.Phase.{Phase}
+use Rattle.bay_assoc.specs.declared.hearing.Phase.TheVariants as phases
+use Rattle.bay_assoc.specs.Hears.{link_of}
+use Rattle.bay_connection.specs.declared.line.Line.{Line}
+use Rattle.bay_connection.specs.Talk.{Talk, Indication, told}
+use Rattle.bay_connection.specs.Feeding.{Client}
+
+-- An open association has a size of TPDUs agreed; where the stream has ended the association is over, and no stream has failed.
+abbrev pub AreJoined : Left → Phase → Type 0
+AreJoined (Going link rest) phase = IfSome (link_of phase) (λ _. IsSome link.size)
+AreJoined Over phase = phase ≡ phases.Over
+AreJoined Broken phase = ⊥
+
+abbrev pub IsJoined : Talk → Type 0
+IsJoined t = AreJoined t.stream.left t.phase
+
+abbrev pub talk_of : Line → Talk
+talk_of l = record { stream = l.transport.stream; phase = l.assoc }
+
+-- a PDU of MMS stands last in the TSDU that was completed last
+abbrev pub pdu_of : Line → List ℕ
+pdu_of l = drop (length l.transport.shown - l.pdu) l.transport.shown
+
+abbrev pub client_of : Line → Client
+client_of l = record { talk = talk_of l; pdu = pdu_of l }
+
+pub record IsKept (l : Line) : Type 0 where
+  pub within : l.pdu ≤ length l.transport.shown
+  pub joined : IsJoined (talk_of l)
+
+-- What the transport completed can be heard.
+abbrev pub IsReady : Got → Talk → Type 0
+IsReady got.More t = IsJoined t
+IsReady got.Answer t = IsSome (agreed t.stream)
+IsReady got.Tsdu t = IsSome (agreed t.stream)
+IsReady got.Ended t = Unit {0}
+
+-- Memory is taken for what is answered.
+abbrev pub TakesMemory : Got → Type 0
+TakesMemory got.More = ⊥
+TakesMemory got.Answer = Unit {0}
+TakesMemory got.Tsdu = Unit {0}
+TakesMemory got.Ended = ⊥
+
+-- A doing that left the first talk's stream comes to this, in its phase, and leaves the second.
+abbrev pub Tells : Talk → Doing → Option Indication → Talk → Type 0
+Tells old doing heard new = told old.stream (doing ∷ []) (agreed old.stream) old.phase ≡ record { indications = option_to_list heard; left = new }
+
+abbrev pub TellsOf : Talk → Option Doing → Option Indication → Talk → Type 0
+TellsOf old None heard new = (heard ≡ None) × (new ≡ old)
+TellsOf old (Some doing) heard new = Tells old doing heard new

@@ -1,0 +1,87 @@
+-- What the octets of a client come to: each doing of the stream in its order, a TSDU as the association hears it.
+use Rattle.std.specs.Prelude.{ℕ, List, [], ◌∷◌, Option, Some, None, unwrap_or, Result, Ok, Err}
+use Rattle.bay_transport.specs.Code.{code_of as transport_code}
+use Rattle.bay_transport.specs.Doings.{Doing, Answers, Delivers, Ends, Fails, Stream, doings, after}
+use Rattle.bay_transport.specs.Feeding.{agreed, ended}
+use Rattle.bay_transport.specs.Wrap.{wrapped}
+use Rattle.bay_assoc.specs.declared.fault.AssocFault.{AssocFault}
+use Rattle.bay_assoc.specs.declared.hearing.Link.{Link}
+use Rattle.bay_assoc.specs.declared.hearing.Phase.{Phase}
+use Rattle.bay_assoc.specs.declared.hearing.Phase.TheVariants.{Over}
+use Rattle.bay_assoc.specs.Code.{code_of as association_code}
+use Rattle.bay_assoc.specs.Hearing.{Hearing, answer, mms, released, aborted, hearing}
+use Rattle.bay_assoc.specs.Hears.{link_of}
+use Rattle.bay_assoc.specs.Texts.{user_text, transfer_text}
+
+-- what octets leave: what they leave of the stream, and the phase of the association
+pub record Talk : Type 0 where
+  pub stream : Stream
+  pub phase : Phase
+
+-- what is agreed: the size of a TPDU, where it is, and the phase of the association
+pub record Terms : Type 0 where
+  pub size : Option ℕ
+  pub phase : Phase
+
+abbrev pub terms_of : Talk → Terms
+terms_of t = record { size = agreed t.stream; phase = t.phase }
+
+-- one thing that octets come to: a request, with the octets that answer it; a PDU of MMS, with the terms on which it can be
+-- answered; a request for a release, with the octets that answer it; the end; or a fault, by its number
+pub data Indication : Type 0 where
+  answers : List ℕ → Indication
+  tells : Terms → List ℕ → Indication
+  releases : List ℕ → Indication
+  ends : Indication
+  fails : ℕ → Indication
+
+-- what octets come to, and what they leave
+pub record Told : Type 0 where
+  pub indications : List Indication
+  pub left : Talk
+
+-- the connection is over: no octet does anything more
+abbrev pub closed : Stream → Talk
+closed s = record { stream = ended s; phase = Over }
+
+-- the data TPDUs of a TSDU
+abbrev pub sent : Option ℕ → List ℕ → List ℕ
+sent None tsdu = []
+sent (Some size) tsdu = wrapped size tsdu
+
+-- what is heard comes first, and then what is told later; nothing is told behind a release, an abort and a fault
+abbrev pub on_heard : Stream → Hearing → Terms → Told → Told
+on_heard s (answer tsdu) terms later = record { indications = answers (sent terms.size tsdu) ∷ later.indications; left = later.left }
+on_heard s (mms pdu) terms later = record { indications = tells terms pdu ∷ later.indications; left = later.left }
+on_heard s (released tsdu) terms later = record { indications = releases (sent terms.size tsdu) ∷ []; left = closed s }
+on_heard s aborted terms later = record { indications = ends ∷ []; left = closed s }
+
+abbrev pub on_hearing : Option ℕ → Stream → Result (Hearing × Phase) AssocFault → (Phase → Told) → Told
+on_hearing size s (Ok x) later = on_heard s x.0 (record { size = size; phase = x.1 }) (later x.1)
+on_hearing size s (Err fault) later = record { indications = fails (unwrap_or (association_code fault) 0) ∷ []; left = closed s }
+
+-- What the doings of a stream come to, which leave this stream: in a phase, and where this size of TPDUs was agreed before them.
+abbrev pub told : Stream → List Doing → Option ℕ → Phase → Told
+told s [] size phase = record { indications = []; left = record { stream = s; phase = phase } }
+told s (Answers agreed reply ∷ later) size phase =
+    record { indications = answers reply ∷ (told s later (Some agreed) phase).indications; left = (told s later (Some agreed) phase).left }
+told s (Delivers tsdu ∷ later) size phase = on_hearing size s (hearing phase tsdu) (told s later size)
+told s (Ends ∷ later) size phase = record { indications = ends ∷ []; left = closed s }
+told s (Fails fault ∷ later) size phase = record { indications = fails (unwrap_or (transport_code fault) 0) ∷ []; left = closed s }
+
+abbrev pub comes_to : Talk → List ℕ → Told
+comes_to t octets = told (after t.stream octets) (doings t.stream octets) (agreed t.stream) t.phase
+
+abbrev pub indications : Talk → List ℕ → List Indication
+indications t octets = (comes_to t octets).indications
+
+abbrev pub left_by : Talk → List ℕ → Talk
+left_by t octets = (comes_to t octets).left
+
+-- what is sent of a PDU of MMS: a TSDU in the context of MMS, in data TPDUs of the size agreed
+abbrev pub sending_in : Option ℕ → Option Link → List ℕ → List ℕ
+sending_in size None pdu = []
+sending_in size (Some link) pdu = sent size (transfer_text (user_text link.contexts.mms pdu))
+
+abbrev pub sending : Terms → List ℕ → List ℕ
+sending terms pdu = sending_in terms.size (link_of terms.phase) pdu

@@ -1,0 +1,102 @@
+// A connection as its user sees it.
+ghost use Rattle.std.specs.Prelude.{◌≡◌, ◌≤◌, ◌↔◌, [], IfOk, IfSome, IsSome, IsTrue, OnErr, length, take};
+ghost use Rattle.bay_transport.specs.Doings.{start};
+ghost use Rattle.bay_transport.specs.Feeding.{IsGoing};
+ghost use Rattle.bay_assoc.specs.Hears.{link_of};
+ghost use Rattle.bay_connection.specs.Talk.{closed, terms_of, left_by, sending};
+ghost use Rattle.bay_connection.specs.Feeding.{Feeds, indication_of, IsOpenFor};
+
+use crate::heard::Fed;
+use crate::line::Line;
+use bay_assoc::hearing::Phase;
+use std::alloc::{AllocError, Global};
+use std::marker::Model;
+
+/// One client, on the association of a number, which contracts see as what its octets leave (of the stream, and the phase of the
+/// association) and the PDU of MMS that was heard last.
+#[derive(Drop)]
+pub struct Connection {
+    line: Line,
+}
+
+impl Model for Connection {
+    ghost use Rattle.bay_connection.specs.Feeding.{Client};
+    ghost use Rattle.bay_connection.specs.Line.{client_of, IsKept};
+
+    ghost Value = { Client };
+
+    ghost view = { λ c. client_of c.line };
+
+    ghost invariant = { λ c. IsKept c.line };
+}
+
+impl Connection {
+    /// A connection before its first octet. The number is sent as the reference of this side (X.224 13.4).
+    pub fn new(alloc: Global, number: u16) -> Connection
+        ensures { result ≡ record { talk = record { stream = record { number = number; left = start }; phase = Phase.Idle }; pdu = [] } }
+    {
+        Connection {
+            line: Line::new(alloc, number),
+        }
+    }
+
+    /// Takes the octets of the piece up to the end of the first thing that they come to, and says what that is. The caller feeds the
+    /// octets behind them again. Where they come to nothing all octets are taken.
+    ///
+    /// A release, an end, an abort and a fault are for good: the buffers are given back, and from then on no octet is taken and the
+    /// answer is `Ended`. So it is after want of memory. Before that, no more is kept than 70,000 octets of an unfinished TSDU, an
+    /// unfinished frame, and 70,000 octets of the TSDU that was completed last.
+    pub fn feed(&mut self, piece: &[u8]) -> Result<Fed, AllocError>
+        ensures within { IfOk result (λ fed. fed.used ≤ length piece.now) }
+        // What is answered is what the piece comes to first, and what is left is what the octets that were taken leave.
+        ensures fed { IfOk result (λ fed. Feeds self.old.talk piece.now fed.used (indication_of fed.heard self.new)) }
+        ensures left { IfOk result (λ fed. self.new.talk ≡ left_by self.old.talk (take fed.used piece.now)) }
+        // A PDU is heard where it can be answered.
+        ensures open { IfOk result (λ fed. IsOpenFor fed.heard self.new.talk.phase) }
+        // Memory is wanting only where octets are still taken, and then the connection is over.
+        ensures memory { OnErr result (IsGoing self.old.talk.stream.left) }
+        ensures over { OnErr result (self.new.talk ≡ closed self.old.talk.stream) }
+    {
+        match self.line.feed(piece) {
+            Ok(fed) => Ok(fed),
+            Err(error) => {
+                self.line.close();
+                Err(error)
+            }
+        }
+    }
+
+    /// The PDU of MMS that the last feeding came to; no octets where it came to something else.
+    pub fn pdu(&self) -> &[u8]
+        ensures { result.now ≡ self.now.pdu }
+    {
+        self.line.pdu()
+    }
+
+    /// Whether the association is open, so that PDUs of MMS can be sent.
+    pub fn is_open(&self) -> bool
+        ensures { IsTrue result ↔ IsSome (link_of self.now.talk.phase) }
+    {
+        self.line.assoc.is_open()
+    }
+
+    /// The octets of the largest PDU of MMS, as agreed: 256 to 65,000. The association is open.
+    pub fn pdu_size(&self) -> u32
+        requires { IsSome (link_of self.now.talk.phase) }
+        ensures size { IfSome (link_of self.now.talk.phase) (λ link. result ≡ link.size) }
+        ensures least { 256 ≤ result }
+        ensures most { result ≤ 65_000 }
+    {
+        self.line.assoc.pdu_size()
+    }
+
+    /// The octets in which a PDU of MMS is sent: a TSDU in the context of MMS, in data TPDUs of the size agreed. The PDU is copied
+    /// once. The association is open, and the PDU has at most 65,000 octets, as one within the size agreed has.
+    pub fn send(&self, pdu: &[u8]) -> Result<Vec<u8>, AllocError>
+        requires open { IsSome (link_of self.now.talk.phase) }
+        requires short { length pdu.now ≤ 65_000 }
+        ensures { IfOk result (λ octets. octets.items ≡ sending (terms_of self.now.talk) pdu.now) }
+    {
+        self.line.send(pdu)
+    }
+}

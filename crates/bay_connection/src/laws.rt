@@ -1,0 +1,19 @@
+// Laws of what a client's octets come to. Each function does nothing, and its contract is the law.
+ghost use Rattle.std.specs.Prelude.{◌≡◌, ◌++◌, List, ℕ, take, drop};
+ghost use Rattle.bay_connection.specs.Talk.{Talk, Indication, comes_to, indications, left_by};
+ghost use Rattle.bay_connection.specs.Feeding.{Comes, GoesOn, and_then};
+
+/// What octets come to does not hang on how they are cut into pieces: what a list and a piece come to is the list's, and then the
+/// piece's from what the list leaves.
+pub fn any_cutting()
+    ensures told { (t : Talk) (octets piece : List ℕ) → comes_to t (octets ++ piece) ≡ and_then (comes_to t octets) (comes_to (left_by t octets) piece) }
+    ensures indications { (t : Talk) (octets piece : List ℕ) → indications t (octets ++ piece) ≡ indications t octets ++ indications (left_by t octets) piece }
+    ensures left { (t : Talk) (octets piece : List ℕ) → left_by t (octets ++ piece) ≡ left_by (left_by t octets) piece }
+{}
+
+/// The octets of a piece that a feeding did not take come to the rest of what the piece comes to, from what is left then.
+pub fn feeding_goes_on()
+    ensures indications { (old new : Talk) (piece : List ℕ) (used : ℕ) (indication : Indication) → new ≡ left_by old (take used piece)
+        → Comes old piece used indication → GoesOn old new piece used indication }
+    ensures left { (old new : Talk) (piece : List ℕ) (used : ℕ) → new ≡ left_by old (take used piece) → left_by old piece ≡ left_by new (drop used piece) }
+{}

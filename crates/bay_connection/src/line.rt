@@ -1,0 +1,175 @@
+// The layers of a connection: octets become TSDUs in the transport, and TSDUs are heard by the association.
+ghost use Rattle.std.specs.Prelude.{◌≡◌, ◌≤◌, [], Some, IfOk, IsSome, OnErr, OnOk, length, take};
+ghost use Rattle.bay_transport.specs.Doings.{Delivers, start};
+ghost use Rattle.bay_transport.specs.Feeding.{IsGoing, agreed, doing_for};
+ghost use Rattle.bay_assoc.specs.Hears.{link_of};
+ghost use Rattle.bay_connection.specs.Talk.{answers, closed, terms_of, sent, sending, left_by};
+ghost use Rattle.bay_connection.specs.Feeding.{Feeds, indication_of, IsOpenFor};
+ghost use Rattle.bay_connection.specs.Line.{talk_of, pdu_of, client_of, IsKept, IsReady, TakesMemory, Tells, TellsOf};
+
+use crate::heard::{Fed, Heard};
+use bay_assoc::assoc::Assoc;
+use bay_assoc::hearing;
+use bay_assoc::hearing::Phase;
+use bay_transport::fed::Got;
+use bay_transport::transport::Transport;
+use std::alloc::{AllocError, Global};
+
+/// The two layers, and what was heard last.
+#[derive(Drop)]
+pub struct Line {
+    alloc: Global,
+    pub(crate) transport: Transport,
+    pub(crate) assoc: Assoc,
+    // How many octets of what the transport shows are a PDU of MMS; they are the last ones.
+    pub(crate) pdu: usize,
+}
+
+impl Line {
+    pub(crate) fn new(alloc: Global, number: u16) -> Line
+        ensures kept { IsKept result }
+        ensures client { client_of result ≡ record { talk = record { stream = record { number = number; left = start }; phase = Phase.Idle }; pdu = [] } }
+    {
+        Line {
+            alloc,
+            transport: Transport::new(alloc, number),
+            assoc: Assoc::new(alloc),
+            pdu: 0,
+        }
+    }
+
+    /// Ends both layers: no more octets are taken, and their buffers are given back.
+    pub(crate) fn close(&mut self)
+        ensures kept { IsKept self.new }
+        ensures closed { talk_of self.new ≡ closed self.old.transport.stream }
+    {
+        self.pdu = 0;
+        self.transport.end();
+        self.assoc.end();
+    }
+
+    /// The PDU of MMS that was heard last.
+    pub(crate) fn pdu(&self) -> &[u8]
+        requires { IsKept self.now }
+        ensures { result.now ≡ pdu_of self.now }
+    {
+        let tsdu = self.transport.shown();
+        &tsdu[tsdu.len() - self.pdu..]
+    }
+
+    /// The octets in which a PDU of MMS is sent.
+    pub(crate) fn send(&self, pdu: &[u8]) -> Result<Vec<u8>, AllocError>
+        requires kept { IsKept self.now }
+        requires open { IsSome (link_of self.now.assoc) }
+        requires short { length pdu.now ≤ 65_000 }
+        ensures { IfOk result (λ octets. octets.items ≡ sending (terms_of (talk_of self.now)) pdu.now) }
+    {
+        let front = self.assoc.front(pdu.len() as u32);
+        self.transport.wrap(front.as_slice(), pdu)
+    }
+
+    // What is answered to a request that the association heard, in the TPDUs of the transport.
+    fn wrapped(&self, tsdu: &[u8]) -> Result<Vec<u8>, AllocError>
+        requires agreed { IsSome (agreed self.now.transport.stream) }
+        requires short { length tsdu.now ≤ 1_000 }
+        ensures { IfOk result (λ octets. octets.items ≡ sent (agreed self.now.transport.stream) tsdu.now) }
+    {
+        self.transport.wrap(&[], tsdu)
+    }
+
+    // What the association hears of the TSDU that the transport shows.
+    fn hear(&mut self) -> Result<Heard, AllocError>
+        requires agreed { IsSome (agreed self.old.transport.stream) }
+        requires nothing { self.old.pdu ≡ 0 }
+        ensures kept { OnOk result (IsKept self.new) }
+        ensures told { IfOk result (λ heard. Tells (talk_of self.old) (Delivers self.old.transport.shown) (indication_of heard (client_of self.new)) (talk_of self.new)) }
+        ensures number { self.new.transport.stream.number ≡ self.old.transport.stream.number }
+        ensures open { IfOk result (λ heard. IsOpenFor heard self.new.assoc) }
+    {
+        let tsdu = self.transport.shown();
+        match self.assoc.on_tsdu(tsdu) {
+            Ok(hearing::Heard::Answer(octets)) => {
+                let frames = self.wrapped(octets.as_slice())?;
+                Ok(Heard::Answer(frames))
+            }
+            Ok(hearing::Heard::Mms(pdu)) => {
+                self.pdu = pdu.len();
+                Ok(Heard::Mms)
+            }
+            Ok(hearing::Heard::Released(octets)) => {
+                let frames = self.wrapped(octets.as_slice())?;
+                self.close();
+                Ok(Heard::Released(frames))
+            }
+            Ok(hearing::Heard::Aborted) => {
+                self.close();
+                Ok(Heard::Ended)
+            }
+            Err(fault) => {
+                let code = fault.code().ok_or(AllocError)?;
+                self.close();
+                Ok(Heard::Fault(code))
+            }
+        }
+    }
+
+    // The answer to a request for a connection.
+    fn answer(&self) -> Result<Heard, AllocError>
+        ensures { IfOk result (λ heard. indication_of heard (client_of self.now) ≡ Some (answers self.now.transport.shown)) }
+    {
+        let octets = self.transport.shown().to_vec(self.alloc)?;
+        Ok(Heard::Answer(octets))
+    }
+
+    // What is heard of what the transport completed.
+    fn heard(&mut self, got: Got) -> Result<Heard, AllocError>
+        requires ready { IsReady got (talk_of self.old) }
+        requires nothing { self.old.pdu ≡ 0 }
+        ensures kept { OnOk result (IsKept self.new) }
+        ensures told { IfOk result (λ heard. TellsOf (talk_of self.old) (doing_for got self.old.transport) (indication_of heard (client_of self.new)) (talk_of self.new)) }
+        ensures memory { OnErr result (TakesMemory got) }
+        ensures number { self.new.transport.stream.number ≡ self.old.transport.stream.number }
+        ensures open { IfOk result (λ heard. IsOpenFor heard self.new.assoc) }
+    {
+        match got {
+            Got::More => Ok(Heard::Nothing),
+            Got::Answer => self.answer(),
+            Got::Tsdu => self.hear(),
+            Got::Ended => {
+                self.close();
+                Ok(Heard::Ended)
+            }
+        }
+    }
+
+    /// Takes octets of the piece up to the end of what completes something, or all.
+    pub(crate) fn feed(&mut self, piece: &[u8]) -> Result<Fed, AllocError>
+        requires { IsKept self.old }
+        ensures kept { OnOk result (IsKept self.new) }
+        ensures within { IfOk result (λ fed. fed.used ≤ length piece.now) }
+        ensures fed { IfOk result (λ fed. Feeds (talk_of self.old) piece.now fed.used (indication_of fed.heard (client_of self.new))) }
+        ensures left { IfOk result (λ fed. talk_of self.new ≡ left_by (talk_of self.old) (take fed.used piece.now)) }
+        ensures memory { OnErr result (IsGoing self.old.transport.stream.left) }
+        ensures number { self.new.transport.stream.number ≡ self.old.transport.stream.number }
+        ensures open { IfOk result (λ fed. IsOpenFor fed.heard self.new.assoc) }
+    {
+        self.pdu = 0;
+        match self.transport.feed(piece) {
+            Ok(fed) => {
+                let heard = self.heard(fed.got)?;
+                Ok(Fed {
+                    used: fed.used,
+                    heard,
+                })
+            }
+            Err(fault) => {
+                let code = fault.code().ok_or(AllocError)?;
+                self.close();
+                Ok(Fed {
+                    used: piece.len(),
+                    heard: Heard::Fault(code),
+                })
+            }
+        }
+    }
+}
