@@ -9,12 +9,12 @@ use Rattle.std.specs.Str.{bytes_eq}
 use Rattle.bay_tree.specs.declared.leaf.Leaf.{Leaf}
 use Rattle.bay_tree.specs.declared.row.Row.{Row}
 use Rattle.bay_tree.specs.Names.{parent_of}
-use Rattle.bay_tree.specs.Rows.{IsStructureNamed, CanFollow}
+use Rattle.bay_tree.specs.Rows.{IsStructureNamed}
 use Rattle.bay_config.specs.Key.{is_among, passes}
 use Rattle.bay_config.specs.Node.{Node, row, node_rows, rows_of_parts}
 use Rattle.bay_config.specs.NodeRows.{under}
 use Rattle.bay_config.proofs.KeyLemmas.{or-false_parts}
-use Rattle.bay_config.proofs.TreeLemmas.{Follow, Follow-append}
+use Rattle.bay_config.proofs.TreeLemmas.{CanFollow, Follow, Follow-append}
 
 -- a word has no `$`
 abbrev pub IsPlain : List ℕ → Type 0

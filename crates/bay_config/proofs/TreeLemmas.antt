@@ -1,5 +1,5 @@
 -- The rows of a bay's nodes make a tree.
-use Rattle.std.proofs.Common.{◌≡◌, ◌≢◌, ℕ, ◌+◌, ◌<◌, List, [], ◌∷◌, ◌++◌, length, Any, append_assoc, append-nil, sym, ap, subst, ◌∙◌, ⊎_elim, arith, length-append}
+use Rattle.std.proofs.Common.{◌≡◌, ◌≢◌, ℕ, ◌+◌, ◌<◌, List, [], ◌∷◌, ◌++◌, length, All, Any, IfSome, append_assoc, append-nil, sym, ap, subst, ◌∙◌, ⊎_elim, arith, length-append}
 use Rattle.std.proofs.Math.ListN.{get_or-append}
 use Rattle.std.proofs.Math.Seq.{get_or-append_seam}
 use Rattle.std.proofs.lemmas.Bool.{cases_eq}
@@ -7,7 +7,12 @@ use Rattle.std.proofs.lemmas.List.{get_or_default}
 use Rattle.bay_tree.proofs.RowLemmas.{IfSome-weaken}
 use Rattle.bay_tree.specs.declared.row.Row.{Row}
 use Rattle.bay_tree.specs.Names.{parent_of}
-use Rattle.bay_tree.specs.Rows.{IsTree, IsStructureNamed, CanFollow, row_at, name_at}
+use Rattle.bay_tree.specs.Rows.{IsTree, IsStructureNamed, row_at, name_at}
+
+-- a row can stand behind others: none has its name, and its parent is a structure among them
+pub record CanFollow (earlier : List Row) (row : Row) : Type 0 where
+  pub distinct : All (λ other. other.name ≢ row.name) earlier
+  pub parent : IfSome (parent_of row.name) (λ parent. Any (IsStructureNamed parent) earlier)
 
 at-before : (rows : List Row) (r : Row) (k : ℕ) → k < length rows → row_at (rows ++ r ∷ []) k ≡ row_at rows k
 at-before rows r k h = get_or-append rows (r ∷ []) _ k h

@@ -7,7 +7,7 @@ use Rattle.bay_ber.proofs.WriteLemmas.{element_spells}
 use Rattle.bay_mms.specs.declared.response.Response.{Response}
 use Rattle.bay_mms.specs.declared.response.Response.TheVariants as response
 use Rattle.bay_mms.specs.Tags.{context, constructed}
-use Rattle.bay_mms.specs.Data.{Datum, structure, truth, bits, integer, unsigned, octets, text, utc, other, datum_text}
+use Rattle.bay_mms.specs.Data.{Datum, Data, structure, truth, bits, integer, unsigned, octets, text, utc, other, datum_text}
 use Rattle.bay_mms.specs.Reports.{report_text}
 use Rattle.bay_mms.specs.Responses.{response_text}
 use Rattle.bay_mms.specs.Laws.{IsRead, datum_tag, datum_content, response_tag}
@@ -34,5 +34,5 @@ response_spells (response.Confirmed id service) short = record { content = _; sp
 response_spells (response.Error id class) short = record { content = _; spelled = spelled (constructed 2) _ (omega arith) short }
 response_spells (response.Reject id reason) short = record { content = _; spelled = spelled (constructed 4) _ (omega arith) short }
 
-pub report_spells : (names parts : List ℕ) → length (report_text names parts) < 4294967296 → IsRead (report_text names parts) (constructed 3)
-report_spells names parts short = record { content = _; spelled = spelled (constructed 3) _ (omega arith) short }
+pub report_spells : (names : List (List ℕ)) (values : Data) → length (report_text names values) < 4294967296 → IsRead (report_text names values) (constructed 3)
+report_spells names values short = record { content = _; spelled = spelled (constructed 3) _ (omega arith) short }

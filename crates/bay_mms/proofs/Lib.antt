@@ -2,12 +2,15 @@ pub mod AccessLemmas
 pub mod AgreedLemmas
 pub mod AskLemmas
 pub mod ConfirmedLemmas
+pub mod ControlLemmas
 pub mod DataLemmas
 pub mod InitiateLemmas
 pub mod LawLemmas
 pub mod NodeLemmas
+pub mod PlainLemmas
 pub mod PutLemmas
 pub mod ReceivedLemmas
+pub mod ReportLemmas
 pub mod RequestLemmas
 pub mod ResponseLemmas
 pub mod ServiceLemmas

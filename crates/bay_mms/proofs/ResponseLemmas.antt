@@ -84,23 +84,31 @@ adds_then old middle new front one (Err fault) is a = part_fault fault one (fron
 pub adds_third : (old one two new a b d : List ℕ) (r : Result (Unit {0}) WriteFault) → one ≡ old ++ a → two ≡ one ++ b → Appends two r new d → Adds old r new (a ++ (b ++ d))
 adds_third old one two new a b d r is then last = adds_then old one new a (b ++ d) r is (adds_last one two new b d r then last)
 
+appended : (old new text : List ℕ) (r : Result (Unit {0}) WriteFault) → Appends old r new text → Adds old r new text
+appended old new text (Ok done) a = a.0
+appended old new text (Err fault) a = a
+
+-- a value around what was written since a place
+pub adds_around : (start : ℕ) (tag : Tag) (old one new content : List ℕ) (r : Result (Unit {0}) WriteFault) → start ≡ length old → one ≡ old ++ content → Appends (take start one) r new (element tag (drop start one)) → Adds old r new (element tag content)
+adds_around start tag old one new content r s o a =
+    let t : take start one ≡ old = ap (take start) o ∙ take_at old content start (sym s) in
+    let d : drop start one ≡ content = ap (drop start) o ∙ drop_at old content start (sym s) in
+    appended old new (element tag content) r (rw (t, d) at a)
+
 -- ---- reports
 
-pub named_fault : (fault : WriteFault) (name : List ℕ) → IsFaultOf fault name → IsFaultOf fault (variable_text name)
-named_fault fault name f = around_fault fault (constructed 0) _ (around_fault fault sequence _ (around_fault fault (constructed 0) name f))
-
--- what a report is of its names and its parts
+-- the names of variables, and the data of these
 abbrev pub report_of : List ℕ → List ℕ → List ℕ
-report_of names parts = element (constructed 3) (element (constructed 0) (names ++ element (constructed 0) (element (constructed 2) parts)))
+report_of names values = element (constructed 3) (element (constructed 0) (element (constructed 0) names ++ element (constructed 0) values))
 
-pub names_fault : (fault : WriteFault) (names parts : List ℕ) → IsFaultOf fault names → IsFaultOf fault (report_of names parts)
-names_fault fault names parts f = around_fault fault (constructed 3) _ (around_fault fault (constructed 0) _ (fault_left fault names _ f))
+pub named_fault : (fault : WriteFault) (name : List ℕ) → IsFaultOf fault name → IsFaultOf fault (variable_text name)
+named_fault fault name f = around_fault fault sequence _ (around_fault fault (constructed 0) name f)
 
-pub list_fault : (fault : WriteFault) (names parts : List ℕ) → IsFaultOf fault (element (constructed 0) (element (constructed 2) parts)) → IsFaultOf fault (report_of names parts)
-list_fault fault names parts f = around_fault fault (constructed 3) _ (last_fault fault (constructed 0) names _ f)
+pub names_fault : (fault : WriteFault) (names values : List ℕ) → IsFaultOf fault (element (constructed 0) names) → IsFaultOf fault (report_of names values)
+names_fault fault names values f = around_fault fault (constructed 3) _ (around_fault fault (constructed 0) _ (fault_left fault (element (constructed 0) names) _ f))
 
-pub parts_fault : (fault : WriteFault) (names parts : List ℕ) → IsFaultOf fault parts → IsFaultOf fault (report_of names parts)
-parts_fault fault names parts f = list_fault fault names parts (around_fault fault (constructed 0) _ (around_fault fault (constructed 2) parts f))
+pub values_fault : (fault : WriteFault) (names values : List ℕ) → IsFaultOf fault values → IsFaultOf fault (report_of names values)
+values_fault fault names values f = around_fault fault (constructed 3) _ (last_fault fault (constructed 0) (element (constructed 0) names) _ (around_fault fault (constructed 0) values f))
 
 -- ---- a page
 

@@ -1,12 +1,13 @@
 -- What stands in texts.
-use Rattle.std.specs.Prelude.{ℕ, List}
+use Rattle.std.specs.Prelude.{ℕ, ◌≡◌, ◌*◌, ◌^◌, ◌<◌, ◌≤◌, FitsSigned, List, length}
+use Rattle.std.specs.Int.{w64}
 use Rattle.bay_ber.specs.declared.tag.Tag.{Tag}
 use Rattle.bay_ber.specs.Spelling.{Spells}
-use Rattle.bay_ber.specs.Writing.{truth_octets, integer_octets, bit_string_octets}
+use Rattle.bay_ber.specs.Writing.{truth_octets, integer_octets, bit_octets, bit_string_octets}
 use Rattle.bay_mms.specs.declared.response.Response.{Response}
 use Rattle.bay_mms.specs.declared.response.Response.TheVariants as response
 use Rattle.bay_mms.specs.Tags.{context, constructed}
-use Rattle.bay_mms.specs.Data.{Datum, structure, truth, bits, integer, unsigned, octets, text, utc, other, data_text}
+use Rattle.bay_mms.specs.Data.{Datum, Data, structure, truth, bits, integer, unsigned, octets, text, utc, other, no_data, datum, data_text}
 
 -- the tag of data (ISO 9506-2, Data), and what stands under it
 abbrev pub datum_tag : Datum → Tag
@@ -43,3 +44,26 @@ response_tag (response.Reject id reason) = constructed 4
 pub record IsRead (list : List ℕ) (tag : Tag) : Type 0 where
   pub content : List ℕ
   pub spelled : Spells list tag content
+
+-- A bit string that has its octets, whose unused bits are 0.
+pub record IsHeld (held : List ℕ) (count : ℕ) : Type 0 where
+  pub enough : count ≤ 8 * length held
+  pub short : count < 2 ^ 35
+  pub whole : bit_octets held count ≡ held
+
+-- Data that stand in their text as they are: integers of 64 bits, such bit strings, moments of eight octets, and no kind that is not listed.
+abbrev mutual
+  pub IsPlain : Datum → Type 0
+  IsPlain (structure parts) = ArePlain parts
+  IsPlain (truth value) = Unit {0}
+  IsPlain (bits held count) = IsHeld held count
+  IsPlain (integer value) = FitsSigned w64 value
+  IsPlain (unsigned value) = FitsSigned w64 value
+  IsPlain (octets value) = Unit {0}
+  IsPlain (text value) = Unit {0}
+  IsPlain (utc value) = length value ≡ 8
+  IsPlain (other tag value) = ⊥
+
+  pub ArePlain : Data → Type 0
+  ArePlain no_data = Unit {0}
+  ArePlain (datum first later) = IsPlain first × ArePlain later

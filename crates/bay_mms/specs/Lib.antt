@@ -1,5 +1,7 @@
 pub mod Asks
 pub mod Code
+pub mod ControlViews
+pub mod Controls
 pub mod Data
 pub mod Grammar
 pub mod Laws

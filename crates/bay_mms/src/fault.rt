@@ -1,6 +1,6 @@
 // Why nothing is read or written.
 ghost use Rattle.std.specs.Prelude.{◌≡◌, Some, None};
-ghost use Rattle.bay_mms.specs.Code.{code_of};
+ghost use Rattle.bay_mms.specs.Code.{code_of, control_code_of};
 
 use std::alloc::AllocError;
 use thiserror::Error;
@@ -53,6 +53,29 @@ impl MmsFault {
             MmsFault::UnknownService(_) => Some(31),
             MmsFault::TooMany(_) => Some(32),
             MmsFault::OutOfMemory => None,
+        }
+    }
+}
+
+/// Why data are no control that is done (ISO 9506-2, DataAccessError).
+#[derive(Clone, Copy, Debug, Error)]
+pub enum ControlFault {
+    /// The data have another shape.
+    #[error("the data are of another type")]
+    WrongShape,
+    /// A number or an identity of the data is out of range.
+    #[error("a value is out of range")]
+    OutOfRange,
+}
+
+impl ControlFault {
+    /// The number of the error that a write is answered with: 7 (type-inconsistent) or 11 (object-value-invalid).
+    pub fn code(self) -> u8
+        ensures { result ≡ control_code_of self }
+    {
+        match self {
+            ControlFault::WrongShape => 7,
+            ControlFault::OutOfRange => 11,
         }
     }
 }

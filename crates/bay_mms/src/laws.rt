@@ -1,15 +1,18 @@
 // Laws of the texts. Each function does nothing, and its contract is the law.
-ghost use Rattle.std.specs.Prelude.{◌≡◌, ◌<◌, ◌↔◌, Option, Some, Ok, Err, List, ℕ, length};
+ghost use Rattle.std.specs.Prelude.{◌≡◌, ◌<◌, ◌↔◌, IsTrue, Option, Some, Ok, Err, List, ℕ, length};
 ghost use Rattle.bay_ber.specs.Octets.{AreOctets};
 ghost use Rattle.bay_ber.specs.Spelling.{Spells};
-ghost use Rattle.bay_mms.specs.Data.{Datum, datum_text};
+ghost use Rattle.bay_mms.specs.Data.{Datum, Data, datum_text};
 ghost use Rattle.bay_mms.specs.Types.{TypeSpec, type_text};
 ghost use Rattle.bay_mms.specs.Reports.{report_text};
 ghost use Rattle.bay_mms.specs.Responses.{response_text};
 ghost use Rattle.bay_mms.specs.Tags.{constructed};
 ghost use Rattle.bay_mms.specs.Asks.{Asks, AsksUnknown, AsksMany, AsksNothing};
 ghost use Rattle.bay_mms.specs.Grammar.{initiate_in, answer_to};
-ghost use Rattle.bay_mms.specs.Laws.{IsRead, datum_tag, datum_content, response_tag};
+ghost use Rattle.bay_ber.specs.Values.{value};
+ghost use Rattle.bay_mms.specs.Controls.{Control, Operate, IsOperate, operate_datum, cancel_datum, operate_as, cancel_as, is_in_range, operate_in};
+ghost use Rattle.bay_mms.specs.Laws.{IsPlain, IsRead, datum_tag, datum_content, response_tag};
+ghost use Rattle.bay_mms.specs.SpelledData.{IsDatum};
 ghost use Rattle.bay_mms.specs.Requests.{Message};
 ghost use Rattle.bay_mms.specs.SpelledInitiate.{IsInitiate};
 ghost use Rattle.bay_mms.specs.declared.fault.MmsFault.TheVariants as MmsFault;
@@ -17,11 +20,13 @@ ghost use Rattle.bay_mms.specs.declared.request.Proposal.{Proposal};
 ghost use Rattle.bay_mms.specs.declared.response.Response.{Response};
 
 /// What is written is read back as one value of BER (X.690 8.1): data under their tags, which have one octet, with their
-/// contents, and responses and reports under the tags of their PDUs.
+/// contents, and responses and reports under the tags of their PDUs. The text of data that stand in it as they are is received as
+/// these data.
 pub fn written_is_read()
     ensures datum { (datum : Datum) → (datum_tag datum).number < 31 → length (datum_text datum) < 4294967296 → Spells (datum_text datum) (datum_tag datum) (datum_content datum) }
+    ensures received { (datum : Datum) → IsPlain datum → length (datum_text datum) < 4294967296 → IsDatum (value (datum_tag datum) (datum_content datum)) datum }
     ensures response { (response : Response) → length (response_text response) < 4294967296 → IsRead (response_text response) (response_tag response) }
-    ensures report { (names parts : List ℕ) → length (report_text names parts) < 4294967296 → IsRead (report_text names parts) (constructed 3) }
+    ensures report { (names : List (List ℕ)) (values : Data) → length (report_text names values) < 4294967296 → IsRead (report_text names values) (constructed 3) }
 {}
 
 /// Octets ask at most one request: what is in the relation by whole nested spellings is read as that request, and what is read as a
@@ -39,4 +44,14 @@ pub fn one_fault()
     ensures unknown { (octets : List ℕ) (id : ℕ) → AreOctets octets → (answer_to octets ≡ Err (MmsFault.UnknownService id)) ↔ AsksUnknown id octets }
     ensures many { (octets : List ℕ) (id : ℕ) → AreOctets octets → (answer_to octets ≡ Err (MmsFault.TooMany id)) ↔ AsksMany id octets }
     ensures bad { (octets : List ℕ) (known : Option ℕ) → AreOctets octets → (answer_to octets ≡ Err (MmsFault.BadPdu known)) ↔ AsksNothing octets known }
+{}
+
+/// Controls and their data: which data are read as an operate or a cancel; the text of an operate, as reports have it, is that of
+/// the data that it was read from; its data stand in their text as they are, and are read as the operate where it is in range.
+pub fn a_control_is_its_data()
+    ensures operate { (given : Datum) (o : Operate) → (operate_as given ≡ Some o) ↔ IsOperate given o }
+    ensures cancel { (given : Datum) (c : Control) → (cancel_as given ≡ Some c) ↔ (given ≡ cancel_datum c) }
+    ensures written { (given : Datum) (o : Operate) → operate_as given ≡ Some o → datum_text given ≡ datum_text (operate_datum o) }
+    ensures plain { (o : Operate) → IsTrue (is_in_range o.control) → length o.control.t ≡ 8 → IsPlain (operate_datum o) }
+    ensures back { (o : Operate) → IsTrue (is_in_range o.control) → operate_in (operate_datum o) ≡ Ok o }
 {}

@@ -2,42 +2,18 @@
 ghost use Rattle.std.specs.Prelude.{◌≡◌, ◌≤◌, ◌<◌, ◌++◌, pos, codes, length, take, drop};
 ghost use Rattle.bay_ber.specs.Writing.{element, integer_octets};
 ghost use Rattle.bay_mms.specs.Tags.{context, constructed, visible_tag};
-ghost use Rattle.bay_mms.specs.Reports.{variable_text, origin_parts, origin_text, operate_front, operate_back, operate_parts, failure_front, failure_back, failure_parts, failure_name, item_name, failure_text, termination_text};
+ghost use Rattle.bay_mms.specs.Reports.{variable_text, origin_parts, origin_text, operate_front, operate_back, operate_text, failure_front, failure_back, failure_data, failure_name, item_name, failure_text, termination_text, failed_text};
 ghost use Rattle.bay_mms.specs.Writing.{Adds, Appends, written};
 ghost use Rattle.bay_base.specs.Exact.{Gives};
 
+use crate::control::{Operate, Origin};
 use crate::fault::WriteFault;
 use crate::leaf::position_octets;
 use crate::put::{put_around, put_bits, put_integer, put_octets, put_truth};
 use bay_ber::content::Bits;
 use bay_ber::tag::Tag;
 use bay_ber::writer::Writer;
-use bay_tree::leaf::Dbpos;
 use std::alloc::Global;
-
-/// Who operates (IEC 61850-7-3, Originator).
-#[derive(Clone, Copy)]
-pub struct Origin<'a> {
-    /// The category, orCat.
-    pub category: i8,
-    /// The identity, orIdent.
-    pub identity: &'a [u8],
-}
-
-/// What a control is asked for (IEC 61850-8-1, Oper).
-#[derive(Clone, Copy)]
-pub struct Operate<'a> {
-    /// On or off, ctlVal.
-    pub value: bool,
-    pub origin: Origin<'a>,
-    /// ctlNum.
-    pub number: u8,
-    /// The eight octets of a utc-time, T.
-    pub moment: [u8; 8],
-    pub is_test: bool,
-    /// The two bits of Check.
-    pub check: Dbpos,
-}
 
 /// Why a control is refused or ended (IEC 61850-8-1, LastApplError). Its Error is 0.
 #[derive(Clone, Copy)]
@@ -45,10 +21,9 @@ pub struct ControlError<'a> {
     /// The control, CntrlObj: its domain, `/` and its item.
     pub object: &'a str,
     pub origin: Origin<'a>,
-    /// ctlNum.
-    pub number: u8,
+    pub ctl_num: u8,
     /// AddCause (IEC 61850-7-2).
-    pub cause: u8,
+    pub add_cause: u8,
 }
 
 // Puts two tags around what was written since a place.
@@ -67,26 +42,15 @@ fn put_both_around(
     put_around(writer, start, outer)
 }
 
-// Makes a list of one variable of its name, which was written since a place.
-fn put_variable_around(writer: &mut Writer, start: usize) -> Result<(), WriteFault>
-    requires { start ≤ length writer.old }
-    ensures { Appends (take start writer.old) result writer.new (variable_text (drop start writer.old)) }
-{
-    put_both_around(writer, start, Tag::context_constructed(0), Tag::sequence())?;
-    put_around(writer, start, Tag::context_constructed(0))
-}
-
-// Makes a report of a list of variables that was written since a place, and of the parts of a structure from the second
-// place on.
+// Makes a report of the variables that were written since a place, and of the data from the second place on.
 fn put_report_around(writer: &mut Writer, start: usize, inner: usize) -> Result<(), WriteFault>
     requires start { start ≤ inner }
     requires inner { inner ≤ length writer.old }
     ensures { Appends (take start writer.old) result writer.new
-        (element (constructed 3) (element (constructed 0) (drop start (take inner writer.old)
-        ++ element (constructed 0) (element (constructed 2) (drop inner writer.old))))) }
+        (element (constructed 3) (element (constructed 0) (drop start (take inner writer.old) ++ element (constructed 0) (drop inner writer.old)))) }
 {
+    put_around(writer, inner, Tag::context_constructed(0))?;
     let list = Tag::context_constructed(0);
-    put_both_around(writer, inner, Tag::context_constructed(2), list)?;
     put_both_around(writer, start, list, Tag::context_constructed(3))
 }
 
@@ -99,16 +63,16 @@ fn put_small(writer: &mut Writer, number: u8, value: u8) -> Result<(), WriteFaul
 }
 
 fn put_category(writer: &mut Writer, origin: &Origin<'_>) -> Result<(), WriteFault>
-    ensures { Appends writer.old result writer.new (element (context 5) (integer_octets origin.now.category)) }
+    ensures { Appends writer.old result writer.new (element (context 5) (integer_octets origin.now.or_cat)) }
 {
-    put_integer(writer, 5, i64::from(origin.category))
+    put_integer(writer, 5, i64::from(origin.or_cat))
 }
 
 fn put_origin_parts(writer: &mut Writer, origin: &Origin<'_>) -> Result<(), WriteFault>
     ensures { Adds writer.old result writer.new (origin_parts origin.now) }
 {
     put_category(writer, origin)?;
-    put_octets(writer, Tag::context(9), origin.identity)
+    put_octets(writer, Tag::context(9), origin.or_ident)
 }
 
 fn put_origin(writer: &mut Writer, origin: &Origin<'_>) -> Result<(), WriteFault>
@@ -122,9 +86,9 @@ fn put_origin(writer: &mut Writer, origin: &Origin<'_>) -> Result<(), WriteFault
 fn put_operate_front(writer: &mut Writer, operate: &Operate<'_>) -> Result<(), WriteFault>
     ensures { Adds writer.old result writer.new (operate_front operate.now) }
 {
-    put_truth(writer, 3, operate.value)?;
+    put_truth(writer, 3, operate.ctl_val)?;
     put_origin(writer, &operate.origin)?;
-    put_small(writer, 6, operate.number)
+    put_small(writer, 6, operate.ctl_num)
 }
 
 fn put_operate_back(writer: &mut Writer, operate: &Operate<'_>) -> Result<(), WriteFault>
@@ -134,16 +98,25 @@ fn put_operate_back(writer: &mut Writer, operate: &Operate<'_>) -> Result<(), Wr
         octets: position_octets(operate.check),
         count: 2,
     };
-    put_octets(writer, Tag::context(17), &operate.moment)?;
-    put_truth(writer, 3, operate.is_test)?;
+    put_octets(writer, Tag::context(17), &operate.t)?;
+    put_truth(writer, 3, operate.test)?;
     put_bits(writer, 4, check)
 }
 
-fn put_operate(writer: &mut Writer, operate: &Operate<'_>) -> Result<(), WriteFault>
-    ensures { Adds writer.old result writer.new (operate_parts operate.now) }
+fn put_operate_parts(writer: &mut Writer, operate: &Operate<'_>) -> Result<(), WriteFault>
+    ensures { Adds writer.old result writer.new (operate_front operate.now ++ operate_back operate.now) }
 {
     put_operate_front(writer, operate)?;
     put_operate_back(writer, operate)
+}
+
+// Writes the data of an operate.
+fn put_operate(writer: &mut Writer, operate: &Operate<'_>) -> Result<(), WriteFault>
+    ensures { Adds writer.old result writer.new (operate_text operate.now) }
+{
+    let start = writer.len();
+    put_operate_parts(writer, operate)?;
+    put_around(writer, start, Tag::context_constructed(2))
 }
 
 fn put_failure_front(writer: &mut Writer, failure: &ControlError<'_>) -> Result<(), WriteFault>
@@ -157,15 +130,24 @@ fn put_failure_back(writer: &mut Writer, failure: &ControlError<'_>) -> Result<(
     ensures { Adds writer.old result writer.new (failure_back failure.now) }
 {
     put_origin(writer, &failure.origin)?;
-    put_small(writer, 6, failure.number)?;
-    put_small(writer, 5, failure.cause)
+    put_small(writer, 6, failure.ctl_num)?;
+    put_small(writer, 5, failure.add_cause)
 }
 
 fn put_failure_parts(writer: &mut Writer, failure: &ControlError<'_>) -> Result<(), WriteFault>
-    ensures { Adds writer.old result writer.new (failure_parts failure.now) }
+    ensures { Adds writer.old result writer.new (failure_front failure.now ++ failure_back failure.now) }
 {
     put_failure_front(writer, failure)?;
     put_failure_back(writer, failure)
+}
+
+// Writes the data of a failure.
+fn put_failure(writer: &mut Writer, failure: &ControlError<'_>) -> Result<(), WriteFault>
+    ensures { Adds writer.old result writer.new (failure_data failure.now) }
+{
+    let start = writer.len();
+    put_failure_parts(writer, failure)?;
+    put_around(writer, start, Tag::context_constructed(2))
 }
 
 fn failure_object() -> &'static str
@@ -179,7 +161,7 @@ fn put_failure_name(writer: &mut Writer) -> Result<(), WriteFault>
 {
     let start = writer.len();
     put_octets(writer, Tag::context(0), failure_object().as_bytes())?;
-    put_variable_around(writer, start)
+    put_both_around(writer, start, Tag::context_constructed(0), Tag::sequence())
 }
 
 fn put_item_parts(writer: &mut Writer, domain: &str, item: &str) -> Result<(), WriteFault>
@@ -202,22 +184,65 @@ fn put_item_name(writer: &mut Writer, domain: &str, item: &str) -> Result<(), Wr
 {
     let start = writer.len();
     put_item(writer, domain, item)?;
-    put_variable_around(writer, start)
+    put_both_around(writer, start, Tag::context_constructed(0), Tag::sequence())
 }
 
-// Writes the report of a control that is refused or ended.
-fn put_failure(writer: &mut Writer, failure: &ControlError<'_>) -> Result<(), WriteFault>
-    ensures { Appends writer.old result writer.new (failure_text failure.now) }
+// Writes the variables of a control that was refused, that ended, and that failed.
+fn put_failure_list(writer: &mut Writer) -> Result<(), WriteFault>
+    ensures { Adds writer.old result writer.new (element (constructed 0) (variable_text failure_name)) }
 {
     let start = writer.len();
     put_failure_name(writer)?;
+    put_around(writer, start, Tag::context_constructed(0))
+}
+
+fn put_item_list(writer: &mut Writer, domain: &str, item: &str) -> Result<(), WriteFault>
+    ensures { Adds writer.old result writer.new (element (constructed 0) (variable_text (item_name domain.now item.now))) }
+{
+    let start = writer.len();
+    put_item_name(writer, domain, item)?;
+    put_around(writer, start, Tag::context_constructed(0))
+}
+
+fn put_both_names(writer: &mut Writer, domain: &str, item: &str) -> Result<(), WriteFault>
+    ensures { Adds writer.old result writer.new (variable_text failure_name ++ variable_text (item_name domain.now item.now)) }
+{
+    put_failure_name(writer)?;
+    put_item_name(writer, domain, item)
+}
+
+fn put_both_list(writer: &mut Writer, domain: &str, item: &str) -> Result<(), WriteFault>
+    ensures { Adds writer.old result writer.new (element (constructed 0) (variable_text failure_name ++ variable_text (item_name domain.now item.now))) }
+{
+    let start = writer.len();
+    put_both_names(writer, domain, item)?;
+    put_around(writer, start, Tag::context_constructed(0))
+}
+
+fn put_both(
+    writer: &mut Writer,
+    failure: &ControlError<'_>,
+    operate: &Operate<'_>,
+) -> Result<(), WriteFault>
+    ensures { Adds writer.old result writer.new (failure_data failure.now ++ operate_text operate.now) }
+{
+    put_failure(writer, failure)?;
+    put_operate(writer, operate)
+}
+
+// Writes the report of a control that was refused.
+fn put_refused(writer: &mut Writer, failure: &ControlError<'_>) -> Result<(), WriteFault>
+    ensures { Appends writer.old result writer.new (failure_text failure.now) }
+{
+    let start = writer.len();
+    put_failure_list(writer)?;
     let inner = writer.len();
-    put_failure_parts(writer, failure)?;
+    put_failure(writer, failure)?;
     put_report_around(writer, start, inner)
 }
 
 // Writes the report of a control that ended.
-fn put_termination(
+fn put_ended(
     writer: &mut Writer,
     domain: &str,
     item: &str,
@@ -226,24 +251,41 @@ fn put_termination(
     ensures { Appends writer.old result writer.new (termination_text domain.now item.now operate.now) }
 {
     let start = writer.len();
-    put_item_name(writer, domain, item)?;
+    put_item_list(writer, domain, item)?;
     let inner = writer.len();
     put_operate(writer, operate)?;
     put_report_around(writer, start, inner)
 }
 
-/// The text of the report that a control is refused or ended (IEC 61850-8-1, LastApplError; ISO 9506-2, informationReport);
-/// TooLong where it would have 2^32 octets or more.
+// Writes the report of a control that failed.
+fn put_failed(
+    writer: &mut Writer,
+    failure: &ControlError<'_>,
+    domain: &str,
+    item: &str,
+    operate: &Operate<'_>,
+) -> Result<(), WriteFault>
+    ensures { Appends writer.old result writer.new (failed_text failure.now domain.now item.now operate.now) }
+{
+    let start = writer.len();
+    put_both_list(writer, domain, item)?;
+    let inner = writer.len();
+    put_both(writer, failure, operate)?;
+    put_report_around(writer, start, inner)
+}
+
+/// The text of the report that a control was refused (IEC 61850-8-1, LastApplError; ISO 9506-2, informationReport); TooLong where
+/// it would have 2^32 octets or more, which no PDU has.
 pub fn write_failure(alloc: Global, failure: &ControlError<'_>) -> Result<Vec<u8>, WriteFault>
     ensures { Gives WriteFault.OutOfMemory (λ octets. octets.items) result (written (failure_text failure.now)) }
 {
     let mut writer = Writer::new(alloc);
-    put_failure(&mut writer, failure)?;
+    put_refused(&mut writer, failure)?;
     Ok(writer.finish())
 }
 
-/// The text of the report that a control of this item of a domain ended (IEC 61850-8-1, CommandTermination): alone where it
-/// did what was asked, and else behind a failure. TooLong where it would have 2^32 octets or more.
+/// The text of the report that a control of this item of a domain has done what it was asked for (IEC 61850-8-1, the positive
+/// CommandTermination): the operate, as it was written. TooLong where it would have 2^32 octets or more.
 pub fn write_termination(
     alloc: Global,
     domain: &str,
@@ -253,6 +295,23 @@ pub fn write_termination(
     ensures { Gives WriteFault.OutOfMemory (λ octets. octets.items) result (written (termination_text domain.now item.now operate.now)) }
 {
     let mut writer = Writer::new(alloc);
-    put_termination(&mut writer, domain, item, operate)?;
+    put_ended(&mut writer, domain, item, operate)?;
+    Ok(writer.finish())
+}
+
+/// The text of the report that a control of this item of a domain has failed (IEC 61850-8-1, the negative CommandTermination): one
+/// report of two variables, LastApplError and then the operate, as it was written. TooLong where it would have 2^32 octets or
+/// more.
+pub fn write_failed_termination(
+    alloc: Global,
+    failure: &ControlError<'_>,
+    domain: &str,
+    item: &str,
+    operate: &Operate<'_>,
+) -> Result<Vec<u8>, WriteFault>
+    ensures { Gives WriteFault.OutOfMemory (λ octets. octets.items) result (written (failed_text failure.now domain.now item.now operate.now)) }
+{
+    let mut writer = Writer::new(alloc);
+    put_failed(&mut writer, failure, domain, item, operate)?;
     Ok(writer.finish())
 }

@@ -4,8 +4,8 @@ use Rattle.std.specs.Prelude.{IfErr, is_some}
 use Rattle.std.proofs.lemmas.Bool.{lt-ltb, cases_lt}
 use Rattle.std.proofs.lemmas.List.{append-nil, length-append, length-take-le, length-drop, drop_more, drop-drop, take-append-drop, take-take, drop-take, take_rest, get_or_read}
 use Rattle.bay_transport.specs.declared.assembly.Assembly.{Assembly}
-use Rattle.bay_transport.specs.declared.assembly.Kind.{Kind}
-use Rattle.bay_transport.specs.declared.assembly.Kind.TheVariants.{More}
+use Rattle.bay_transport.specs.declared.fed.Got.{Got}
+use Rattle.bay_transport.specs.declared.fed.Got.TheVariants.{More}
 use Rattle.bay_transport.specs.declared.frame.Tpdu.{Tpdu}
 use Rattle.bay_transport.specs.declared.frame.Front.{Front}
 use Rattle.bay_transport.specs.declared.frame.Front.TheVariants.{Begun, NoFrame, Whole}
@@ -111,7 +111,7 @@ used_some : (rest piece : List ℕ) (used : ℕ) → front_of rest ≡ Begun →
 used_some rest piece zero begun whole = absurd (let f : Begun ≡ Whole (length rest) = sym begun ∙ rw (append-nil rest) at whole in cc)
 used_some rest piece (suc used) begun whole = omega arith
 
-pub takes_frame : (old new : Assembly) (frame piece : List ℕ) (used : ℕ) (kind : Kind) → used ≤ length piece → (0 < length piece → 0 < used)
+pub takes_frame : (old new : Assembly) (frame piece : List ℕ) (used : ℕ) (kind : Got) → used ≤ length piece → (0 < length piece → 0 < used)
     → frame ≡ rest_of old ++ take used piece → front_of frame ≡ Whole (length frame) → front_of (rest_of old) ≡ Begun → alone (event_of old.number (link_of old) frame) (link_of old) ≡ run_for kind new → Takes old piece used kind new
 takes_frame old new frame piece used kind within moves rest whole begun does =
     let n : front_of (rest_of old ++ take used piece) ≡ Whole (length (rest_of old ++ take used piece)) = rw (← rest) whole in
@@ -158,7 +158,7 @@ same_alone old new frame number link =
     ap (λ (e : Event). alone e (link_of old)) (same_event old new frame number link) ∙ ap (λ (l : Link). alone (event_of new.number (link_of new) frame) l) (sym link)
 
 -- octets are taken, and then the frame that they end is done
-pub takes_whole : (old middle new : Assembly) (piece : List ℕ) (used k : ℕ) (kind : Kind) → front_of (rest_of old) ≡ Begun → used ≤ length piece → (0 < length piece → 0 < used) → used ≤ wanted (rest_of old)
+pub takes_whole : (old middle new : Assembly) (piece : List ℕ) (used k : ℕ) (kind : Got) → front_of (rest_of old) ≡ Begun → used ≤ length piece → (0 < length piece → 0 < used) → used ≤ wanted (rest_of old)
     → rest_of middle ≡ rest_of old ++ take used piece → link_of middle ≡ link_of old → middle.number ≡ old.number → front_of (rest_of middle) ≡ Whole k
     → alone (event_of middle.number (link_of middle) (rest_of middle)) (link_of middle) ≡ run_for kind new → Takes old piece used kind new
 takes_whole old middle new piece used k kind begun within moves few rest link number whole does =
@@ -187,7 +187,7 @@ pub quiet_more : (old middle new : Assembly) (piece : List ℕ) (at used : ℕ) 
 quiet_more old middle new piece at used number quiet t =
     rw (take-add at used piece) (run-quiet old.number (left_of old) (left_of middle) (take at piece) (take used (drop at piece)) quiet ∙ ap (λ (n : ℕ). run n (left_of middle) (take used (drop at piece))) (sym number) ∙ t.does)
 
-pub reaches_kind : (old middle new : Assembly) (piece : List ℕ) (at used : ℕ) (kind : Kind) → at < length piece → middle.number ≡ old.number → run old.number (left_of old) (take at piece) ≡ record { doings = []; left = left_of middle }
+pub reaches_kind : (old middle new : Assembly) (piece : List ℕ) (at used : ℕ) (kind : Got) → at < length piece → middle.number ≡ old.number → run old.number (left_of old) (take at piece) ≡ record { doings = []; left = left_of middle }
     → Takes middle (drop at piece) used kind new → (kind ≡ More → ⊥) → Reaches old piece (at + used) kind new
 reaches_kind old middle new piece at used kind within number quiet t done =
     let n : length (drop at piece) ≡ length piece - at = length-drop at piece in

@@ -4,4 +4,5 @@ pub mod FrameLemmas
 pub mod ParameterLemmas
 pub mod RequestLemmas
 pub mod RunLemmas
+pub mod SizeLemmas
 pub mod WrapLemmas

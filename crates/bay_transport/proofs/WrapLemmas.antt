@@ -1,7 +1,7 @@
 -- The data TPDUs of a TSDU, and what they come to.
 use Rattle.std.proofs.Common.{◌≡◌, ℕ, zero, suc, ◌+◌, ◌-◌, ◌*◌, ◌/◌, ◌%◌, ◌<◌, ◌≤◌, Bool, true, false, cond, List, [], ◌∷◌, ◌++◌, length, take, drop, Some, refl, sym, ap, subst, ◌∙◌, arith}
 use Rattle.std.proofs.lemmas.Bool.{le-ltb}
-use Rattle.std.proofs.lemmas.List.{append-nil, append_assoc, length-append, length-take, length-drop, take-append-drop, take_rest, drop-drop}
+use Rattle.std.proofs.lemmas.List.{append-nil, append_assoc, length-append, length-take, length-drop, length-take-le, take-append-drop, take_at, drop_at, take_rest, drop-drop}
 use Rattle.std.proofs.Math.Nat.{suc-mul, add-div_left, div-eq_of_lt, lt-div-mul-add}
 use Rattle.bay_transport.specs.Frame.{IsFrame, Cut, cut}
 use Rattle.bay_transport.specs.Doings.{Delivers, Link, Going, Joins, Completes, event_of, link_after, on_event, run}
@@ -26,14 +26,38 @@ wrapped_more size octets some more =
     rw e refl
 
 -- one more data TPDU
-pub wrapped_step : (size at : ℕ) (octets out next : List ℕ) → 3 < size → at ≤ length octets → size - 3 < length octets - at → next ≡ out ++ data_frame false (take (at + (size - 3) - at) (drop at octets)) → wrapped size octets ≡ out ++ wrapped size (drop at octets)
-    → wrapped size octets ≡ next ++ wrapped size (drop (at + (size - 3)) octets)
-wrapped_step size at octets out next some within more is before =
+pub wrapped_step : (size at : ℕ) (octets before out next text : List ℕ) → 3 < size → at ≤ length octets → size - 3 < length octets - at → next ≡ out ++ data_frame false (take (at + (size - 3) - at) (drop at octets)) → out ++ wrapped size (drop at octets) ≡ before ++ text
+    → next ++ wrapped size (drop (at + (size - 3)) octets) ≡ before ++ text
+wrapped_step size at octets before out next text some within more is same =
     let n : length (drop at octets) ≡ length octets - at = length-drop at octets in
     let m : at + (size - 3) - at ≡ size - 3 = omega arith in
     let w = wrapped_more size (drop at octets) some (omega arith) in
     let d : drop (size - 3) (drop at octets) ≡ drop (at + (size - 3)) octets = drop-drop (size - 3) at octets in
-    before ∙ ap (λ (ys : List ℕ). out ++ ys) w ∙ sym (append_assoc out (data_frame false (take (size - 3) (drop at octets))) (wrapped size (drop (size - 3) (drop at octets)))) ∙ rw (is, m, d) refl
+    rw (is, m, ← d) (append_assoc out (data_frame false (take (size - 3) (drop at octets))) (wrapped size (drop (size - 3) (drop at octets))) ∙ ap (λ (ys : List ℕ). out ++ ys) (sym w) ∙ same)
+
+-- the last data TPDU
+pub wrapped_end : (size at : ℕ) (octets before out all text : List ℕ) → 3 < size → at ≤ length octets → length octets - at ≤ size - 3 → all ≡ out ++ data_frame true (take (length octets - at) (drop at octets)) → out ++ wrapped size (drop at octets) ≡ before ++ text
+    → all ≡ before ++ text
+wrapped_end size at octets before out all text some within few is same =
+    let n : length (drop at octets) ≡ length octets - at = length-drop at octets in
+    let w = wrapped_last size (drop at octets) some (omega arith) in
+    is ∙ ap (λ (ys : List ℕ). out ++ data_frame true ys) (take_rest octets at) ∙ ap (λ (ys : List ℕ). out ++ ys) (sym w) ∙ same
+
+-- a front that the first data TPDU holds
+pub wrapped_front : (size : ℕ) (front rest one all : List ℕ) → 3 < size → length front ≤ size - 3 → size - 3 - length front < length rest → one ≡ data_frame false (front ++ take (size - 3 - length front) rest)
+    → all ≡ one ++ wrapped size (drop (size - 3 - length front) rest) → all ≡ wrapped size (front ++ rest)
+wrapped_front size front rest one all some fits more first is =
+    let room = size - 3 in
+    let k = room - length front in
+    let parts : front ++ rest ≡ (front ++ take k rest) ++ drop k rest = ap (λ (ys : List ℕ). front ++ ys) (sym (take-append-drop k rest)) ∙ sym (append_assoc front (take k rest) (drop k rest)) in
+    let n : length (front ++ take k rest) ≡ room = omega (arith, length-append front (take k rest), length-take-le k rest) in
+    let t : take room (front ++ rest) ≡ front ++ take k rest = ap (take room) parts ∙ take_at (front ++ take k rest) (drop k rest) room n in
+    let d : drop room (front ++ rest) ≡ drop k rest = ap (drop room) parts ∙ drop_at (front ++ take k rest) (drop k rest) room n in
+    let w = wrapped_more size (front ++ rest) some (omega (arith, length-append front rest)) in
+    is ∙ rw (first, ← t, ← d) (sym w)
+
+pub wrapped_alone : (size : ℕ) (front rest : List ℕ) → 3 < size → length front ≤ size - 3 → length rest ≤ size - 3 - length front → data_frame true (front ++ rest) ≡ wrapped size (front ++ rest)
+wrapped_alone size front rest some fits few = sym (wrapped_last size (front ++ rest) some (omega (arith, length-append front rest)))
 
 -- ---- what it comes to
 
@@ -101,10 +125,3 @@ carries size tsdu octets some few is =
       does = λ number. run-data_frames number size room (full_before room tsdu) [] tsdu few;
       within = within_frames size (full_before room tsdu) tsdu some (omega arith);
     })
-
--- the last data TPDU
-pub wrapped_end : (size at : ℕ) (octets out all : List ℕ) → 3 < size → at ≤ length octets → length octets - at ≤ size - 3 → all ≡ out ++ data_frame true (take (length octets - at) (drop at octets)) → wrapped size octets ≡ out ++ wrapped size (drop at octets) → all ≡ wrapped size octets
-wrapped_end size at octets out all some within few is before =
-    let n : length (drop at octets) ≡ length octets - at = length-drop at octets in
-    let w = wrapped_last size (drop at octets) some (omega arith) in
-    is ∙ ap (λ (ys : List ℕ). out ++ data_frame true ys) (take_rest octets at) ∙ sym (before ∙ ap (λ (ys : List ℕ). out ++ ys) w)

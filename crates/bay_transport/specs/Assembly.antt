@@ -1,11 +1,11 @@
 -- What the assembly of frames holds, against the stream.
-use Rattle.std.specs.Prelude.{ℕ, ◌≡◌, ◌+◌, ◌-◌, ◌<◌, ◌≤◌, List, [], ◌∷◌, length, take, drop, IfSome}
+use Rattle.std.specs.Prelude.{ℕ, ◌≡◌, ◌+◌, ◌-◌, ◌<◌, ◌≤◌, List, [], ◌∷◌, length, take, drop, vec_capacity, unwrap_or, IfSome}
 use Rattle.bay_transport.specs.declared.fault.TransportFault.{TransportFault}
 use Rattle.bay_transport.specs.declared.fault.TransportFault.TheVariants.{BadTpkt, BadCotp, ClassRefused, TsduTooLong, Failed, OutOfMemory}
 use Rattle.bay_transport.specs.declared.frame.Front.TheVariants.{Begun, Whole}
 use Rattle.bay_transport.specs.declared.assembly.Assembly.{Assembly}
-use Rattle.bay_transport.specs.declared.assembly.Kind.{Kind}
-use Rattle.bay_transport.specs.declared.assembly.Kind.TheVariants.{More, Answer, Tsdu, Ended}
+use Rattle.bay_transport.specs.declared.fed.Got.{Got}
+use Rattle.bay_transport.specs.declared.fed.Got.TheVariants.{More, Answer, Tsdu, Ended}
 use Rattle.bay_transport.specs.Frame.{front_of}
 use Rattle.bay_transport.specs.Doings.{Doing, Answers, Delivers, Ends, Link, Left, Going, Over, Run, run}
 
@@ -42,25 +42,31 @@ pub record HoldsFrame (a : Assembly) : Type 0 where
   pub shown : length a.shown.items ≤ 70000
   pub sized : IfSome a.size IsSize
 
+-- Nothing is held, and no room for it.
+pub record HasNoRoom (a : Assembly) : Type 0 where
+  pub buffer : vec_capacity a.buffer ≡ 0
+  pub shown : vec_capacity a.shown ≡ 0
+  pub nothing : a.shown.items ≡ []
+
 -- the octets of the TPDU behind its code
 abbrev pub body_of : Assembly → List ℕ
 body_of a = drop (a.group + 6) a.buffer.items
 
-abbrev pub doings_for : Kind → List ℕ → List Doing
-doings_for More shown = []
-doings_for Answer shown = Answers shown ∷ []
-doings_for Tsdu shown = Delivers shown ∷ []
-doings_for Ended shown = Ends ∷ []
+abbrev pub doings_for : Got → Assembly → List Doing
+doings_for More a = []
+doings_for Answer a = Answers (unwrap_or a.size 0) a.shown.items ∷ []
+doings_for Tsdu a = Delivers a.shown.items ∷ []
+doings_for Ended a = Ends ∷ []
 
-abbrev pub left_for : Kind → Left → Left
+abbrev pub left_for : Got → Left → Left
 left_for More left = left
 left_for Answer left = left
 left_for Tsdu left = left
 left_for Ended left = Over
 
 -- what has been done where the answer is of this kind, and what the assembly holds now
-abbrev pub run_for : Kind → Assembly → Run
-run_for kind a = record { doings = doings_for kind a.shown.items; left = left_for kind (left_of a) }
+abbrev pub run_for : Got → Assembly → Run
+run_for kind a = record { doings = doings_for kind a; left = left_for kind (left_of a) }
 
 -- The fault is answered where this holds, want of memory aside.
 abbrev pub FailsWhere : TransportFault → Type 0 → Type 0
@@ -72,14 +78,14 @@ FailsWhere Failed P = ⊥
 FailsWhere OutOfMemory P = Unit {0}
 
 -- So many octets of the piece are taken: they do what is answered, and those before the last of them nothing.
-pub record Takes (old : Assembly) (piece : List ℕ) (used : ℕ) (kind : Kind) (new : Assembly) : Type 0 where
+pub record Takes (old : Assembly) (piece : List ℕ) (used : ℕ) (kind : Got) (new : Assembly) : Type 0 where
   pub within : used ≤ length piece
   pub moves : 0 < length piece → 0 < used
   pub does : run old.number (left_of old) (take used piece) ≡ run_for kind new
   pub quiet : (run old.number (left_of old) (take (used - 1) piece)).doings ≡ []
 
 -- The same up to the end of the TPDU that completes something, or of the piece.
-pub record Reaches (old : Assembly) (piece : List ℕ) (used : ℕ) (kind : Kind) (new : Assembly) : Type 0 where
+pub record Reaches (old : Assembly) (piece : List ℕ) (used : ℕ) (kind : Got) (new : Assembly) : Type 0 where
   pub within : used ≤ length piece
   pub all : kind ≡ More → used ≡ length piece
   pub moves : (kind ≡ More → ⊥) → 0 < used

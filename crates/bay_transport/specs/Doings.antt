@@ -9,9 +9,9 @@ use Rattle.bay_transport.specs.declared.frame.Tpdu.TheVariants.{Request, Data, R
 use Rattle.bay_transport.specs.Frame.{tpdu_of, front_of, cut}
 use Rattle.bay_transport.specs.Connect.{Connection, connect}
 
--- one thing that octets come to
+-- one thing that octets come to: a size of TPDUs is agreed, with the answer to the request for it; a TSDU; the end; a fault
 pub data Doing : Type 0 where
-  Answers : List ℕ → Doing
+  Answers : ℕ → List ℕ → Doing
   Delivers : List ℕ → Doing
   Ends : Doing
   Fails : TransportFault → Doing
@@ -82,7 +82,7 @@ link_after (Refuses fault) link = link
 abbrev pub on_event : Event → Run → Run
 on_event (Joins group) later = later
 on_event (Completes group) later = record { doings = Delivers group ∷ later.doings; left = later.left }
-on_event (Agrees size reply) later = record { doings = Answers reply ∷ later.doings; left = later.left }
+on_event (Agrees size reply) later = record { doings = Answers size reply ∷ later.doings; left = later.left }
 on_event Closes later = record { doings = Ends ∷ []; left = Over }
 on_event (Refuses fault) later = record { doings = Fails fault ∷ []; left = Broken }
 

@@ -1,15 +1,15 @@
 -- What is answered to a piece of a stream.
-use Rattle.std.specs.Prelude.{ℕ, ◌≡◌, ◌-◌, ◌<◌, ◌≤◌, List, [], ◌∷◌, length, take, Option, Some, None}
+use Rattle.std.specs.Prelude.{ℕ, ◌≡◌, ◌-◌, ◌<◌, ◌≤◌, List, [], ◌∷◌, length, take, drop, Option, Some, None, unwrap_or}
 use Rattle.bay_transport.specs.declared.fault.TransportFault.{TransportFault}
 use Rattle.bay_transport.specs.declared.fault.TransportFault.TheVariants.{BadTpkt, BadCotp, ClassRefused, TsduTooLong, Failed, OutOfMemory}
 use Rattle.bay_transport.specs.declared.assembly.Assembly.{Assembly}
-use Rattle.bay_transport.specs.declared.assembly.Kind.{Kind}
-use Rattle.bay_transport.specs.declared.assembly.Kind.TheVariants.{More, Answer, Tsdu, Ended}
+use Rattle.bay_transport.specs.declared.fed.Got.{Got}
+use Rattle.bay_transport.specs.declared.fed.Got.TheVariants.{More, Answer, Tsdu, Ended}
 use Rattle.bay_transport.specs.declared.reader.Phase.{Phase}
 use Rattle.bay_transport.specs.declared.reader.Phase.TheVariants.{Open, Closed, Refused}
 use Rattle.bay_transport.specs.declared.reader.Reader.{Reader}
 use Rattle.bay_transport.specs.Doings.{Doing, Answers, Delivers, Ends, Fails, Left, Going, Over, Broken, Stream, doings}
-use Rattle.bay_transport.specs.Assembly.{left_of}
+use Rattle.bay_transport.specs.Assembly.{left_of, IsSound, HasNoRoom}
 
 -- The octets that are taken do this and nothing else, and those before the last of them nothing.
 pub record Completes (s : Stream) (piece : List ℕ) (used : ℕ) (doing : Doing) : Type 0 where
@@ -28,6 +28,10 @@ FeedsFrom Broken s piece used answer = ⊥
 
 abbrev pub Feeds : Stream → List ℕ → ℕ → Option Doing → Type 0
 Feeds s piece used answer = FeedsFrom s.left s piece used answer
+
+-- A doing, and then those of the octets of the piece that were not taken.
+abbrev pub GoesOn : Stream → Stream → List ℕ → ℕ → Doing → Type 0
+GoesOn old new piece used doing = doings old piece ≡ doing ∷ doings new (drop used piece)
 
 abbrev pub IsGoing : Left → Type 0
 IsGoing (Going link rest) = Unit {0}
@@ -53,11 +57,42 @@ agreed_from Broken = None
 abbrev pub agreed : Stream → Option ℕ
 agreed s = agreed_from s.left
 
--- What is kept of a stream is within the limits: 70,000 octets of a group, and less than the longest frame.
-abbrev pub IsWithinLimits : Left → Type 0
-IsWithinLimits (Going link rest) = (length link.group ≤ 70000) × (length rest < 65535)
-IsWithinLimits Over = Unit {0}
-IsWithinLimits Broken = Unit {0}
+-- what a transport has received: what its octets leave, and the octets of what they completed last
+pub record Received : Type 0 where
+  pub stream : Stream
+  pub shown : List ℕ
+
+-- what is answered, and what was completed last, as a doing
+abbrev pub doing_for : Got → Received → Option Doing
+doing_for More r = None
+doing_for Answer r = Some (Answers (unwrap_or (agreed r.stream) 0) r.shown)
+doing_for Tsdu r = Some (Delivers r.shown)
+doing_for Ended r = Some Ends
+
+-- the size agreed behind doings, where it was this before them; none behind an end or a fault
+abbrev pub size_after : Option ℕ → List Doing → Option ℕ
+size_after size [] = size
+size_after size (Answers agreed reply ∷ doings) = size_after (Some agreed) doings
+size_after size (Delivers tsdu ∷ doings) = size_after size doings
+size_after size (Ends ∷ doings) = None
+size_after size (Fails fault ∷ doings) = None
+
+-- What is kept is within the limits: 70,000 octets of a group, less than the longest frame, and 70,000 octets of what was
+-- completed last; and nothing after an end or a refusal.
+abbrev pub KeepsWithin : Left → List ℕ → Type 0
+KeepsWithin (Going link rest) shown = (length link.group ≤ 70000) × (length rest < 65535) × (length shown ≤ 70000)
+KeepsWithin Over shown = shown ≡ []
+KeepsWithin Broken shown = shown ≡ []
+
+abbrev pub IsWithinLimits : Received → Type 0
+IsWithinLimits r = KeepsWithin r.stream.left r.shown
+
+-- the same stream after the end of its connection, and after a refusal
+abbrev pub ended : Stream → Stream
+ended s = record { number = s.number; left = Over }
+
+abbrev pub broken : Stream → Stream
+broken s = record { number = s.number; left = Broken }
 
 -- ---- what the fields mean
 
@@ -69,8 +104,15 @@ left_in Refused a = Broken
 abbrev pub stream_of : Reader → Stream
 stream_of r = record { number = r.assembly.number; left = left_in r.phase r.assembly }
 
-abbrev pub doing_for : Kind → List ℕ → Option Doing
-doing_for More shown = None
-doing_for Answer shown = Some (Answers shown)
-doing_for Tsdu shown = Some (Delivers shown)
-doing_for Ended shown = Some Ends
+abbrev pub received_of : Reader → Received
+received_of r = record { stream = stream_of r; shown = r.assembly.shown.items }
+
+-- Where no more octets are taken, no room is kept for them.
+abbrev pub ReleasedUnlessOpen : Phase → Assembly → Type 0
+ReleasedUnlessOpen Open a = Unit {0}
+ReleasedUnlessOpen Closed a = HasNoRoom a
+ReleasedUnlessOpen Refused a = HasNoRoom a
+
+pub record IsKept (r : Reader) : Type 0 where
+  pub sound : IsSound r.assembly
+  pub room : ReleasedUnlessOpen r.phase r.assembly

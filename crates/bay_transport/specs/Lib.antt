@@ -5,5 +5,4 @@ pub mod Doings
 pub mod Found
 pub mod Assembly
 pub mod Feeding
-pub mod Shown
 pub mod Wrap

@@ -3,9 +3,10 @@ ghost use Rattle.std.specs.Prelude.{◌≡◌, ◌+◌, ◌-◌, ◌<◌, ◌≤
 ghost use Rattle.bay_transport.specs.Frame.{wanted};
 ghost use Rattle.bay_transport.specs.Connect.{connect};
 ghost use Rattle.bay_transport.specs.Doings.{Fails, Refuses, event_of, data_event, connected, alone, run};
-ghost use Rattle.bay_transport.specs.Assembly.{link_of, rest_of, left_of, body_of, IsSound, HoldsFrame, run_for, FailsWhere, Takes, Reaches};
+ghost use Rattle.bay_transport.specs.Assembly.{link_of, rest_of, left_of, body_of, IsSound, HoldsFrame, HasNoRoom, run_for, FailsWhere, Takes, Reaches};
 
 use crate::fault::TransportFault;
+use crate::fed::Got;
 use crate::frame::{Front, Tpdu, front_of, tpdu_of, wanted};
 use crate::request::answer;
 use std::alloc::{AllocError, Global};
@@ -16,22 +17,10 @@ const DATA_AT: usize = 7;
 // The longest TSDU, in octets.
 const TSDU_MAX: usize = 70_000;
 
-/// What a TPDU completes.
-#[derive(Clone, Copy)]
-pub enum Kind {
-    /// Nothing yet.
-    More,
-    /// A request for a connection.
-    Answer,
-    /// A TSDU.
-    Tsdu,
-    /// The connection.
-    Ended,
-}
-
 /// The octets of an unfinished group of data TPDUs and of an unfinished frame, and what the last TPDU completed.
 #[derive(Drop)]
 pub struct Assembly {
+    pub(crate) alloc: Global,
     pub(crate) number: u16,
     // The size of a TPDU in octets, once it is agreed.
     pub(crate) size: Option<usize>,
@@ -59,8 +48,10 @@ impl Assembly {
         ensures number { result.number ≡ number }
         ensures size { result.size ≡ None }
         ensures empty { result.buffer.items ≡ [] }
+        ensures nothing { result.shown.items ≡ [] }
     {
         Assembly {
+            alloc,
             number,
             size: None,
             buffer: Vec::new(alloc),
@@ -69,19 +60,20 @@ impl Assembly {
         }
     }
 
-    /// Forgets what came.
-    pub(crate) fn clear(&mut self)
+    /// Forgets what came, and gives back the room that it took.
+    pub(crate) fn release(&mut self)
         ensures sound { IsSound self.new }
         ensures number { self.new.number ≡ self.old.number }
+        ensures roomless { HasNoRoom self.new }
     {
         self.size = None;
         self.group = 0;
-        self.buffer.clear();
-        self.shown.clear();
+        self.buffer = Vec::new(self.alloc);
+        self.shown = Vec::new(self.alloc);
     }
 
     // A request for a connection, behind its length indicator and code.
-    fn connect(&mut self, indicator: u8) -> Result<Kind, TransportFault>
+    fn connect(&mut self, indicator: u8) -> Result<Got, TransportFault>
         requires { HoldsFrame self.old }
         ensures sound { OnOk result (IsSound self.new) }
         ensures number { self.new.number ≡ self.old.number }
@@ -98,11 +90,11 @@ impl Assembly {
         )?;
         self.size = Some(size);
         self.buffer.truncate(self.group);
-        Ok(Kind::Answer)
+        Ok(Got::Answer)
     }
 
     // A data TPDU, behind its length indicator and code.
-    fn join(&mut self, indicator: u8) -> Result<Kind, TransportFault>
+    fn join(&mut self, indicator: u8) -> Result<Got, TransportFault>
         requires { HoldsFrame self.old }
         ensures sound { OnOk result (IsSound self.new) }
         ensures number { self.new.number ≡ self.old.number }
@@ -119,16 +111,16 @@ impl Assembly {
         cut_out(&mut self.buffer, self.group, DATA_AT);
         if !is_last {
             self.group = self.buffer.len();
-            return Ok(Kind::More);
+            return Ok(Got::More);
         }
         mem::swap(&mut self.buffer, &mut self.shown);
         self.buffer.clear();
         self.group = 0;
-        Ok(Kind::Tsdu)
+        Ok(Got::Tsdu)
     }
 
     // The frame that stands in the buffer.
-    fn on_frame(&mut self) -> Result<Kind, TransportFault>
+    fn on_frame(&mut self) -> Result<Got, TransportFault>
         requires { HoldsFrame self.old }
         ensures sound { OnOk result (IsSound self.new) }
         ensures number { self.new.number ≡ self.old.number }
@@ -140,8 +132,8 @@ impl Assembly {
             Tpdu::Request => self.connect(indicator),
             Tpdu::Data => self.join(indicator),
             Tpdu::Release => {
-                self.clear();
-                Ok(Kind::Ended)
+                self.buffer.truncate(self.group);
+                Ok(Got::Ended)
             }
             Tpdu::Unknown => Err(TransportFault::BadCotp),
         }
@@ -166,7 +158,7 @@ impl Assembly {
     }
 
     // Takes octets of the piece, at most to the end of the frame, and does the frame that they end.
-    fn step(&mut self, piece: &[u8]) -> Result<(usize, Kind), TransportFault>
+    fn step(&mut self, piece: &[u8]) -> Result<(usize, Got), TransportFault>
         requires { IsSound self.old }
         ensures sound { OnOk result (IsSound self.new) }
         ensures number { self.new.number ≡ self.old.number }
@@ -175,7 +167,7 @@ impl Assembly {
     {
         let taken = self.extend(piece)?;
         match front_of(&self.buffer[self.group..]) {
-            Front::Begun => Ok((taken, Kind::More)),
+            Front::Begun => Ok((taken, Got::More)),
             Front::NoFrame => Err(TransportFault::BadTpkt),
             Front::Whole(_) => {
                 let kind = self.on_frame()?;
@@ -185,7 +177,7 @@ impl Assembly {
     }
 
     /// Takes octets of the piece up to the end of the TPDU that completes something, or all of them.
-    pub(crate) fn advance(&mut self, piece: &[u8]) -> Result<(usize, Kind), TransportFault>
+    pub(crate) fn advance(&mut self, piece: &[u8]) -> Result<(usize, Got), TransportFault>
         requires { IsSound self.old }
         ensures sound { OnOk result (IsSound self.new) }
         ensures number { self.new.number ≡ self.old.number }
@@ -197,10 +189,10 @@ impl Assembly {
             let (taken, kind) = self.step(&piece[used..])?;
             used += taken;
             match kind {
-                Kind::More => {}
+                Got::More => {}
                 kind => return Ok((used, kind)),
             }
         }
-        Ok((used, Kind::More))
+        Ok((used, Got::More))
     }
 }

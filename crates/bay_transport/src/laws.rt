@@ -1,11 +1,9 @@
 // Laws of the definitions. Each function does nothing, and its contract is the law.
-ghost use Rattle.std.specs.Prelude.{◌≡◌, ◌++◌, ◌∷◌, [], ◌↔◌, List, ℕ, Some, Ok, drop};
+ghost use Rattle.std.specs.Prelude.{◌≡◌, ◌++◌, ◌∷◌, [], ◌↔◌, List, ℕ, Some, IsSome, take, drop};
 ghost use Rattle.bay_transport.specs.Frame.{Cut, IsCut, cut};
 ghost use Rattle.bay_transport.specs.Connect.{Parameter, spelled, parameters_of};
-ghost use Rattle.bay_transport.specs.Doings.{Doing, Left, Stream, run, and_then, doings, after};
-ghost use Rattle.bay_transport.specs.Feeding.{Completes};
-ghost use Rattle.bay_transport.specs.Shown.{Leaves, GoesOn};
-ghost use Rattle.bay_transport.specs.declared.transport.Fed.{Fed};
+ghost use Rattle.bay_transport.specs.Doings.{Doing, Delivers, Left, Stream, run, and_then, doings, after};
+ghost use Rattle.bay_transport.specs.Feeding.{Completes, GoesOn, IsGoing, agreed, size_after};
 
 /// A list of octets is whole frames followed by a rest that begins with no whole frame, in one way (RFC 1006 6).
 pub fn one_cutting()
@@ -23,9 +21,21 @@ pub fn any_cutting()
 
 /// The octets of a piece that a feeding did not take do the rest of the piece's doings, from what is left then.
 pub fn feeding_goes_on()
-    ensures doings { (old new : Stream) (piece : List ℕ) (fed : Fed) (doing : Doing) → Leaves old piece (Ok fed) new
-        → Completes old piece fed.used doing → GoesOn old new piece fed.used doing }
-    ensures after { (old new : Stream) (piece : List ℕ) (fed : Fed) → Leaves old piece (Ok fed) new → after old piece ≡ after new (drop fed.used piece) }
+    ensures doings { (old new : Stream) (piece : List ℕ) (used : ℕ) (doing : Doing) → new ≡ after old (take used piece)
+        → Completes old piece used doing → GoesOn old new piece used doing }
+    ensures after { (old new : Stream) (piece : List ℕ) (used : ℕ) → new ≡ after old (take used piece) → after old piece ≡ after new (drop used piece) }
+{}
+
+/// The size of a TPDU is agreed by an answer and stays until the connection ends or fails, and a TSDU comes only where one is
+/// agreed.
+pub fn one_size()
+    ensures after { (s : Stream) (octets : List ℕ) → agreed (after s octets) ≡ size_after (agreed s) (doings s octets) }
+    ensures delivers { (s : Stream) (octets tsdu : List ℕ) (later : List Doing) → doings s octets ≡ Delivers tsdu ∷ later → IsSome (agreed s) }
+{}
+
+/// Octets that come to nothing leave a stream that goes on.
+pub fn quiet_goes_on()
+    ensures { (s : Stream) (octets : List ℕ) → IsGoing s.left → doings s octets ≡ [] → IsGoing (after s octets).left }
 {}
 
 /// Octets are parameters in one way: just those that spell them (X.224 13.2.3).

@@ -1,11 +1,12 @@
 // The fields of a transport: frames are assembled until the connection ends or is refused.
-ghost use Rattle.std.specs.Prelude.{◌≡◌, ◌+◌, ◌≤◌, [], IfOk, IfErr, OnErr, OnOk, None, length, take};
-ghost use Rattle.bay_transport.specs.Doings.{Broken, start, after};
-ghost use Rattle.bay_transport.specs.Assembly.{IsSound};
-ghost use Rattle.bay_transport.specs.Feeding.{stream_of, Feeds, RefusesPiece, IsWithinLimits, doing_for};
+ghost use Rattle.std.specs.Prelude.{◌≡◌, ◌≤◌, [], IfOk, IfErr, OnErr, length, take};
+ghost use Rattle.bay_transport.specs.Doings.{start, after};
+ghost use Rattle.bay_transport.specs.Assembly.{HasNoRoom};
+ghost use Rattle.bay_transport.specs.Feeding.{stream_of, received_of, IsKept, Feeds, RefusesPiece, IsWithinLimits, ended, broken, doing_for};
 
-use crate::assembly::{Assembly, Kind};
+use crate::assembly::Assembly;
 use crate::fault::TransportFault;
+use crate::fed::{Fed, Got};
 use std::alloc::Global;
 
 /// Whether more octets are taken.
@@ -28,8 +29,8 @@ pub struct Reader {
 
 impl Reader {
     pub(crate) fn new(alloc: Global, number: u16) -> Reader
-        ensures sound { IsSound result.assembly }
-        ensures stream { stream_of result ≡ record { number = number; left = start } }
+        ensures kept { IsKept result }
+        ensures received { received_of result ≡ record { stream = record { number = number; left = start }; shown = [] } }
     {
         Reader {
             phase: Phase::Open,
@@ -37,42 +38,57 @@ impl Reader {
         }
     }
 
+    // Takes no more octets, and gives back the room that they took.
+    fn stop(&mut self, phase: Phase)
+        ensures number { self.new.assembly.number ≡ self.old.assembly.number }
+        ensures phase { self.new.phase ≡ phase }
+        ensures kept { IsKept self.new }
+        ensures nothing { self.new.assembly.shown.items ≡ [] }
+    {
+        self.phase = phase;
+        self.assembly.release();
+    }
+
+    /// Takes no more octets, as after an end.
+    pub(crate) fn end(&mut self)
+        ensures kept { IsKept self.new }
+        ensures ended { received_of self.new ≡ record { stream = ended (stream_of self.old); shown = [] } }
+    {
+        self.stop(Phase::Closed);
+    }
+
     /// Takes octets up to the end of the TPDU that completes something, or all, and says how many and what is completed.
-    pub(crate) fn feed(&mut self, piece: &[u8]) -> Result<(usize, Kind), TransportFault>
-        requires { IsSound self.old.assembly }
-        ensures sound { IsSound self.new.assembly }
-        ensures limits { IsWithinLimits (stream_of self.new).left }
-        ensures within { IfOk result (λ taken. taken.0 ≤ length piece.now) }
-        ensures after { IfOk result (λ taken. stream_of self.new ≡ after (stream_of self.old) (take taken.0 piece.now)) }
-        ensures fed { IfOk result (λ taken. Feeds (stream_of self.old) piece.now taken.0 (doing_for taken.1 self.new.assembly.shown.items)) }
-        ensures shown { length self.new.assembly.shown.items ≤ 70_000 }
+    pub(crate) fn feed(&mut self, piece: &[u8]) -> Result<Fed, TransportFault>
+        requires { IsKept self.old }
+        ensures kept { IsKept self.new }
+        ensures limits { IsWithinLimits (received_of self.new) }
+        ensures within { IfOk result (λ fed. fed.used ≤ length piece.now) }
+        ensures after { IfOk result (λ fed. stream_of self.new ≡ after (stream_of self.old) (take fed.used piece.now)) }
+        ensures fed { IfOk result (λ fed. Feeds (stream_of self.old) piece.now fed.used (doing_for fed.got (received_of self.new))) }
         ensures refused { IfErr result (λ fault. RefusesPiece (stream_of self.old) piece.now fault) }
-        ensures failed { OnErr result (stream_of self.new ≡ record { number = self.old.assembly.number; left = Broken }) }
+        ensures broken { OnErr result (stream_of self.new ≡ broken (stream_of self.old)) }
     {
         match self.phase {
             Phase::Refused => return Err(TransportFault::Failed),
-            Phase::Closed => return Ok((0, Kind::Ended)),
+            Phase::Closed => {
+                return Ok(Fed {
+                    used: 0,
+                    got: Got::Ended,
+                });
+            }
             Phase::Open => {}
         }
         match self.assembly.advance(piece) {
-            Ok((used, kind)) => {
-                if let Kind::Ended = kind {
-                    self.phase = Phase::Closed;
+            Ok((used, got)) => {
+                if let Got::Ended = got {
+                    self.stop(Phase::Closed);
                 }
-                Ok((used, kind))
+                Ok(Fed { used, got })
             }
             Err(fault) => {
-                self.phase = Phase::Refused;
-                self.assembly.clear();
+                self.stop(Phase::Refused);
                 Err(fault)
             }
         }
-    }
-
-    /// What was completed last.
-    pub(crate) fn shown(&self) -> &[u8]
-        ensures { result.now ≡ self.now.assembly.shown.items }
-    {
-        self.assembly.shown.as_slice()
     }
 }

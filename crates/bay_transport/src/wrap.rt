@@ -1,37 +1,73 @@
 // TSDUs to be sent: data TPDUs in their frames (X.224 13.7).
-ghost use Rattle.std.specs.Prelude.{◌≡◌, ◌+◌, ◌-◌, ◌/◌, ◌%◌, ◌<◌, ◌≤◌, ◌++◌, true, false, length, drop, IfOk, OnOk};
+ghost use Rattle.std.specs.Prelude.{◌≡◌, ◌+◌, ◌<◌, ◌≤◌, ◌++◌, length, IfOk, OnOk};
 ghost use Rattle.bay_transport.specs.Wrap.{data_frame, wrapped, Carries};
 ghost use Rattle.bay_transport.specs.Assembly.{IsSize};
 
 use crate::frame::frame_header;
 use std::alloc::{AllocError, Global};
 
-// Appends one data TPDU in its frame.
-fn append(out: &mut Vec<u8>, is_last: bool, octets: &[u8]) -> Result<(), AllocError>
-    requires { length octets.now ≤ 65_528 }
-    ensures { OnOk result (out.new.items ≡ out.old.items ++ data_frame is_last octets.now) }
+// How many octets stand before the data of a TPDU in its frame.
+const BEFORE_DATA: usize = 7;
+
+// Appends one data TPDU in its frame, whose data are the front and then the rest.
+fn append(out: &mut Vec<u8>, is_last: bool, front: &[u8], rest: &[u8]) -> Result<(), AllocError>
+    requires { length front.now + length rest.now ≤ 65_528 }
+    ensures { OnOk result (out.new.items ≡ out.old.items ++ data_frame is_last (front.now ++ rest.now)) }
 {
     let mark = if is_last { 0x80 } else { 0x00 };
-    out.extend_from_slice(&frame_header(octets.len() + 3))?;
-    out.extend_from_slice(&[2, 0xF0, mark])?;
-    out.extend_from_slice(octets)?;
+    let [version, reserved, high, low] = frame_header(front.len() + rest.len() + 3);
+    out.extend_from_slice(&[version, reserved, high, low, 2, 0xF0, mark])?;
+    out.extend_from_slice(front)?;
+    out.extend_from_slice(rest)?;
     Ok(())
 }
 
-/// The data TPDUs of a TSDU, each of at most this size in octets.
-pub(crate) fn wrap(alloc: Global, size: usize, tsdu: &[u8]) -> Result<Vec<u8>, AllocError>
+// Appends the data TPDUs of octets, each of at most this size.
+fn append_all(out: &mut Vec<u8>, size: usize, octets: &[u8]) -> Result<(), AllocError>
     requires size { IsSize size }
-    requires short { length tsdu.now ≤ 70_000 }
-    ensures exact { IfOk result (λ octets. octets.items ≡ wrapped size tsdu.now) }
-    ensures carries { IfOk result (λ octets. Carries size tsdu.now octets.items) }
+    requires short { length octets.now ≤ 70_000 }
+    ensures { OnOk result (out.new.items ≡ out.old.items ++ wrapped size octets.now) }
 {
     let room = size - 3;
-    let mut out = Vec::new(alloc);
     let mut at = 0;
-    while tsdu.len() - at > room {
-        append(&mut out, false, &tsdu[at..at + room])?;
+    while octets.len() - at > room {
+        append(out, false, &[], &octets[at..at + room])?;
         at += room;
     }
-    append(&mut out, true, &tsdu[at..])?;
+    append(out, true, &[], &octets[at..])?;
+    Ok(())
+}
+
+// How many octets the frames of so many octets of data take, where a TPDU has room for so many.
+fn frames_length(room: usize, count: usize) -> usize
+    requires some { 0 < room }
+    requires short { count ≤ 70_000 }
+{
+    let full = (count.max(1) - 1) / room;
+    count + (full + 1) * BEFORE_DATA
+}
+
+/// The data TPDUs of a TSDU, each of at most this size in octets. Its octets are the front and then the rest.
+pub(crate) fn wrap(
+    alloc: Global,
+    size: usize,
+    front: &[u8],
+    rest: &[u8],
+) -> Result<Vec<u8>, AllocError>
+    requires size { IsSize size }
+    requires front { length front.now ≤ 125 }
+    requires short { length front.now + length rest.now ≤ 70_000 }
+    ensures exact { IfOk result (λ octets. octets.items ≡ wrapped size (front.now ++ rest.now)) }
+    ensures carries { IfOk result (λ octets. Carries size (front.now ++ rest.now) octets.items) }
+{
+    let room = size - 3;
+    let mut out = Vec::with_capacity(alloc, frames_length(room, front.len() + rest.len()))?;
+    let first = room - front.len();
+    if rest.len() <= first {
+        append(&mut out, true, front, rest)?;
+        return Ok(out);
+    }
+    append(&mut out, false, front, &rest[..first])?;
+    append_all(&mut out, size, &rest[first..])?;
     Ok(out)
 }

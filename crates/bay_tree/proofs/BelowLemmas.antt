@@ -1,6 +1,6 @@
 -- The search for the rows below a structure.
-use Rattle.std.proofs.Common.{◌≡◌, ℕ, zero, suc, ◌+◌, ◌-◌, ◌<◌, ◌≤◌, Bool, true, false, cond, ◌∙◌, Option, Some, None, IfSome, List, [], ◌∷◌, length, drop, refl, ap, subst, arith}
-use Rattle.std.proofs.lemmas.List.{drop-drop}
+use Rattle.std.proofs.Common.{◌≡◌, ℕ, zero, suc, ◌+◌, ◌-◌, ◌<◌, ◌≤◌, Bool, true, false, cond, ◌∙◌, Option, Some, None, IfSome, List, [], ◌∷◌, length, drop, refl, ap, sym, subst, arith}
+use Rattle.std.proofs.lemmas.List.{drop-drop, length-drop}
 use Rattle.std.proofs.lemmas.Slice.Eq.{bytes_eq-Decides}
 use Rattle.std.specs.List.{position_from}
 use Rattle.std.specs.Str.{bytes_eq}
@@ -95,3 +95,32 @@ next_since rows place (Some name) = places_since-first rows name (place + 1)
 -- the places behind a row are the next beside it and those behind that
 pub places_behind-next : (rows : List Row) (place : ℕ) (found : Option ℕ) → found ≡ next_beside rows place → IfSome (parent_of (name_at rows place)) (λ parent. places_behind rows parent place ≡ places_since rows parent found)
 places_behind-next rows place found is = rw is (next_since rows place (parent_of (name_at rows place)))
+
+end_either : (test : Row → Bool) (row : Row) (rows : List Row) (start k : ℕ) (here : Bool) → cond here (Some start) (position_from test (start + 1) rows) ≡ Some k → (position_from test (start + 1) rows ≡ Some k → k < start + 1 + length rows) → k < start + length (row ∷ rows)
+end_either test row rows start k true found later = let same : start ≡ k = cc in omega arith
+end_either test row rows start k false found later = omega (arith, later found)
+
+-- what a search finds stands within the list
+position_from-end : (test : Row → Bool) (rows : List Row) (start k : ℕ) → position_from test start rows ≡ Some k → k < start + length rows
+position_from-end test [] start k found = absurd cc
+position_from-end test (row ∷ rows) start k found =
+    end_either test row rows start k (test row) found (λ later. position_from-end test rows (start + 1) k later)
+
+-- what is found behind a place stands behind it, and within the rows
+found_after : (rows : List Row) (place k : ℕ) (parent : List ℕ) → place < length rows → first_below_from (place + 1) (drop (place + 1) rows) parent ≡ Some k → (place < k) × (k < length rows)
+found_after rows place k parent within found =
+    let behind : place + 1 ≤ k = position_from-start (λ (row : Row). is_below parent row.name) (drop (place + 1) rows) (place + 1) k found in
+    let before : k < (place + 1) + length (drop (place + 1) rows) = position_from-end (λ (row : Row). is_below parent row.name) (drop (place + 1) rows) (place + 1) k found in
+    let rest : length (drop (place + 1) rows) ≡ length rows - (place + 1) = length-drop (place + 1) rows in
+    (omega arith, omega arith)
+
+pub first_below-after : (rows : List Row) (place k : ℕ) → IsTree rows → place < length rows → Some k ≡ first_below rows place → (place < k) × (k < length rows)
+first_below-after rows place k tree within found =
+    found_after rows place k (name_at rows place) within (sym (found ∙ first_below-skip rows place tree within))
+
+next_after : (rows : List Row) (place k : ℕ) (parent : Option (List ℕ)) → place < length rows → Some k ≡ next_below rows place parent → (place < k) × (k < length rows)
+next_after rows place k None within found = absurd cc
+next_after rows place k (Some parent) within found = found_after rows place k parent within (sym found)
+
+pub next_beside-after : (rows : List Row) (place k : ℕ) → place < length rows → Some k ≡ next_beside rows place → (place < k) × (k < length rows)
+next_beside-after rows place k within found = next_after rows place k (parent_of (name_at rows place)) within found

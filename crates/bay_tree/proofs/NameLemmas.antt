@@ -1,10 +1,10 @@
 -- The parent and the last word of a name, by its last `$`.
-use Rattle.std.proofs.Common.{◌≡◌, ◌≢◌, ℕ, suc, Some, None, List, [], ◌∷◌, ◌++◌, drop, refl, sym, ◌∙◌, arith, lit<, eqb, false, tests, rules}
+use Rattle.std.proofs.Common.{Option, ap, length, length-append, ◌+◌, ◌-◌, ◌≤◌, ◌≡◌, ◌≢◌, ℕ, suc, Some, None, List, [], ◌∷◌, ◌++◌, drop, refl, sym, ◌∙◌, arith, lit<, eqb, false, tests, rules}
 use Rattle.std.proofs.lemmas.List.{take-append-drop}
 use Rattle.std.proofs.lemmas.List.Elements.{All-from_get_or}
 use Rattle.std.proofs.lemmas.Str.Pattern.{NoCharPasses-char, drop_at_char}
 use Rattle.std.specs.Str.Pattern.{RFindsChar, SplitsAroundMatch}
-use Rattle.bay_tree.specs.Names.{IsWord, parent_of, word_of}
+use Rattle.bay_tree.specs.Names.{IsNamed, IsWord, parent_of, word_of}
 
 IsWord-tail : (octet : ℕ) (word : List ℕ) → IsWord (octet ∷ word) → IsWord word
 IsWord-tail octet word is = λ k d lt. is (suc k) d (omega arith)
@@ -41,3 +41,18 @@ rsplit_some name front word found =
       sym (take-append-drop found.0 name) ∙ rw (at, found.3, found.4) refl,
       rw found.4 (rsplit_none (drop found.1 name) found.2.0),
     )
+
+past_dollar : (parent word : List ℕ) → drop (suc (length parent)) (parent ++ 36 ∷ word) ≡ word
+past_dollar [] word = refl
+past_dollar (octet ∷ parent) word = past_dollar parent word
+
+-- a last word is the end of its name
+pub word-end : (o : Option (List ℕ)) (word name : List ℕ) → IsNamed o word name → (length word ≤ length name) × (drop (length name - length word) name ≡ word)
+word-end None word name named =
+    let long : length name ≡ length word = ap length named.0 in
+    let start : length name - length word ≡ 0 = omega arith in
+    (omega arith, rw start named.0)
+word-end (Some parent) word name named =
+    let long : length name ≡ length parent + suc (length word) = ap length named.0 ∙ length-append parent (36 ∷ word) in
+    let start : length name - length word ≡ suc (length parent) = omega arith in
+    (omega arith, rw (start, named.0) (past_dollar parent word))

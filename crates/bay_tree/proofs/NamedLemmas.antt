@@ -12,10 +12,10 @@ not_true : (b : Bool) → (b ≡ true → ⊥) → b ≡ false
 not_true true f = absurd (f refl)
 not_true false f = refl
 
-same_text : (name : List ℕ) → bytes_eq name name ≡ true
+pub same_text : (name : List ℕ) → bytes_eq name name ≡ true
 same_text name = (bytes_eq-Decides name name).1 refl
 
-other_text : (a b : List ℕ) → a ≢ b → bytes_eq a b ≡ false
+pub other_text : (a b : List ℕ) → a ≢ b → bytes_eq a b ≡ false
 other_text a b n = not_true (bytes_eq a b) (λ t. n ((bytes_eq-Decides a b).0 t))
 
 -- no two rows have one name

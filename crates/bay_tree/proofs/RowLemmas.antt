@@ -1,12 +1,13 @@
 -- A new value at a place leaves every name, and so the tree, as it was.
-use Rattle.std.proofs.Common.{◌≡◌, ◌≢◌, ℕ, ◌<◌, Option, Some, None, option_map, IfSome, List, length, ap, ◌∙◌, ⊎_elim, arith}
+use Rattle.std.proofs.Common.{◌≡◌, ◌≢◌, ℕ, suc, ◌<◌, All, Option, Some, None, option_map, IfSome, List, [], ◌∷◌, length, refl, ap, ◌∙◌, ⊎_elim, arith}
 use Rattle.std.proofs.Math.ListN.{set, length-set}
 use Rattle.std.proofs.lemmas.List.{get_or-set_same, get_or-set_other}
 use Rattle.std.proofs.lemmas.Bool.{cases_eq}
 use Rattle.bay_tree.specs.declared.row.Row.{Row}
 use Rattle.bay_tree.specs.declared.leaf.Kind.{Kind}
+use Rattle.bay_tree.specs.declared.leaf.Leaf.{Leaf}
 use Rattle.bay_tree.specs.Kinds.{kind_of}
-use Rattle.bay_tree.specs.Rows.{row_at, name_at, leaf_at, kind_at, IsTree, IsStructureNamed}
+use Rattle.bay_tree.specs.Rows.{row_at, name_at, leaf_at, leaves_at, kind_at, with_leaf, IsTree, IsStructureNamed}
 
 pub name_at-set : (rows : List Row) (place : ℕ) (row : Row) (k : ℕ) → place < length rows → row.name ≡ name_at rows place → name_at (set rows place row) k ≡ name_at rows k
 name_at-set rows place row k within same =
@@ -34,3 +35,16 @@ IsTree-set rows place row within leaf same tree =
 
 pub leaf_from_kind : (rows : List Row) (place : ℕ) (kind : Kind) → kind_at rows place ≡ Some kind → leaf_at rows place ≢ None
 leaf_from_kind rows place kind h = λ none. let e : option_map kind_of None ≡ Some kind = rw none at h in cc
+
+pub leaf_at-own : (rows : List Row) (row : ℕ) (leaf : Leaf) → row < length rows → leaf_at (with_leaf rows row leaf) row ≡ Some leaf
+leaf_at-own rows row leaf within = ap (λ (r : Row). r.leaf) (get_or-set_same rows row (record { name = name_at rows row; leaf = Some leaf }) _ within)
+
+pub leaf_at-other : (rows : List Row) (row other : ℕ) (leaf : Leaf) → other ≢ row → leaf_at (with_leaf rows row leaf) other ≡ leaf_at rows other
+leaf_at-other rows row other leaf apart = ap (λ (r : Row). r.leaf) (get_or-set_other rows row other (record { name = name_at rows row; leaf = Some leaf }) _ apart)
+
+-- a value written to one row leaves those of other rows
+pub leaves_at-others : (rows : List Row) (row : ℕ) (leaf : Leaf) (others : List ℕ) → All (λ other. other ≢ row) others → leaves_at (with_leaf rows row leaf) others ≡ leaves_at rows others
+leaves_at-others rows row leaf [] apart = refl
+leaves_at-others rows row leaf (other ∷ others) apart =
+    ap (λ o. o ∷ leaves_at (with_leaf rows row leaf) others) (leaf_at-other rows row other leaf (apart 0 0 (omega arith)))
+    ∙ ap (λ os. leaf_at rows other ∷ os) (leaves_at-others rows row leaf others (λ k d lt. apart (suc k) d (omega arith)))

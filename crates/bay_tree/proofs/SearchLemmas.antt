@@ -1,10 +1,13 @@
 -- What a search by name finds, and that it misses no row.
-use Rattle.std.proofs.Common.{◌≡◌, ◌≢◌, ℕ, ◌+◌, ◌<◌, Bool, true, false, cond, Option, Some, None, option_map, List, [], ◌∷◌, length, All, is_some, get_or, refl, sym, ◌∙◌, arith, zero, suc}
+use Rattle.std.proofs.Common.{◌≡◌, ◌≢◌, ℕ, ◌+◌, ◌<◌, Bool, true, false, cond, Option, Some, None, Err, option_map, List, [], ◌∷◌, length, All, get_or, refl, sym, subst, ◌∙◌, arith, zero, suc}
 use Rattle.std.proofs.lemmas.Iterator.Adapters.{position_from-zero}
 use Rattle.std.proofs.lemmas.List.Quantifiers.{position-Some}
 use Rattle.std.proofs.lemmas.Slice.Eq.{bytes_eq-Decides}
 use Rattle.std.specs.List.{position_from}
-use Rattle.std.specs.Str.{bytes_eq}
+use Rattle.std.specs.Str.{IsUtf8, bytes_eq}
+use Rattle.bay_tree.specs.Arena.{AreTexts}
+use Rattle.std.specs.Option.{ok_or}
+use Rattle.bay_tree.specs.declared.fault.TreeFault.{TreeFault}
 use Rattle.bay_tree.specs.declared.row.Row.{Row}
 use Rattle.bay_tree.specs.Page.{IsUnknown, start_after}
 use Rattle.bay_tree.specs.Rows.{name_at, place_of, IsHandle}
@@ -57,18 +60,17 @@ start_after-some rows (Some name) start h unknown =
     let found = started_with (place_of rows name) start h in
     place_of-some rows name found.0 found.1 unknown
 
-none_from : (o : Option ℕ) → is_some o ≡ false → o ≡ None
-none_from None h = refl
-none_from (Some p) h = absurd cc
+no_text : (rows : List Row) (name : List ℕ) (place : Option ℕ) → AreTexts rows → ¬ IsUtf8 name → place_of rows name ≡ place → place ≡ None
+no_text rows name None texts bad is = refl
+no_text rows name (Some place) texts bad is =
+    let found = place_of-found rows name place is in
+    absurd (bad (subst IsUtf8 found.1 (texts place found.0)))
 
-some_from : (o : Option ℕ) → is_some o ≡ true → (p : ℕ) × (o ≡ Some p)
-some_from None h = absurd cc
-some_from (Some p) h = (p, refl)
+-- what is no text names no row
+pub place_of-no_text : (rows : List Row) (name : List ℕ) → AreTexts rows → ¬ IsUtf8 name → place_of rows name ≡ None
+place_of-no_text rows name texts bad = no_text rows name (place_of rows name) texts bad refl
 
-pub place_of-is_none : (rows : List Row) (name : List ℕ) → is_some (place_of rows name) ≡ false → All (λ (row : Row). row.name ≢ name) rows
-place_of-is_none rows name h = place_of-none rows name (none_from (place_of rows name) h)
-
-pub place_of-is_some : (rows : List Row) (name : List ℕ) → is_some (place_of rows name) ≡ true → All (λ (row : Row). row.name ≢ name) rows → ⊥
-place_of-is_some rows name h =
-    let found = some_from (place_of rows name) h in
-    place_of-some rows name found.0 found.1
+-- a look-up that is refused has found no row
+pub not_found : (rows : List Row) (name : List ℕ) (fault other : TreeFault) (place : Option ℕ) → place_of rows name ≡ place → Err fault ≡ ok_or place other → place_of rows name ≡ None
+not_found rows name fault other None is h = is
+not_found rows name fault other (Some place) is h = absurd cc

@@ -1,33 +1,63 @@
--- Rows make a tree where each can stand behind those before it.
-use Rattle.std.proofs.Common.{◌≡◌, ℕ, ◌<◌, List, length, take, get_or, Any, sym, ◌∙◌, ap, subst, arith}
-use Rattle.std.proofs.lemmas.List.{get_or-take, length-take-le, get_or_default}
+-- Rows make a tree where each can stand at its place.
+use Rattle.std.proofs.Common.{◌≡◌, ◌≢◌, ◌==◌, ◌↔◌, true, false, IsTrue, ℕ, ◌<◌, ◌≤◌, Option, Some, None, List, [], length, refl, sym, ◌∙◌, ap, ⊎_elim, arith}
+use Rattle.std.proofs.lemmas.Bool.{cases_lt}
+use Rattle.std.proofs.lemmas.Bool.Decides.{eqb_tells}
+use Rattle.std.specs.Option.{IsSomeAnd}
 use Rattle.bay_tree.specs.declared.row.Row.{Row}
 use Rattle.bay_tree.specs.Names.{parent_of}
-use Rattle.bay_tree.specs.Rows.{row_at, name_at, CanFollow, IsStructureNamed, IsTree}
+use Rattle.bay_tree.specs.Rows.{row_at, name_at, leaf_at, place_of, IsBelowStructure, IsStructureNamed, IsTree}
 use Rattle.bay_tree.proofs.RowLemmas.{IfSome-weaken}
+use Rattle.bay_tree.proofs.SearchLemmas.{place_of-found, place_of-none}
 
--- a row before a place, read among the rows before it
-row_before : (rows : List Row) (k j : ℕ) (d : Row) → j < k → k < length rows → get_or (take k rows) j d ≡ row_at rows j
-row_before rows k j d lt within = get_or-take k rows j d lt ∙ get_or_default rows j d _ (omega arith)
+-- a row can stand at its place among rows
+pub record IsInPlace (rows : List Row) (place : ℕ) : Type 0 where
+  pub first : place_of rows (name_at rows place) ≡ Some place
+  pub below : IsBelowStructure rows place
 
-structure_before : (rows : List Row) (k : ℕ) (parent : List ℕ) → k < length rows → Any (IsStructureNamed parent) (take k rows) → (j : ℕ) × (j < k) × IsStructureNamed parent (row_at rows j)
-structure_before rows k parent within found =
-    let long : length (take k rows) ≡ k = length-take-le k rows (omega arith) in
-    let lt : found.0 < k = omega arith in
-    (found.0, lt, subst (IsStructureNamed parent) (sym found.3 ∙ row_before rows k found.0 found.1 lt within) found.4)
+above_stands : (rows : List Row) (k : ℕ) (parent : List ℕ) (o : Option ℕ) → place_of rows parent ≡ o → IsSomeAnd o (λ above. (above < k) × (leaf_at rows above ≡ None)) → (j : ℕ) × (j < k) × IsStructureNamed parent (row_at rows j)
+above_stands rows k parent None is h = absurd h
+above_stands rows k parent (Some above) is h = (above, h.0, record { named = (place_of-found rows parent above is).1; structure = h.1 })
 
-pub IsTree-follow : (rows : List Row) → ((k : ℕ) → k < length rows → CanFollow (take k rows) (row_at rows k)) → IsTree rows
-IsTree-follow rows follow = record {
-  distinct = λ i j lt within.
-      let long : length (take j rows) ≡ j = length-take-le j rows (omega arith) in
-      λ same. (follow j within).distinct i (row_at rows i) (omega arith) (ap (λ (r : Row). r.name) (row_before rows j i (row_at rows i) lt within) ∙ same);
-  parents = λ k within. IfSome-weaken (parent_of (name_at rows k)) (λ parent. Any (IsStructureNamed parent) (take k rows)) (λ parent. (j : ℕ) × (j < k) × IsStructureNamed parent (row_at rows j)) (λ parent found. structure_before rows k parent within found) (follow k within).parent;
+pub IsTree-in_place : (rows : List Row) → ((k : ℕ) → k < length rows → IsInPlace rows k) → IsTree rows
+IsTree-in_place rows in_place = record {
+  distinct = λ i j lt within same.
+      let first : Some i ≡ Some j = sym (in_place i (omega arith)).first ∙ ap (place_of rows) same ∙ (in_place j within).first in
+      let one : i ≡ j = cc in
+      omega arith;
+  parents = λ k within. IfSome-weaken (parent_of (name_at rows k)) (λ parent. IsSomeAnd (place_of rows parent) (λ above. (above < k) × (leaf_at rows above ≡ None))) (λ parent. (j : ℕ) × (j < k) × IsStructureNamed parent (row_at rows j)) (λ parent found. above_stands rows k parent (place_of rows parent) refl found) (in_place k within).below;
 }
 
-pub CanFollow-tree : (rows : List Row) (k : ℕ) → k < length rows → IsTree rows → CanFollow (take k rows) (row_at rows k)
-CanFollow-tree rows k within tree =
-    let long : length (take k rows) ≡ k = length-take-le k rows (omega arith) in
-    record {
-      distinct = λ j d lt same. tree.distinct j k (omega arith) within (ap (λ (r : Row). r.name) (sym (row_before rows k j d (omega arith) within)) ∙ same);
-      parent = IfSome-weaken (parent_of (name_at rows k)) (λ parent. (j : ℕ) × (j < k) × IsStructureNamed parent (row_at rows j)) (λ parent. Any (IsStructureNamed parent) (take k rows)) (λ parent w. (w.0, row_at rows w.0, omega arith, row_before rows k w.0 (row_at rows w.0) w.1 within, w.2)) (tree.parents k within);
-    }
+one_place : (rows : List Row) (i j : ℕ) → IsTree rows → i < length rows → j < length rows → name_at rows i ≡ name_at rows j → i ≡ j
+one_place rows i j tree in_i in_j same =
+    ⊎_elim (λ (lt : i < j). absurd (tree.distinct i j lt in_j same))
+    (λ (le : j ≤ i). ⊎_elim (λ (lt : j < i). absurd (tree.distinct j i lt in_i (sym same))) (λ (ge : i ≤ j). let e : i ≡ j = omega arith in e) (cases_lt j i)) (cases_lt i j)
+
+first_with : (rows : List Row) (k : ℕ) (o : Option ℕ) → IsTree rows → k < length rows → place_of rows (name_at rows k) ≡ o → o ≡ Some k
+first_with rows k None tree within is = absurd (place_of-none rows (name_at rows k) is k (record { name = []; leaf = None }) within refl)
+first_with rows k (Some place) tree within is =
+    let found = place_of-found rows (name_at rows k) place is in
+    ap (λ n. Some n) (one_place rows place k tree found.0 within found.1)
+
+-- in a tree the first row with a row's name is that row
+pub place_of-own : (rows : List Row) (k : ℕ) → IsTree rows → k < length rows → place_of rows (name_at rows k) ≡ Some k
+place_of-own rows k tree within = first_with rows k (place_of rows (name_at rows k)) tree within refl
+
+above_is : (rows : List Row) (k : ℕ) (parent : List ℕ) → IsTree rows → k < length rows → (j : ℕ) × (j < k) × IsStructureNamed parent (row_at rows j) → IsSomeAnd (place_of rows parent) (λ above. (above < k) × (leaf_at rows above ≡ None))
+above_is rows k parent tree within w =
+    let named : name_at rows w.0 ≡ parent = w.2.named in
+    let own : place_of rows parent ≡ Some w.0 = sym (ap (place_of rows) named) ∙ place_of-own rows w.0 tree (omega (arith, w.1)) in
+    rw own (w.1, w.2.structure)
+
+pub IsInPlace-tree : (rows : List Row) (k : ℕ) → k < length rows → IsTree rows → IsInPlace rows k
+IsInPlace-tree rows k within tree = record {
+  first = place_of-own rows k tree within;
+  below = IfSome-weaken (parent_of (name_at rows k)) (λ parent. (j : ℕ) × (j < k) × IsStructureNamed parent (row_at rows j)) (λ parent. IsSomeAnd (place_of rows parent) (λ above. (above < k) × (leaf_at rows above ≡ None))) (λ parent w. above_is rows k parent tree within w) (tree.parents k within);
+}
+
+pub first_is : (o : Option ℕ) (first place : ℕ) → o ≡ Some first → IsTrue (first == place) ↔ (o ≡ Some place)
+first_is o first place is =
+    ⊎_elim (λ (same : (first == place ≡ true) × (first ≡ place)). (λ _. is ∙ ap (λ n. Some n) same.1, λ _. same.0))
+    (λ (other : (first == place ≡ false) × (first ≢ place)). (λ e. absurd cc, λ some. let one : first ≡ place = cc in absurd (other.1 one))) (eqb_tells first place)
+
+pub none_is : (o : Option ℕ) (place : ℕ) → o ≡ None → IsTrue false ↔ (o ≡ Some place)
+none_is o place is = (λ e. absurd cc, λ some. absurd cc)

@@ -1,6 +1,6 @@
 -- The rows of a tree: named values in one list, each structure before what stands in it (IEC 61850-8-1, the
 -- mapping of names to MMS named variables, whose words are parted by `$`).
-use Rattle.std.specs.Prelude.{◌≡◌, ◌≢◌, ℕ, ◌+◌, ◌<◌, Option, Some, None, option_map, option_and_then, IfSome, List, [], ◌∷◌, length, map, filter, find, drop, slice_index_or, slice_set, position, All, Any, if◌then◌else◌}
+use Rattle.std.specs.Prelude.{◌≡◌, ◌≢◌, ℕ, ◌+◌, ◌<◌, Option, Some, None, option_map, option_and_then, IfSome, IsSomeAnd, List, [], ◌∷◌, length, map, filter, find, drop, slice_index_or, slice_set, position, if◌then◌else◌}
 use Rattle.std.specs.List.{position_from}
 use Rattle.std.specs.Str.{bytes_eq}
 use Rattle.bay_tree.specs.declared.row.Row.{Row}
@@ -29,11 +29,6 @@ pub record IsTree (rows : List Row) : Type 0 where
   pub distinct : (i j : ℕ) → i < j → j < length rows → name_at rows i ≢ name_at rows j
   pub parents : (k : ℕ) → k < length rows → IfSome (parent_of (name_at rows k)) (λ parent. (j : ℕ) × (j < k) × IsStructureNamed parent (row_at rows j))
 
--- a row can stand behind others: none has its name, and its parent is a structure among them
-pub record CanFollow (earlier : List Row) (row : Row) : Type 0 where
-  pub distinct : All (λ other. other.name ≢ row.name) earlier
-  pub parent : IfSome (parent_of row.name) (λ parent. Any (IsStructureNamed parent) earlier)
-
 -- a handle is a row's place
 abbrev pub IsHandle : List Row → ℕ → Type 0
 IsHandle rows handle = handle < length rows
@@ -41,6 +36,14 @@ IsHandle rows handle = handle < length rows
 -- where the row of a name stands
 abbrev pub place_of : List Row → List ℕ → Option ℕ
 place_of rows name = position (λ row. bytes_eq row.name name) rows
+
+-- the values at handles, in their order
+abbrev pub leaves_at : List Row → List ℕ → List (Option Leaf)
+leaves_at rows handles = map (leaf_at rows) handles
+
+-- a row's name has no parent, or the first row with the parent's name is a structure before the row
+abbrev pub IsBelowStructure : List Row → ℕ → Type 0
+IsBelowStructure rows place = IfSome (parent_of (name_at rows place)) (λ parent. IsSomeAnd (place_of rows parent) (λ above. (above < place) × (leaf_at rows above ≡ None)))
 
 -- the kind of a row's value; a structure has none
 abbrev pub kind_at : List Row → ℕ → Option Kind

@@ -2,12 +2,16 @@
 // a leaf with a typed value (IEC 61850-8-1, mapping of names to MMS named variables).
 //
 // Handed out: `tree` (the tree and its calls), `row` and `leaf` (what it is built of and holds), `page`
-// (a page of names), `fault`, `search` (whether rows make a tree), `name` (the words of a name).
+// (a page of names), `fault`, `search` (whether rows make a tree), `laws` (what a write leaves). Inside:
+// `node` (the rows as an arena, each with its links), `index` (the places of names), `name` (a name with its last word).
 #![tactic(auto)]
 
 pub mod fault;
+mod index;
+pub mod laws;
 pub mod leaf;
-pub mod name;
+mod name;
+mod node;
 pub mod page;
 pub mod row;
 pub mod search;

@@ -1,7 +1,53 @@
 // Names, whose words are parted by `$`.
 ghost use Rattle.std.specs.Prelude.{◌≡◌};
 ghost use Rattle.std.specs.Option.{option_copied};
-ghost use Rattle.bay_tree.specs.Names.{IsNamed, parent_of, word_of, is_below};
+ghost use Rattle.bay_tree.specs.Names.{IsNamed, IsWordAt, parent_of, word_of};
+
+use bay_base::text::Text;
+use std::marker::Model;
+
+/// A name, which contracts see as the list of its octets, with the place of its last word.
+#[derive(Debug, Drop)]
+pub struct Name {
+    text: Text,
+    word: usize,
+}
+
+impl Model for Name {
+    ghost use Rattle.std.specs.Prelude.{List, ℕ};
+    ghost use Rattle.bay_tree.specs.Names.{IsWordAt};
+
+    ghost Value = { List ℕ };
+
+    ghost view = { λ n. n.text };
+
+    ghost invariant = { λ n. IsWordAt n.text n.word };
+}
+
+impl Name {
+    /// The name that a text is.
+    pub fn new(text: Text) -> Self
+        ensures { result ≡ text }
+    {
+        let word = word_start(text.as_str());
+        Name { text, word }
+    }
+
+    /// The name as it stands.
+    pub fn as_str(&self) -> &str
+        ensures { result.now ≡ self.now }
+    {
+        self.text.as_str()
+    }
+
+    /// The last word.
+    pub fn word(&self) -> &str
+        ensures word { result.now ≡ word_of self.now }
+        ensures named { IsNamed (parent_of self.now) result.now self.now }
+    {
+        &self.text.as_str()[self.word..]
+    }
+}
 
 /// The parent's name: what stands before the last `$`; None for a name of one word.
 pub fn parent(name: &str) -> Option<&str>
@@ -14,7 +60,7 @@ pub fn parent(name: &str) -> Option<&str>
 }
 
 /// The last word.
-pub fn last_word(name: &str) -> &str
+fn last_word(name: &str) -> &str
     ensures word { result.now ≡ word_of name.now }
     ensures named { IsNamed (parent_of name.now) result.now name.now }
 {
@@ -24,12 +70,9 @@ pub fn last_word(name: &str) -> &str
     }
 }
 
-/// Whether the name is the parent's, `$` and one word.
-pub fn is_below(name: &str, above: &str) -> bool
-    ensures { result ≡ is_below above.now name.now }
+/// Where the last word begins.
+fn word_start(name: &str) -> usize
+    ensures { IsWordAt name.now result }
 {
-    match parent(name) {
-        Some(own) => own == above,
-        None => false,
-    }
+    name.len() - last_word(name).len()
 }

@@ -1,8 +1,9 @@
 // Pages of names.
 ghost use Rattle.std.specs.Prelude.{◌≡◌, take, IfOk};
 ghost use Rattle.bay_tree.specs.Rows.{names_of};
+ghost use Rattle.bay_tree.specs.Arena.{rows_of};
 
-use crate::row::Row;
+use crate::node::Node;
 use bay_base::listing::Listing;
 use bay_base::text::Text;
 use std::alloc::{AllocError, Global};
@@ -15,25 +16,29 @@ pub struct Names {
     pub more: bool,
 }
 
-/// The first rows, as many as there are up to the count.
-fn first_rows(rows: &[Row], count: usize) -> &[Row]
-    ensures { result.now ≡ take count rows.now }
+/// The first nodes, as many as there are up to the count.
+fn first_nodes(nodes: &[Node], count: usize) -> &[Node]
+    ensures { result.now ≡ take count nodes.now }
 {
-    if count < rows.len() {
-        &rows[..count]
+    if count < nodes.len() {
+        &nodes[..count]
     } else {
-        rows
+        nodes
     }
 }
 
-/// Copies of the names of the first rows, as many as there are up to the count.
-pub fn first_names(alloc: Global, rows: &[Row], count: usize) -> Result<Vec<Text>, AllocError>
-    ensures { IfOk result (λ names. names.items ≡ names_of (take count rows.now)) }
+/// Copies of the names of the first nodes, as many as there are up to the count.
+pub(crate) fn first_names(
+    alloc: Global,
+    nodes: &[Node],
+    count: usize,
+) -> Result<Vec<Text>, AllocError>
+    ensures { IfOk result (λ names. names.items ≡ names_of (rows_of (take count nodes.now))) }
 {
-    let first = first_rows(rows, count);
+    let first = first_nodes(nodes, count);
     let mut names = Vec::with_capacity(alloc, first.len())?;
-    for row in first {
-        names.push(Text::from_str(alloc, row.name.as_str())?)?;
+    for node in first {
+        names.push(Text::from_str(alloc, node.name.as_str())?)?;
     }
     Ok(names)
 }

@@ -1,5 +1,5 @@
 // The tree as a list of rows.
-ghost use Rattle.std.specs.Prelude.{◌≡◌, ◌≢◌, ◌<◌, All, ◌≤◌, ◌↔◌, length, drop, map, Some, Ok, Err, IfOk, IsOk, OnOk, OnErr, IfErr, IfSome, IsTrue};
+ghost use Rattle.std.specs.Prelude.{ℕ, ◌≡◌, ◌≢◌, ◌<◌, All, ◌≤◌, ◌↔◌, length, drop, map, Some, Ok, Err, IfOk, IsOk, OnOk, OnErr, IfErr, IfSome, IsTrue};
 ghost use Rattle.std.specs.Option.{ok_or, option_copied};
 ghost use Rattle.bay_tree.specs.Names.{IsNamed, parent_of, word_of};
 ghost use Rattle.bay_tree.specs.Rows.{IsTree, IsHandle, place_of, name_at, leaf_at, leaf_of, kind_at, names_of, kinds_of, with_leaf, with_leaf_of, first_below_from, first_below, next_beside, places_below, places_behind, places_since};
@@ -7,11 +7,11 @@ ghost use Rattle.bay_tree.specs.Kinds.{kind_of};
 ghost use Rattle.bay_tree.specs.Page.{page_after, start_after, IsUnknown};
 
 use crate::fault::{NamesFault, TreeFault};
+use crate::index::{Index, index_of};
 use crate::leaf::{Kind, Leaf};
-use crate::name::{last_word, parent};
+use crate::node::{Node, link, nodes_of};
 use crate::page::{Names, first_names};
 use crate::row::Row;
-use crate::search::{first_below_from, place_of, start_after};
 use bay_base::listing::Listing;
 use std::alloc::{AllocError, Global};
 use std::marker::Model;
@@ -35,19 +35,20 @@ impl Model for Handle {
 /// The tree of named values of one logical device, which contracts see as the list of its rows.
 #[derive(Debug, Drop)]
 pub struct Tree {
-    rows: Vec<Row>,
+    nodes: Vec<Node>,
+    index: Index,
 }
 
 impl Model for Tree {
     ghost use Rattle.std.specs.Prelude.{List};
     ghost use Rattle.bay_tree.specs.declared.row.Row.{Row};
-    ghost use Rattle.bay_tree.specs.Rows.{IsTree};
+    ghost use Rattle.bay_tree.specs.Arena.{IsArena, rows_of};
 
     ghost Value = { List Row };
 
-    ghost view = { λ t. t.rows.items };
+    ghost view = { λ t. rows_of t.nodes.items };
 
-    ghost invariant = { λ t. IsTree t.rows.items };
+    ghost invariant = { λ t. IsArena t.nodes.items t.index };
 }
 
 /// Gives a place a value. A plain value that follows one of its own type is written over it, which saves the move of a whole leaf.
@@ -82,11 +83,14 @@ fn put_leaf(place: &mut Option<Leaf>, leaf: Leaf)
 
 impl Tree {
     /// The tree of these rows, in their order.
-    pub fn build(_alloc: Global, rows: Vec<Row>) -> Result<Self, AllocError>
+    pub fn build(alloc: Global, rows: Vec<Row>) -> Result<Self, AllocError>
         requires { IsTree rows.items }
         ensures { IfOk result (λ tree. tree ≡ rows.items) }
     {
-        Ok(Tree { rows })
+        let index = index_of(alloc, rows.as_slice())?;
+        let mut nodes = nodes_of(alloc, rows)?;
+        link(&mut nodes, &index);
+        Ok(Tree { nodes, index })
     }
 
     /// The handle of the row with this name.
@@ -96,9 +100,24 @@ impl Tree {
         ensures value { IfOk result (λ handle. leaf_at self.now handle ≡ leaf_of name.now self.now) }
         ensures unknown { (result ≡ Err TreeFault.NoSuchName) ↔ All (λ row. row.name ≢ name.now) self.now }
     {
-        match place_of(self.rows.as_slice(), name) {
-            Some(index) => Ok(Handle { index }),
+        match self.index.get(name) {
+            Some(index) => Ok(Handle { index: *index }),
             None => Err(TreeFault::NoSuchName),
+        }
+    }
+
+    /// The handle of the row with this name, as octets: what is no text names nothing.
+    pub fn find_octets(&self, name: &[u8]) -> Result<Handle, TreeFault>
+        ensures place { result ≡ ok_or (place_of self.now name.now) TreeFault.NoSuchName }
+        ensures found { IfOk result (λ handle. IsHandle self.now handle × (name_at self.now handle ≡ name.now)) }
+        ensures value { IfOk result (λ handle. leaf_at self.now handle ≡ leaf_of name.now self.now) }
+        ensures unknown { (result ≡ Err TreeFault.NoSuchName) ↔ All (λ row. row.name ≢ name.now) self.now }
+    {
+        // That each row's name is a text is known of the tree's parts alone.
+        let _ = &self.nodes;
+        match str::from_utf8(name) {
+            Ok(text) => self.find(text),
+            Err(_) => Err(TreeFault::NoSuchName),
         }
     }
 
@@ -109,7 +128,7 @@ impl Tree {
         ensures value { option_copied result ≡ leaf_at self.now handle }
         ensures named { option_copied result ≡ leaf_of (name_at self.now handle) self.now }
     {
-        self.rows[handle.index].leaf.as_ref()
+        self.nodes[handle.index].leaf.as_ref()
     }
 
     /// Whether a row has a value of this kind.
@@ -134,6 +153,7 @@ impl Tree {
         ensures err { IfErr result (λ fault. (fault ≡ TreeFault.WrongType) × (self.new ≡ self.old)) }
 
         // Handles stay good: each row keeps its place, its name and its value's type.
+        ensures good { (row : ℕ) → IsHandle self.old row → IsHandle self.new row }
         ensures handles { length self.new ≡ length self.old }
         ensures names { names_of self.new ≡ names_of self.old }
         ensures kinds { kinds_of self.new ≡ kinds_of self.old }
@@ -141,7 +161,7 @@ impl Tree {
         if !self.has_kind(handle, leaf.kind()) {
             return Err(TreeFault::WrongType);
         }
-        put_leaf(&mut self.rows[handle.index].leaf, leaf);
+        put_leaf(&mut self.nodes[handle.index].leaf, leaf);
         Ok(())
     }
 
@@ -152,7 +172,7 @@ impl Tree {
         ensures rows { places_below self.now (name_at self.now handle) ≡ places_since self.now (name_at self.now handle) result }
         ensures after { IfSome result (λ row. (handle < row) × IsHandle self.now row) }
     {
-        let index = first_below_from(self.rows.as_slice(), handle.index + 1, self.name(handle))?;
+        let index = self.nodes[handle.index].below?;
         Some(Handle { index })
     }
 
@@ -163,9 +183,16 @@ impl Tree {
         ensures rows { IfSome (parent_of (name_at self.now handle)) (λ parent. places_behind self.now parent handle ≡ places_since self.now parent result) }
         ensures after { IfSome result (λ row. (handle < row) × IsHandle self.now row) }
     {
-        let above = parent(self.name(handle))?;
-        let index = first_below_from(self.rows.as_slice(), handle.index + 1, above)?;
+        let index = self.nodes[handle.index].beside?;
         Some(Handle { index })
+    }
+
+    /// The name of a row.
+    pub fn name(&self, handle: Handle) -> &str
+        requires { IsHandle self.now handle }
+        ensures { result.now ≡ name_at self.now handle }
+    {
+        self.nodes[handle.index].name.as_str()
     }
 
     /// The last word of a row's name.
@@ -174,37 +201,57 @@ impl Tree {
         ensures word { result.now ≡ word_of (name_at self.now handle) }
         ensures named { IsNamed (parent_of (name_at self.now handle)) result.now (name_at self.now handle) }
     {
-        last_word(self.name(handle))
+        self.nodes[handle.index].name.word()
     }
 
     /// The first names that follow a row's, or the first of all where no name is given, and whether there are
     /// more. Want of memory changes nothing.
-    pub fn names_after(
-        &self,
-        alloc: Global,
-        after: Option<&str>,
-        count: usize,
-    ) -> Result<Names, NamesFault>
+    pub fn names_after(&self, after: Option<&str>, count: usize) -> Result<Names, NamesFault>
         ensures page { IfOk result (λ page. page ≡ page_after self.now (option_copied after.entry) count) }
         ensures unknown { (result ≡ Err NamesFault.NoSuchName) ↔ IsUnknown self.now (option_copied after.entry) }
     {
-        let start = match start_after(self.rows.as_slice(), after) {
+        let start = match self.start_after(after) {
             Some(start) => start,
             None => return Err(NamesFault::NoSuchName),
         };
-        let rest = &self.rows.as_slice()[start..];
-        let names = first_names(alloc, rest, count)?;
+        let rest = &self.nodes.as_slice()[start..];
+        let names = first_names(*self.nodes.allocator(), rest, count)?;
         Ok(Names {
             names: Listing::new(names),
             more: count < rest.len(),
         })
     }
 
-    /// The name of a row.
-    fn name(&self, handle: Handle) -> &str
-        requires { IsHandle self.now handle }
-        ensures { result.now ≡ name_at self.now handle }
+    /// The same after a name that is given as octets: what is no text is the name of no row.
+    pub fn names_after_octets(
+        &self,
+        after: Option<&[u8]>,
+        count: usize,
+    ) -> Result<Names, NamesFault>
+        ensures page { IfOk result (λ page. page ≡ page_after self.now (option_copied after.entry) count) }
+        ensures unknown { (result ≡ Err NamesFault.NoSuchName) ↔ IsUnknown self.now (option_copied after.entry) }
     {
-        self.rows[handle.index].name.as_str()
+        let name = match after {
+            None => return self.names_after(None, count),
+            Some(name) => name,
+        };
+        match self.find_octets(name) {
+            Ok(row) => self.names_after(Some(self.name(row)), count),
+            Err(_) => Err(NamesFault::NoSuchName),
+        }
+    }
+
+    /// Where the rows after a name begin; without a name at the first.
+    fn start_after(&self, after: Option<&str>) -> Option<usize>
+        ensures start { result ≡ start_after self.now (option_copied after.entry) }
+        ensures within { IfSome result (λ start. start ≤ length self.now) }
+    {
+        match after {
+            None => Some(0),
+            Some(name) => match self.index.get(name) {
+                Some(place) => Some(*place + 1),
+                None => None,
+            },
+        }
     }
 }

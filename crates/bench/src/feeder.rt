@@ -2,7 +2,8 @@
 ghost use Rattle.std.specs.Prelude.{◌≤◌, length, IfOk, IfSome};
 
 use bay_transport::fault::TransportFault;
-use bay_transport::transport::{Fed, Got, Transport};
+use bay_transport::fed::{Fed, Got};
+use bay_transport::transport::Transport;
 use std::alloc::Global;
 
 // A request for a connection with TPDUs of 8,192 octets.
@@ -29,10 +30,10 @@ fn turn(
 {
     let Fed { used, got } = transport.feed(piece)?;
     match got {
-        Got::More | Got::Answer(_) => Ok(Some(used)),
-        Got::Tsdu(octets) => {
+        Got::More | Got::Answer => Ok(Some(used)),
+        Got::Tsdu => {
             counts.tsdus = counts.tsdus.saturating_add(1);
-            counts.octets = counts.octets.saturating_add(octets.len() as u64);
+            counts.octets = counts.octets.saturating_add(transport.shown().len() as u64);
             Ok(Some(used))
         }
         Got::Ended => Ok(None),
@@ -70,7 +71,7 @@ pub fn fed(alloc: Global, size: usize, octets: u64) -> Result<Counts, TransportF
     feed_all(&mut transport, REQUEST, size, &mut counts)?;
     let tsdu = vec![in alloc; 7; TSDU]?;
     let frames = match transport.agreed_size() {
-        Some(_) => transport.wrap(tsdu.as_slice())?,
+        Some(_) => transport.wrap(&[], tsdu.as_slice())?,
         None => return Err(TransportFault::Failed),
     };
     for _ in 0..octets / TSDU as u64 {

@@ -6,7 +6,8 @@ use bay_assoc::assoc::Assoc;
 use bay_assoc::hearing::Heard;
 use bay_mms::request::{Call, Request, read_request};
 use bay_mms::response::{Response, Service, write_response};
-use bay_transport::transport::{Fed, Got, Transport};
+use bay_transport::fed::{Fed, Got};
+use bay_transport::transport::Transport;
 use std::alloc::Global;
 
 /// A connection, and what it did: S and the octets that were sent, A for an abort, E for an end, F and a fault's number.
@@ -79,23 +80,6 @@ fn heard(alloc: Global, assoc: &mut Assoc, tsdu: &[u8], log: &mut Vec<u8>) -> Re
     }
 }
 
-/// What is done of what octets have come to.
-fn answer_to(alloc: Global, assoc: &mut Assoc, got: Got<'_>, log: &mut Vec<u8>) -> Result<Reply> {
-    match got {
-        Got::More => Ok(Reply::Nothing),
-        Got::Answer(octets) => {
-            log.push(b'S')?;
-            log.extend_from_slice(octets)?;
-            Ok(Reply::Nothing)
-        }
-        Got::Tsdu(tsdu) => heard(alloc, assoc, tsdu, log),
-        Got::Ended => {
-            log.push(b'E')?;
-            Ok(Reply::Over)
-        }
-    }
-}
-
 impl Connection {
     /// A connection under the number 1.
     pub fn new(alloc: Global) -> Connection {
@@ -116,10 +100,30 @@ impl Connection {
         if self.transport.agreed_size().is_none() || tsdu.len() > 70_000 {
             bail!("a TSDU that may not be sent");
         }
-        let frames = self.transport.wrap(tsdu)?;
+        let frames = self.transport.wrap(&[], tsdu)?;
         self.log.push(b'S')?;
         self.log.extend_from_slice(frames.as_slice())?;
         Ok(())
+    }
+
+    /// What is done of what octets have come to.
+    fn answer_to(&mut self, got: Got) -> Result<Reply> {
+        match got {
+            Got::More => Ok(Reply::Nothing),
+            Got::Answer => {
+                self.log.push(b'S')?;
+                self.log.extend_from_slice(self.transport.shown())?;
+                Ok(Reply::Nothing)
+            }
+            Got::Tsdu => {
+                let tsdu = self.transport.shown();
+                heard(self.alloc, &mut self.assoc, tsdu, &mut self.log)
+            }
+            Got::Ended => {
+                self.log.push(b'E')?;
+                Ok(Reply::Over)
+            }
+        }
     }
 
     /// Takes a piece up to what it completes first: how many octets were taken, or none where the connection is over.
@@ -127,12 +131,7 @@ impl Connection {
         ensures { IfOk result (λ taken. IfSome taken (λ used. used ≤ length piece.now)) }
     {
         let (used, reply) = match self.transport.feed(piece) {
-            Ok(Fed { used, got }) => {
-                (
-                    used,
-                    answer_to(self.alloc, &mut self.assoc, got, &mut self.log)?,
-                )
-            }
+            Ok(Fed { used, got }) => (used, self.answer_to(got)?),
             Err(fault) => {
                 self.log
                     .extend_from_slice(&[b'F', fault.code().unwrap_or(0)])?;

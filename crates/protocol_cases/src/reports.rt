@@ -2,8 +2,9 @@
 use crate::rows::position_of;
 use crate::written::is_written;
 use anyhow::{Result, bail};
+use bay_mms::control::{Operate, Origin};
 use bay_mms::page::{name_length, page_length};
-use bay_mms::report::{ControlError, Operate, Origin, write_failure, write_termination};
+use bay_mms::report::{ControlError, write_failure, write_termination};
 use cases::octets::octets_of;
 use cases::words::{first_word, truth_of};
 use std::alloc::Global;
@@ -17,12 +18,15 @@ fn failure_of<'a>(
     number: u8,
     cause: u8,
 ) -> Result<Vec<u8>> {
-    let origin = Origin { category, identity };
+    let origin = Origin {
+        or_cat: category,
+        or_ident: identity,
+    };
     let failure = ControlError {
         object,
         origin,
-        number,
-        cause,
+        ctl_num: number,
+        add_cause: cause,
     };
     Ok(write_failure(alloc, &failure)?)
 }
@@ -63,11 +67,11 @@ fn operate_of<'a>(
     let (moment, rest) = first_word(rest);
     let (is_test, check) = first_word(rest);
     Ok(Operate {
-        value: truth_of(value)?,
+        ctl_val: truth_of(value)?,
         origin,
-        number: number.parse::<u8>()?,
-        moment: moment_of(alloc, moment)?,
-        is_test: truth_of(is_test)?,
+        ctl_num: number.parse::<u8>()?,
+        t: moment_of(alloc, moment)?,
+        test: truth_of(is_test)?,
         check: position_of(check)?,
     })
 }
@@ -84,8 +88,8 @@ pub fn is_termination(alloc: Global, words: &str) -> Result<bool> {
     let category = category.parse::<i8>()?;
     let identity = octets_of(alloc, identity)?;
     let origin = Origin {
-        category,
-        identity: identity.as_slice(),
+        or_cat: category,
+        or_ident: identity.as_slice(),
     };
     let operate = operate_of(alloc, value, origin, rest)?;
     let written = write_termination(alloc, domain, item, &operate)?;

@@ -114,7 +114,7 @@ impl Rows {
     pub fn tree(&mut self) -> Result<&Tree> {
         if self.tree.is_none() {
             let rows = std::mem::replace(&mut self.rows, Vec::new(self.alloc));
-            if !is_tree(rows.as_slice()) {
+            if !is_tree(self.alloc, rows.as_slice())? {
                 bail!("these rows are no tree");
             }
             self.tree = Some(Tree::build(self.alloc, rows)?);

@@ -2,7 +2,8 @@
 ghost use Rattle.std.specs.Prelude.{◌≤◌, length, IfOk, IfSome};
 
 use anyhow::{Result, bail};
-use bay_transport::transport::{Fed, Got, Transport};
+use bay_transport::fed::{Fed, Got};
+use bay_transport::transport::Transport;
 use cases::octets::{is_spelled, octets_of};
 use cases::words::first_word;
 use std::alloc::{AllocError, Global};
@@ -20,13 +21,13 @@ fn turn(
         Ok(Fed { used, got }) => {
             match got {
                 Got::More => {}
-                Got::Answer(octets) => {
+                Got::Answer => {
                     log.push(b'A')?;
-                    log.extend_from_slice(octets)?;
+                    log.extend_from_slice(transport.shown())?;
                 }
-                Got::Tsdu(octets) => {
+                Got::Tsdu => {
                     log.push(b'T')?;
-                    log.extend_from_slice(octets)?;
+                    log.extend_from_slice(transport.shown())?;
                 }
                 Got::Ended => {
                     log.push(b'E')?;
@@ -153,7 +154,7 @@ fn frames_of(transport: &Transport, tsdu: &[u8]) -> Result<Vec<u8>> {
     if transport.agreed_size().is_none() || tsdu.len() > 70_000 {
         bail!("a TSDU that may not be sent");
     }
-    Ok(transport.wrap(tsdu)?)
+    Ok(transport.wrap(&[], tsdu)?)
 }
 
 /// Whether a TSDU is read back from frames.

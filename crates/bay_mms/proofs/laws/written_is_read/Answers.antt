@@ -1,4 +1,5 @@
 use Rattle.bay_mms.proofs.LawLemmas.{datum_spells, response_spells, report_spells}
+use Rattle.bay_mms.proofs.PlainLemmas.{plain_read}
 use Rattle.bay_mms.proofs.laws.written_is_read.Goals as goal
 
 pub returns-clause-datum : goal.returns-clause-datum
@@ -9,3 +10,6 @@ returns-clause-response c = response_spells
 
 pub returns-clause-report : goal.returns-clause-report
 returns-clause-report c = report_spells
+
+pub returns-clause-received : goal.returns-clause-received
+returns-clause-received c = plain_read

@@ -1,15 +1,28 @@
-use Rattle.std.proofs.Common.{arith}
-use Rattle.bay_transport.proofs.WrapLemmas.{wrapped_step, wrapped_end, carries}
+use Rattle.std.proofs.Common.{◌≡◌, ◌++◌, ◌-◌, length, arith}
+use Rattle.std.proofs.lemmas.List.{take_rest, length-append}
+use Rattle.bay_transport.specs.Wrap.{wrapped}
+use Rattle.bay_transport.proofs.WrapLemmas.{wrapped_front, wrapped_alone, carries}
 use Rattle.bay_transport.proofs.wrap.wrap.Goals as goal
 
-pub loop-at-preserved : goal.loop-at-preserved
-loop-at-preserved c =
-    (omega arith, wrapped_step c.args.size c.loop-at.at c.args.tsdu.now c.loop-at.out.items c.append.new.out.items (omega (arith, c.requires.size.some)) c.loop-at.invariant.0 c.loop-at-test.true c.in_ok-append.ensures c.loop-at.invariant.1)
+alone : (c : goal.In_ok-append) → c.append.new.out.items ≡ wrapped c.args.size (c.args.front.now ++ c.args.rest.now)
+alone c =
+    rw (c.in_ok-append.ensures, c.in_ok-out.ensures.items) (wrapped_alone c.args.size c.args.front.now c.args.rest.now (omega (arith, c.requires.size.some)) (omega (arith, c.requires.size.some, c.requires.front)) c.if-rest-first.true)
+
+several : (c : goal.In_ok-append_all) → c.append_all.new.out.items ≡ wrapped c.args.size (c.args.front.now ++ c.args.rest.now)
+several c =
+    wrapped_front c.args.size c.args.front.now c.args.rest.now c.append-2.new.out.items c.append_all.new.out.items (omega (arith, c.requires.size.some)) (omega (arith, c.requires.size.some, c.requires.front)) c.if-rest-first.false (rw c.in_ok-out.ensures.items at c.in_ok-append-2.ensures)
+    (rw (take_rest c.args.rest.now (c.args.size - 3 - length c.args.front.now)) at c.in_ok-append_all.ensures)
+
+pub returns-then-rest-first-clause-exact : goal.returns-then-rest-first-clause-exact
+returns-then-rest-first-clause-exact c = alone c
 
 pub returns-clause-exact : goal.returns-clause-exact
-returns-clause-exact c =
-    wrapped_end c.args.size c.loop-at.at c.args.tsdu.now c.loop-at.out.items c.append-2.new.out.items (omega (arith, c.requires.size.some)) c.loop-at.invariant.0 c.loop-at-test.false c.in_ok-append-2.ensures c.loop-at.invariant.1
+returns-clause-exact c = several c
+
+pub returns-then-rest-first-clause-carries : goal.returns-then-rest-first-clause-carries
+returns-then-rest-first-clause-carries c =
+    carries c.args.size (c.args.front.now ++ c.args.rest.now) c.append.new.out.items (omega (arith, c.requires.size.some)) (omega (arith, length-append c.args.front.now c.args.rest.now, c.requires.short)) (alone c)
 
 pub returns-clause-carries : goal.returns-clause-carries
 returns-clause-carries c =
-    carries c.args.size c.args.tsdu.now c.append-2.new.out.items (omega (arith, c.requires.size.some)) c.requires.short (wrapped_end c.args.size c.loop-at.at c.args.tsdu.now c.loop-at.out.items c.append-2.new.out.items (omega (arith, c.requires.size.some)) c.loop-at.invariant.0 c.loop-at-test.false c.in_ok-append-2.ensures c.loop-at.invariant.1)
+    carries c.args.size (c.args.front.now ++ c.args.rest.now) c.append_all.new.out.items (omega (arith, c.requires.size.some)) (omega (arith, length-append c.args.front.now c.args.rest.now, c.requires.short)) (several c)

@@ -1,16 +1,18 @@
-use Rattle.std.proofs.Common.{◌≡◌, sym, ◌∙◌, refl, arith}
-use Rattle.std.proofs.lemmas.List.{get_or_read}
-use Rattle.bay_tree.specs.Rows.{row_at}
-use Rattle.bay_tree.proofs.TreeLemmas.{IsTree-follow, CanFollow-tree}
+use Rattle.std.proofs.Common.{sym, ◌∙◌, refl, arith}
+use Rattle.bay_tree.proofs.TreeLemmas.{IsTree-in_place, IsInPlace-tree}
 use Rattle.bay_tree.proofs.search.is_tree.Goals as goal
+use Rattle.bay_tree.proofs.search.is_tree.Goals.{then-not-is_first-via-then-not-is_first, then-not-is_first-via-else-not-is_first+then-not-is_below_structure}
 
-pub returns-then-not-can_follow : goal.returns-then-not-can_follow
-returns-then-not-can_follow c =
-    let rows = c.args.rows.now in
-    let row : c.index-rows-index.result ≡ row_at rows c.loop-index.index = get_or_read rows c.loop-index.index _ c.loop-index-test.true c.index-rows-index.is _ in (
-      λ e. absurd cc,
-      λ tree. sym c.if-not-can_follow.true ∙ c.can_follow.ensures.1 (rw row (CanFollow-tree rows c.loop-index.index c.loop-index-test.true tree)),
-    )
+pub returns-then-not-is_first : goal.returns-then-not-is_first
+returns-then-not-is_first c = (
+  λ e. absurd cc,
+  λ tree.
+      let stands = IsInPlace-tree c.args.rows.now c.loop-place.place c.loop-place-test.true tree in
+      elim c.then-not-is_first.branch [
+        | then-not-is_first-via-then-not-is_first w ↦ sym w.if-not-is_first.true ∙ c.is_first.ensures.1 stands.first
+        | then-not-is_first-via-else-not-is_first+then-not-is_below_structure w ↦ sym w.if-not-is_below_structure.true ∙ w.is_below_structure.ensures.1 stands.below
+      ],
+)
 
 pub returns : goal.returns
-returns c = (λ _. IsTree-follow c.args.rows.now (λ k lt. c.loop-index.invariant k (omega arith)), λ _. refl)
+returns c = (λ _. IsTree-in_place c.args.rows.now (λ k lt. c.loop-place.invariant k (omega arith)), λ _. refl)

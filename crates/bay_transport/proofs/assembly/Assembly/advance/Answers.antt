@@ -1,7 +1,7 @@
 use Rattle.std.proofs.Common.{◌≡◌, ◌-◌, ◌∷◌, [], length, drop, ◌∙◌, arith}
 use Rattle.std.proofs.lemmas.List.{length-drop, take_rest}
 use Rattle.std.proofs.lemmas.Result.{err_from_is_err_and}
-use Rattle.bay_transport.specs.declared.assembly.Kind.TheVariants.{More}
+use Rattle.bay_transport.specs.declared.fed.Got.TheVariants.{More}
 use Rattle.bay_transport.specs.Doings.{Fails, run}
 use Rattle.bay_transport.specs.Assembly.{left_of, FailsWhere, Takes}
 use Rattle.bay_transport.proofs.AssemblyLemmas.{quiet_more, reaches_kind, refuses_later}

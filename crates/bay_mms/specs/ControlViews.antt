@@ -1,0 +1,28 @@
+-- Controls of the code, without where their octets lie in memory.
+use Rattle.std.specs.Prelude.{pos, Result, Ok, Err}
+use Rattle.bay_mms.specs.declared.control.Origin as origin
+use Rattle.bay_mms.specs.declared.control.Cancel as cancel
+use Rattle.bay_mms.specs.declared.control.Operate as operate
+use Rattle.bay_mms.specs.declared.shape.Shape.{Shape}
+use Rattle.bay_mms.specs.declared.fault.ControlFault.{ControlFault}
+use Rattle.bay_mms.specs.Controls.{Origin, Control, Operate}
+
+abbrev pub originating : origin.Origin → Origin
+originating o = record { or_cat = o.or_cat; or_ident = o.or_ident.now }
+
+abbrev pub cancelling : cancel.Cancel → Control
+cancelling c = record { ctl_val = c.ctl_val; origin = originating c.origin; ctl_num = pos c.ctl_num; t = c.t; test = c.test }
+
+abbrev pub operating : operate.Operate → Operate
+operating o = record {
+  control = record { ctl_val = o.ctl_val; origin = originating o.origin; ctl_num = pos o.ctl_num; t = o.t; test = o.test };
+  check = o.check;
+}
+
+abbrev pub shaping : Shape → Control
+shaping s = record { ctl_val = s.ctl_val; origin = record { or_cat = s.or_cat; or_ident = s.or_ident.now }; ctl_num = s.ctl_num; t = s.t; test = s.test }
+
+-- a result, seen through a view
+abbrev pub seen : {A B : Type 0} → (A → B) → Result A ControlFault → Result B ControlFault
+seen view (Ok x) = Ok (view x)
+seen view (Err fault) = Err fault

@@ -1,0 +1,170 @@
+-- What a control is asked for, and the data that this is (IEC 61850-7-2, Select, SelectWithValue, Operate and Cancel; IEC 61850-8-1,
+-- their mapping to SBOw, Oper and Cancel).
+use Rattle.std.specs.Prelude.{ℕ, ℤ, pos, negsuc, ◌≡◌, ◌*◌, ◌/◌, ◌==◌, ◌&&◌, Bool, false, List, [], ◌∷◌, length, Option, Some, None, Result, Ok, Err, nat_lt, if◌then◌else◌}
+use Rattle.bay_ber.specs.Options.{◌>>=◌}
+use Rattle.bay_tree.specs.declared.leaf.Dbpos.{Dbpos}
+use Rattle.bay_tree.specs.declared.leaf.Dbpos.TheVariants.{Intermediate, Off, On, Bad}
+use Rattle.bay_mms.specs.Data.{Datum, Data, structure, truth, bits, integer, unsigned, octets, utc, no_data, datum, position_octet}
+use Rattle.bay_mms.specs.declared.fault.ControlFault.{ControlFault}
+use Rattle.bay_mms.specs.declared.fault.ControlFault.TheVariants.{WrongShape, OutOfRange}
+
+-- who controls (IEC 61850-7-3, Originator): orCat and orIdent, in any range
+pub record Origin : Type 0 where
+  pub or_cat : ℤ
+  pub or_ident : List ℕ
+
+-- what Cancel has: ctlVal, origin, ctlNum, T and Test, in any range
+pub record Control : Type 0 where
+  pub ctl_val : Bool
+  pub origin : Origin
+  pub ctl_num : ℤ
+  pub t : List ℕ
+  pub test : Bool
+
+-- what SBOw and Oper have: Check behind these
+pub record Operate : Type 0 where
+  pub control : Control
+  pub check : Dbpos
+
+-- ---- their data
+
+abbrev pub origin_datum : Origin → Datum
+origin_datum o = structure (datum (integer o.or_cat) (datum (octets o.or_ident) no_data))
+
+-- the data of a control in front of others
+abbrev pub control_before : Control → Data → Data
+control_before c later = datum (truth c.ctl_val) (datum (origin_datum c.origin) (datum (unsigned c.ctl_num) (datum (utc c.t) (datum (truth c.test) later))))
+
+abbrev pub operate_datum : Operate → Datum
+operate_datum o = structure (control_before o.control (datum (bits (position_octet o.check ∷ []) 2) no_data))
+
+abbrev pub cancel_datum : Control → Datum
+cancel_datum c = structure (control_before c no_data)
+
+-- The two bits are the highest of the first octet; what is behind them is not looked at.
+pub record AreChecks (held : List ℕ) (check : Dbpos) : Type 0 where
+  pub first : ℕ
+  pub later : List ℕ
+  pub is : held ≡ first ∷ later
+  pub high : first / 64 * 64 ≡ position_octet check
+
+-- The data are an operate: those that it has, but for the octets of Check.
+pub record IsOperate (d : Datum) (o : Operate) : Type 0 where
+  pub held : List ℕ
+  pub checks : AreChecks held o.check
+  pub is : d ≡ structure (control_before o.control (datum (bits held 2) no_data))
+
+-- ---- what data are read as
+
+abbrev pub truth_as : Datum → Option Bool
+truth_as (truth value) = Some value
+truth_as d = None
+
+abbrev pub integer_as : Datum → Option ℤ
+integer_as (integer value) = Some value
+integer_as d = None
+
+abbrev pub unsigned_as : Datum → Option ℤ
+unsigned_as (unsigned value) = Some value
+unsigned_as d = None
+
+abbrev pub octets_as : Datum → Option (List ℕ)
+octets_as (octets value) = Some value
+octets_as d = None
+
+abbrev pub moment_as : Datum → Option (List ℕ)
+moment_as (utc value) = Some value
+moment_as d = None
+
+-- the position of two bits
+abbrev pub position_by : ℕ → Option Dbpos
+position_by two =
+    if two == 0 then Some Intermediate
+    else (if two == 1 then Some Off
+    else (if two == 2 then Some On
+    else (if two == 3 then Some Bad
+    else None)))
+
+-- the position that the two highest bits of an octet are
+abbrev pub position_of : ℕ → Option Dbpos
+position_of octet = position_by (octet / 64)
+
+abbrev pub first_position : List ℕ → Option Dbpos
+first_position [] = None
+first_position (first ∷ later) = position_of first
+
+-- two bits
+abbrev pub check_as : Datum → Option Dbpos
+check_as (bits held count) = if count == 2 then first_position held else None
+check_as d = None
+
+abbrev pub list_of : Data → List Datum
+list_of no_data = []
+list_of (datum first later) = first ∷ list_of later
+
+abbrev pub parts_as : Datum → Option (List Datum)
+parts_as (structure parts) = Some (list_of parts)
+parts_as d = None
+
+abbrev pub origin_of : List Datum → Option Origin
+origin_of (category ∷ identity ∷ []) = do
+  cat ← integer_as category
+  ident ← octets_as identity
+  Some (record { or_cat = cat; or_ident = ident })
+origin_of parts = None
+
+unfoldable pub origin_as : Datum → Option Origin
+origin_as d = parts_as d >>= origin_of
+
+unfoldable pub control_of : Datum → Datum → Datum → Datum → Datum → Option Control
+control_of value origin number moment test = do
+  val ← truth_as value
+  by ← origin_as origin
+  num ← unsigned_as number
+  time ← moment_as moment
+  flag ← truth_as test
+  Some (record { ctl_val = val; origin = by; ctl_num = num; t = time; test = flag })
+
+abbrev pub cancel_of : List Datum → Option Control
+cancel_of (value ∷ origin ∷ number ∷ moment ∷ test ∷ []) = control_of value origin number moment test
+cancel_of parts = None
+
+abbrev pub operate_of : List Datum → Option Operate
+operate_of (value ∷ origin ∷ number ∷ moment ∷ test ∷ check ∷ []) = do
+  control ← control_of value origin number moment test
+  position ← check_as check
+  Some (record { control = control; check = position })
+operate_of parts = None
+
+unfoldable pub cancel_as : Datum → Option Control
+cancel_as d = parts_as d >>= cancel_of
+
+unfoldable pub operate_as : Datum → Option Operate
+operate_as d = parts_as d >>= operate_of
+
+-- ---- ranges
+
+-- from -128 to 127
+abbrev pub is_category : ℤ → Bool
+is_category (pos n) = nat_lt n 128
+is_category (negsuc n) = nat_lt n 128
+
+-- from 0 to 255
+abbrev pub is_number : ℤ → Bool
+is_number (pos n) = nat_lt n 256
+is_number (negsuc n) = false
+
+-- whether a control is in range; an identity has at most 64 octets
+abbrev pub is_in_range : Control → Bool
+is_in_range c = is_number c.ctl_num && (is_category c.origin.or_cat && nat_lt (length c.origin.or_ident) 65)
+
+-- A control that is in range; data of another shape are told before one that is not.
+abbrev pub within : {A : Type 0} → (A → Control) → Option A → Result A ControlFault
+within control None = Err WrongShape
+within control (Some x) = if is_in_range (control x) then Ok x else Err OutOfRange
+
+abbrev pub operate_in : Datum → Result Operate ControlFault
+operate_in d = within (λ o. o.control) (operate_as d)
+
+abbrev pub cancel_in : Datum → Result Control ControlFault
+cancel_in d = within (λ c. c) (cancel_as d)

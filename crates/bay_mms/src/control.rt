@@ -1,0 +1,95 @@
+// Controls: what a client asks of them, out of the data that it writes (IEC 61850-8-1, SBOw, Oper and Cancel).
+ghost use Rattle.std.specs.Prelude.{◌≡◌, option_map, Some, None, if◌then◌else◌};
+ghost use Rattle.bay_mms.specs.Views.{datum_of};
+ghost use Rattle.bay_mms.specs.Controls.{is_in_range, operate_in, cancel_in};
+ghost use Rattle.bay_mms.specs.ControlViews.{cancelling, operating, shaping, seen};
+
+use crate::data::Data;
+use crate::fault::ControlFault;
+use crate::shape::{Shape, cancel_as, operate_as};
+use bay_tree::leaf::Dbpos;
+
+// An originator's identity has at most so many octets.
+const IDENTITY_MAX: usize = 64;
+
+/// Who controls (IEC 61850-7-3, Originator).
+#[derive(Clone, Copy, Debug)]
+pub struct Origin<'a> {
+    /// The category.
+    pub or_cat: i8,
+    /// The identity, at most 64 octets where it was read.
+    pub or_ident: &'a [u8],
+}
+
+/// What an enhanced select or an operate asks for (IEC 61850-8-1, SBOw and Oper).
+#[derive(Clone, Copy, Debug)]
+pub struct Operate<'a> {
+    /// On or off.
+    pub ctl_val: bool,
+    pub origin: Origin<'a>,
+    pub ctl_num: u8,
+    /// The eight octets of a utc-time.
+    pub t: [u8; 8],
+    pub test: bool,
+    /// The two bits of Check, as a position has them.
+    pub check: Dbpos,
+}
+
+/// What a cancel asks for (IEC 61850-8-1, Cancel).
+#[derive(Clone, Copy, Debug)]
+pub struct Cancel<'a> {
+    /// On or off, as in what is cancelled.
+    pub ctl_val: bool,
+    pub origin: Origin<'a>,
+    pub ctl_num: u8,
+    /// The eight octets of a utc-time.
+    pub t: [u8; 8],
+    pub test: bool,
+}
+
+// The control of this shape, if its numbers and its identity are in range.
+fn in_range<'a>(shape: &Shape<'a>) -> Option<Cancel<'a>>
+    ensures { option_map cancelling result ≡ (if is_in_range (shaping shape.now) then Some (shaping shape.now) else None) }
+{
+    let ctl_num = u8::try_from(shape.ctl_num).ok()?;
+    let or_cat = i8::try_from(shape.or_cat).ok()?;
+    if shape.or_ident.len() > IDENTITY_MAX {
+        return None;
+    }
+    Some(Cancel {
+        ctl_val: shape.ctl_val,
+        origin: Origin {
+            or_cat,
+            or_ident: shape.or_ident,
+        },
+        ctl_num,
+        t: shape.t,
+        test: shape.test,
+    })
+}
+
+/// The operate, or the enhanced select, that data are. WrongShape where they are of another shape: no six parts, a part of
+/// another kind, a T that has not eight octets, a Check that has not two bits. Then OutOfRange, where ctlNum is outside 0 to 255,
+/// orCat outside -128 to 127, or orIdent longer than 64 octets.
+pub fn operate_of<'a>(given: &Data<'a>) -> Result<Operate<'a>, ControlFault>
+    ensures { seen operating result ≡ operate_in (datum_of given.now) }
+{
+    let (shape, check) = operate_as(given).ok_or(ControlFault::WrongShape)?;
+    let control = in_range(&shape).ok_or(ControlFault::OutOfRange)?;
+    Ok(Operate {
+        ctl_val: control.ctl_val,
+        origin: control.origin,
+        ctl_num: control.ctl_num,
+        t: control.t,
+        test: control.test,
+        check,
+    })
+}
+
+/// The cancel that data are; with the faults of `operate_of`, over five parts, since a cancel has no Check.
+pub fn cancel_of<'a>(given: &Data<'a>) -> Result<Cancel<'a>, ControlFault>
+    ensures { seen cancelling result ≡ cancel_in (datum_of given.now) }
+{
+    let shape = cancel_as(given).ok_or(ControlFault::WrongShape)?;
+    in_range(&shape).ok_or(ControlFault::OutOfRange)
+}

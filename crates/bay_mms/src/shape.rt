@@ -1,0 +1,180 @@
+// The shape of controls: what data are read as, in any range.
+ghost use Rattle.std.specs.Prelude.{◌≡◌, option_map, Some, None};
+ghost use Rattle.bay_mms.specs.Views.{datum_of, data_in};
+ghost use Rattle.bay_mms.specs.Controls.{Operate, truth_as, integer_as, unsigned_as, octets_as, moment_as, position_of, check_as, parts_as, origin_of, origin_as, control_of, cancel_of, operate_of, cancel_as, operate_as};
+ghost use Rattle.bay_mms.specs.ControlViews.{shaping};
+
+use crate::data::Data;
+use bay_tree::leaf::Dbpos;
+
+/// A control whose numbers may be in any range, and whose identity of any length.
+#[derive(Clone, Copy)]
+pub struct Shape<'a> {
+    pub ctl_val: bool,
+    pub or_cat: i64,
+    pub or_ident: &'a [u8],
+    pub ctl_num: i64,
+    pub t: [u8; 8],
+    pub test: bool,
+}
+
+fn truth_as(given: &Data<'_>) -> Option<bool>
+    ensures { result ≡ truth_as (datum_of given.now) }
+{
+    match given {
+        Data::Truth(value) => Some(*value),
+        _ => None,
+    }
+}
+
+fn integer_as(given: &Data<'_>) -> Option<i64>
+    ensures { result ≡ integer_as (datum_of given.now) }
+{
+    match given {
+        Data::Integer(value) => Some(*value),
+        _ => None,
+    }
+}
+
+fn unsigned_as(given: &Data<'_>) -> Option<i64>
+    ensures { result ≡ unsigned_as (datum_of given.now) }
+{
+    match given {
+        Data::Unsigned(value) => Some(*value),
+        _ => None,
+    }
+}
+
+fn octets_as<'a>(given: &Data<'a>) -> Option<&'a [u8]>
+    ensures { option_map (λ octets. octets.now) result ≡ octets_as (datum_of given.now) }
+{
+    match given {
+        Data::Octets(value) => Some(value),
+        _ => None,
+    }
+}
+
+fn moment_as(given: &Data<'_>) -> Option<[u8; 8]>
+    ensures { result ≡ moment_as (datum_of given.now) }
+{
+    match given {
+        Data::Utc(value) => Some(*value),
+        _ => None,
+    }
+}
+
+// The position that the two highest bits of an octet are.
+fn position_of(octet: u8) -> Option<Dbpos>
+    ensures { result ≡ position_of octet }
+{
+    match octet / 64 {
+        0 => Some(Dbpos::Intermediate),
+        1 => Some(Dbpos::Off),
+        2 => Some(Dbpos::On),
+        3 => Some(Dbpos::Bad),
+        _ => None,
+    }
+}
+
+// Two bits (IEC 61850-8-1, Check).
+fn check_as(given: &Data<'_>) -> Option<Dbpos>
+    ensures { result ≡ check_as (datum_of given.now) }
+{
+    match given {
+        Data::Bits(bits) if bits.count == 2 => position_of(*bits.octets.first()?),
+        _ => None,
+    }
+}
+
+fn parts_as<'b, 'a>(given: &'b Data<'a>) -> Option<&'b [Data<'a>]>
+    ensures { option_map (λ parts. data_in parts.now) result ≡ parts_as (datum_of given.now) }
+{
+    match given {
+        Data::Structure(parts) => Some(parts.as_slice()),
+        _ => None,
+    }
+}
+
+fn origin_of<'a>(parts: &[Data<'a>]) -> Option<(i64, &'a [u8])>
+    ensures { option_map (λ origin. record { or_cat = origin.0; or_ident = origin.1.now }) result ≡ origin_of (data_in parts.now) }
+{
+    match parts {
+        [category, identity] => {
+            let category = integer_as(category)?;
+            let identity = octets_as(identity)?;
+            Some((category, identity))
+        }
+        _ => None,
+    }
+}
+
+#[tactic(auto, unfolding(crate::specs::Controls::origin_as))]
+fn origin_as<'a>(given: &Data<'a>) -> Option<(i64, &'a [u8])>
+    ensures { option_map (λ origin. record { or_cat = origin.0; or_ident = origin.1.now }) result ≡ origin_as (datum_of given.now) }
+{
+    origin_of(parts_as(given)?)
+}
+
+// A control of its value, its origin, its number, its moment and whether it is a test.
+#[tactic(auto, unfolding(crate::specs::Controls::control_of))]
+fn control_of<'a>(
+    value: &Data<'a>,
+    origin: &Data<'a>,
+    number: &Data<'a>,
+    moment: &Data<'a>,
+    test: &Data<'a>,
+) -> Option<Shape<'a>>
+    ensures { option_map shaping result ≡ control_of (datum_of value.now) (datum_of origin.now) (datum_of number.now) (datum_of moment.now) (datum_of test.now) }
+{
+    let ctl_val = truth_as(value)?;
+    let (or_cat, or_ident) = origin_as(origin)?;
+    let ctl_num = unsigned_as(number)?;
+    let t = moment_as(moment)?;
+    let test = truth_as(test)?;
+    Some(Shape {
+        ctl_val,
+        or_cat,
+        or_ident,
+        ctl_num,
+        t,
+        test,
+    })
+}
+
+fn cancel_of<'a>(parts: &[Data<'a>]) -> Option<Shape<'a>>
+    ensures { option_map shaping result ≡ cancel_of (data_in parts.now) }
+{
+    match parts {
+        [value, origin, number, moment, test] => control_of(value, origin, number, moment, test),
+        _ => None,
+    }
+}
+
+fn operate_of<'a>(parts: &[Data<'a>]) -> Option<(Shape<'a>, Dbpos)>
+    ensures { option_map (λ found. record { control = shaping found.0; check = found.1 }) result ≡ operate_of (data_in parts.now) }
+{
+    match parts {
+        [value, origin, number, moment, test, check] => {
+            let control = control_of(value, origin, number, moment, test)?;
+            let check = check_as(check)?;
+            Some((control, check))
+        }
+        _ => None,
+    }
+}
+
+/// What is cancelled, where data have the shape of a Cancel.
+#[tactic(auto, unfolding(crate::specs::Controls::cancel_as))]
+pub(crate) fn cancel_as<'a>(given: &Data<'a>) -> Option<Shape<'a>>
+    ensures { option_map shaping result ≡ cancel_as (datum_of given.now) }
+{
+    cancel_of(parts_as(given)?)
+}
+
+/// What is operated, with its checks, where data have the shape of an Oper.
+#[tactic(auto, unfolding(crate::specs::Controls::operate_as))]
+pub(crate) fn operate_as<'a>(given: &Data<'a>) -> Option<(Shape<'a>, Dbpos)>
+    ensures { option_map (λ found. record { control = shaping found.0; check = found.1 }) result ≡ operate_as (datum_of given.now) }
+{
+    operate_of(parts_as(given)?)
+}

@@ -1,0 +1,14 @@
+// Laws of the rows. Each function does nothing, and its contract is the law.
+ghost use Rattle.std.specs.Prelude.{◌≡◌, ◌≢◌, ℕ, Some, List, All};
+ghost use Rattle.bay_tree.specs.declared.leaf.Leaf.{Leaf};
+ghost use Rattle.bay_tree.specs.declared.row.Row.{Row};
+ghost use Rattle.bay_tree.specs.Rows.{IsHandle, leaf_at, leaves_at, name_at, with_leaf};
+
+/// A value that is written to a row is that row's, and each other row keeps its own: so do the rows of any handles among
+/// which the written row's is not. No name changes.
+pub fn a_write_is_to_one_row()
+    ensures own { (rows : List Row) (row : ℕ) (leaf : Leaf) → IsHandle rows row → leaf_at (with_leaf rows row leaf) row ≡ Some leaf }
+    ensures other { (rows : List Row) (row other : ℕ) (leaf : Leaf) → other ≢ row → leaf_at (with_leaf rows row leaf) other ≡ leaf_at rows other }
+    ensures others { (rows : List Row) (row : ℕ) (leaf : Leaf) (others : List ℕ) → All (λ other. other ≢ row) others → leaves_at (with_leaf rows row leaf) others ≡ leaves_at rows others }
+    ensures names { (rows : List Row) (row other : ℕ) (leaf : Leaf) → IsHandle rows row → name_at (with_leaf rows row leaf) other ≡ name_at rows other }
+{}
