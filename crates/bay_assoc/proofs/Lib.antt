@@ -1,6 +1,8 @@
 pub mod ContextLemmas
+pub mod FrontLemmas
 pub mod HearingBackLemmas
 pub mod HearingLemmas
+pub mod LastLemmas
 pub mod SpduLemmas
 pub mod UnitLemmas
 pub mod ValueBackLemmas

@@ -1,5 +1,5 @@
 -- What is sent as data is heard as the same.
-use Rattle.std.proofs.Common.{◌≡◌, ℕ, pos, ◌+◌, ◌<◌, ◌^◌, FitsSigned, List, [], ◌∷◌, ◌++◌, length, Option, Some, Result, Ok, Err, IfOk, OnOk, Vec, Global, refl, sym, ap, arith}
+use Rattle.std.proofs.Common.{◌≡◌, ℕ, pos, ◌+◌, ◌<◌, ◌^◌, FitsSigned, List, [], ◌∷◌, ◌++◌, length, Option, Some, Ok, ◌≤◌, refl, sym, ap, arith}
 use Rattle.std.specs.Int.{w64}
 use Rattle.std.proofs.lemmas.Bool.{eq-eqb}
 use Rattle.std.proofs.lemmas.List.{append-nil, length-append}
@@ -15,7 +15,6 @@ use Rattle.bay_ber.proofs.WriteLemmas.{element_spells, integer_is}
 use Rattle.bay_mms.specs.Tags.{constructed, sequence, int_tag}
 use Rattle.bay_assoc.specs.Tags.{application}
 use Rattle.bay_assoc.specs.declared.hearing.Link.{Link}
-use Rattle.std.specs.declared.alloc.AllocError.{AllocError}
 use Rattle.bay_assoc.specs.declared.hearing.Phase.{Phase}
 use Rattle.bay_assoc.specs.declared.hearing.Phase.TheVariants.{Open}
 use Rattle.bay_assoc.specs.Presentation.{integer_under, carried_as, carried_in, carried_under, user_in}
@@ -66,7 +65,6 @@ pub transfer_heard : (link : Link) (pdu : List ℕ) → user_in (user_text link.
 unfolding hearing spdu_in transferred
 transfer_heard link pdu read = rw (read, eq-eqb link.contexts.mms link.contexts.mms refl) refl
 
-pub sent_is_heard : (r : Result (Vec ℕ Global) AllocError) (phase : Phase) (link : Link) (pdu : List ℕ) → phase ≡ Open link → OnOk r (user_in (user_text link.contexts.mms pdu) ≡ Some (record { id = pos link.contexts.mms; value = pdu }))
-    → IfOk r (λ octets. octets.items ≡ transfer_text (user_text link.contexts.mms pdu)) → IfOk r (λ octets. hearing phase octets.items ≡ Ok (mms pdu, phase))
-sent_is_heard (Ok octets) phase link pdu is read sent = rw (is, sent) (transfer_heard link pdu read)
-sent_is_heard (Err e) phase link pdu is read sent = tt
+pub sent_is_heard : (phase : Phase) (link : Link) (front pdu : List ℕ) → phase ≡ Open link → link.contexts.mms < 65536 → length pdu ≤ 65000 → front ++ pdu ≡ transfer_text (user_text link.contexts.mms pdu)
+    → hearing phase (front ++ pdu) ≡ Ok (mms pdu, phase)
+sent_is_heard phase link front pdu is low short sent = rw (is, sent) (transfer_heard link pdu (user_again link.contexts.mms pdu low (omega arith)))

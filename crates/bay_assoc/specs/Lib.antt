@@ -7,6 +7,7 @@ pub mod Results
 pub mod Session
 pub mod SessionReading
 pub mod SessionViews
+pub mod Sized
 pub mod SpelledHearing
 pub mod SpelledSession
 pub mod SpelledValues

@@ -1,15 +1,17 @@
 // An association as its user sees it.
-ghost use Rattle.std.specs.Prelude.{◌≡◌, ◌^◌, ◌<◌, ◌↔◌, Ok, length, IfOk, IfSome, IsErrOf, IsSome, IsTrue};
+ghost use Rattle.std.specs.Prelude.{◌≡◌, ◌≤◌, ◌++◌, ◌↔◌, ℕ, List, Ok, length, IfOk, IfSome, IsErrOf, IsSome, IsTrue};
 ghost use Rattle.bay_assoc.specs.Hearing.{mms, hearing};
 ghost use Rattle.bay_assoc.specs.Hears.{link_of, Hears};
 ghost use Rattle.bay_assoc.specs.Session.{spdu_in};
+ghost use Rattle.bay_assoc.specs.Sized.{IsShort};
 ghost use Rattle.bay_assoc.specs.TakesMemory.{TakesMemory};
 ghost use Rattle.bay_assoc.specs.Texts.{user_text, transfer_text};
 
 use crate::fault::AssocFault;
+use crate::front::front;
 use crate::hearing::{Heard, Phase, hear};
-use crate::text;
-use std::alloc::{AllocError, Global};
+use arrayvec::ArrayVec;
+use std::alloc::Global;
 use std::marker::Model;
 
 /// One association, which contracts see as its phase.
@@ -21,10 +23,13 @@ pub struct Assoc {
 
 impl Model for Assoc {
     ghost use Rattle.bay_assoc.specs.declared.hearing.Phase.{Phase};
+    ghost use Rattle.bay_assoc.specs.Sized.{IsSized};
 
     ghost Value = { Phase };
 
     ghost view = { λ a. a.phase };
+
+    ghost invariant = { λ a. IsSized a.phase };
 }
 
 impl Assoc {
@@ -47,6 +52,8 @@ impl Assoc {
         ensures heard { Hears self.old tsdu.now result self.new }
         // Memory is wanting only where an answer is due.
         ensures memory { IsErrOf result AssocFault.OutOfMemory → TakesMemory self.old (spdu_in tsdu.now) }
+        // An answer has at most 1,000 octets.
+        ensures short { IfOk result IsShort }
     {
         let phase = self.phase;
         self.phase = Phase::Failed;
@@ -62,27 +69,37 @@ impl Assoc {
         matches!(self.phase, Phase::Open(_))
     }
 
-    /// The TSDU in which a PDU of MMS is sent. The association is open, and the PDU has fewer than 2^31 octets.
-    pub fn wrap(&self, pdu: &[u8]) -> Result<Vec<u8>, AllocError>
-        requires open { IsSome (link_of self.now) }
-        requires short { length pdu.now < 2 ^ 31 }
-        ensures exact { IfOk result (λ octets. IfSome (link_of self.now) (λ link. octets.items ≡ transfer_text (user_text link.contexts.mms pdu.now))) }
-        // It is heard as this PDU.
-        ensures heard { IfOk result (λ octets. hearing self.now octets.items ≡ Ok (mms pdu.now, self.now)) }
+    /// Ends the association from this side: later TSDUs are refused as after an abort.
+    pub fn end(&mut self)
+        ensures { self.new ≡ Phase.Over }
+    {
+        self.phase = Phase::Over;
+    }
+
+    /// The octets of the largest PDU of MMS, as agreed: 256 to 65,000. The association is open.
+    pub fn pdu_size(&self) -> u32
+        requires { IsSome (link_of self.now) }
+        ensures size { IfSome (link_of self.now) (λ link. result ≡ link.size) }
+        ensures least { 256 ≤ result }
+        ensures most { result ≤ 65_000 }
     {
         match self.phase {
-            Phase::Open(link) => text::transfer(self.alloc, link.contexts.mms, pdu),
+            Phase::Open(link) => link.size,
             Phase::Idle | Phase::Over | Phase::Failed => unreachable!(),
         }
     }
 
-    /// The octets of the largest PDU of MMS, as agreed. The association is open.
-    pub fn pdu_size(&self) -> u32
-        requires { IsSome (link_of self.now) }
-        ensures { IfSome (link_of self.now) (λ link. result ≡ link.size) }
+    /// What stands before a PDU of MMS of so many octets in the TSDU that it is sent in: the octets of the TSDU are these, at
+    /// most 21, and then the PDU. So a PDU within the size agreed makes a TSDU of at most 65,021 octets. The association is open.
+    pub fn front(&self, count: u32) -> ArrayVec<u8, 21>
+        requires open { IsSome (link_of self.now) }
+        requires short { count ≤ 65_000 }
+        ensures exact { (pdu : List ℕ) → length pdu ≡ count → IfSome (link_of self.now) (λ link. result.items ++ pdu ≡ transfer_text (user_text link.contexts.mms pdu)) }
+        // The TSDU is heard as this PDU.
+        ensures heard { (pdu : List ℕ) → length pdu ≡ count → hearing self.now (result.items ++ pdu) ≡ Ok (mms pdu, self.now) }
     {
         match self.phase {
-            Phase::Open(link) => link.size,
+            Phase::Open(link) => front(link.contexts.mms, count),
             Phase::Idle | Phase::Over | Phase::Failed => unreachable!(),
         }
     }

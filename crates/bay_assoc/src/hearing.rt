@@ -1,9 +1,10 @@
 // The phases of an association, and what is heard of a TSDU in each.
-ghost use Rattle.std.specs.Prelude.{◌≡◌, ◌∷◌, [], Some, option_map, IfOk, IsErrOf};
+ghost use Rattle.std.specs.Prelude.{◌≡◌, ◌≤◌, ◌∷◌, [], Some, length, option_map, IfOk, IfSome, IsErrOf};
 ghost use Rattle.bay_base.specs.Exact.{Gives};
 ghost use Rattle.bay_assoc.specs.Hearing.{is_id, acse_of, mms_of, accepted_of, acse_value, mms_value, size_of, outstanding_of, nesting_of, agreed_of, agreement, answer_text, connected, finished, transferred, heard_idle, heard_open, hearing};
 ghost use Rattle.bay_assoc.specs.Results.{Holds};
 ghost use Rattle.bay_assoc.specs.Session.{spdu_in};
+ghost use Rattle.bay_assoc.specs.Sized.{IsPduSize, IsSized, IsShort};
 ghost use Rattle.bay_assoc.specs.TakesMemory.{TakesMemory};
 ghost use Rattle.bay_assoc.specs.Views.{carried_view, connect_view, spdu_view, hearing_of};
 
@@ -126,7 +127,8 @@ fn mms_value<'a>(contexts: Accepted, carried: Carried<'a>) -> Result<&'a [u8], A
 
 // The octets of the largest PDU of MMS.
 fn size_of(proposed: Option<i64>) -> Option<u32>
-    ensures { result ≡ size_of proposed }
+    ensures size { result ≡ size_of proposed }
+    ensures sized { IfSome result IsPduSize }
 {
     match proposed {
         None => Some(65_000),
@@ -160,7 +162,8 @@ fn nesting_of(proposed: i64) -> i64
 
 // What is agreed of a proposal.
 fn agreed_of(proposal: Proposal) -> Option<Agreed>
-    ensures { result ≡ agreed_of proposal }
+    ensures agreed { result ≡ agreed_of proposal }
+    ensures sized { IfSome result (λ agreed. IsPduSize agreed.size) }
 {
     let size = size_of(proposal.size)?;
     Some(Agreed {
@@ -179,7 +182,8 @@ fn answer(
     contexts: Accepted,
     agreed: Agreed,
 ) -> Result<Vec<u8>, AllocError>
-    ensures { IfOk result (λ octets. octets.items ≡ answer_text (connect_view request.now) contexts agreed) }
+    ensures text { IfOk result (λ octets. octets.items ≡ answer_text (connect_view request.now) contexts agreed) }
+    ensures few { IfOk result (λ octets. length octets.items ≤ 1_000) }
 {
     let pdu = write_agreed(alloc, agreed)?;
     let value = text::associated(alloc, contexts.mms, pdu.as_slice())?;
@@ -191,7 +195,8 @@ fn answer(
 // What is agreed on with the contexts and the user data of a request: ACSE, and MMS within it.
 #[tactic(auto, unfolding(crate::specs::Hearing::agreement))]
 fn agreement(contexts: &[Context], user: Carried<'_>) -> Result<(Accepted, Agreed), AssocFault>
-    ensures { Holds (λ x. (x.0, x.1)) result (agreement contexts.now (carried_view user.entry)) }
+    ensures agreement { Holds (λ x. (x.0, x.1)) result (agreement contexts.now (carried_view user.entry)) }
+    ensures sized { IfOk result (λ x. IsPduSize x.1.size) }
 {
     let contexts = accepted_of(contexts).ok_or(AssocFault::NoContext)?;
     let value = acse_value(contexts, user)?;
@@ -205,7 +210,9 @@ fn agreement(contexts: &[Context], user: Carried<'_>) -> Result<(Accepted, Agree
 // A request for a connection.
 #[tactic(auto, unfolding(crate::specs::Hearing::connected))]
 fn connected<'a>(alloc: Global, user: &'a [u8]) -> Result<(Heard<'a>, Phase), AssocFault>
-    ensures { Gives AssocFault.OutOfMemory (λ x. (hearing_of x.0, x.1)) result (connected user.now) }
+    ensures heard { Gives AssocFault.OutOfMemory (λ x. (hearing_of x.0, x.1)) result (connected user.now) }
+    ensures short { IfOk result (λ x. IsShort x.0) }
+    ensures sized { IfOk result (λ x. IsSized x.1) }
 {
     let request = request_in(alloc, user)?;
     let (contexts, agreed) = agreement(request.contexts.as_slice(), request.user)?;
@@ -219,7 +226,8 @@ fn connected<'a>(alloc: Global, user: &'a [u8]) -> Result<(Heard<'a>, Phase), As
 
 // The answer to a FINISH without user data.
 fn disconnect_alone(alloc: Global) -> Result<Vec<u8>, AllocError>
-    ensures { IfOk result (λ octets. octets.items ≡ 0x0A ∷ 0 ∷ []) }
+    ensures text { IfOk result (λ octets. octets.items ≡ 0x0A ∷ 0 ∷ []) }
+    ensures few { IfOk result (λ octets. length octets.items ≤ 100) }
 {
     let mut octets = Vec::new(alloc);
     octets.extend_from_slice(&[0x0A, 0x00])?;
@@ -233,7 +241,9 @@ fn finished<'a>(
     link: Link,
     user: Option<&'a [u8]>,
 ) -> Result<(Heard<'a>, Phase), AssocFault>
-    ensures { Gives AssocFault.OutOfMemory (λ x. (hearing_of x.0, x.1)) result (finished link (option_map (λ octets. octets.now) user.entry)) }
+    ensures heard { Gives AssocFault.OutOfMemory (λ x. (hearing_of x.0, x.1)) result (finished link (option_map (λ octets. octets.now) user.entry)) }
+    ensures short { IfOk result (λ x. IsShort x.0) }
+    ensures sized { IfOk result (λ x. IsSized x.1) }
 {
     let octets = match user {
         None => disconnect_alone(alloc)?,
@@ -250,8 +260,11 @@ fn finished<'a>(
 // Data.
 #[tactic(auto, unfolding(crate::specs::Hearing::transferred))]
 fn transferred<'a>(link: Link, user: &'a [u8]) -> Result<(Heard<'a>, Phase), AssocFault>
+    requires { IsPduSize link.size }
     ensures heard { Holds (λ x. (hearing_of x.0, x.1)) result (transferred link user.now) }
     ensures memory { IsErrOf result AssocFault.OutOfMemory → ⊥ }
+    ensures short { IfOk result (λ x. IsShort x.0) }
+    ensures sized { IfOk result (λ x. IsSized x.1) }
 {
     let carried = user_in(user).ok_or(AssocFault::BadPresentation)?;
     let pdu = mms_value(link.contexts, carried)?;
@@ -262,6 +275,8 @@ fn transferred<'a>(link: Link, user: &'a [u8]) -> Result<(Heard<'a>, Phase), Ass
 fn heard_idle<'a>(alloc: Global, spdu: Spdu<'a>) -> Result<(Heard<'a>, Phase), AssocFault>
     ensures heard { Gives AssocFault.OutOfMemory (λ x. (hearing_of x.0, x.1)) result (heard_idle (spdu_view spdu.entry)) }
     ensures memory { IsErrOf result AssocFault.OutOfMemory → TakesMemory Phase.Idle (Some (spdu_view spdu.entry)) }
+    ensures short { IfOk result (λ x. IsShort x.0) }
+    ensures sized { IfOk result (λ x. IsSized x.1) }
 {
     match spdu {
         Spdu::Connect(user) => connected(alloc, user),
@@ -278,8 +293,11 @@ fn heard_open<'a>(
     link: Link,
     spdu: Spdu<'a>,
 ) -> Result<(Heard<'a>, Phase), AssocFault>
+    requires { IsPduSize link.size }
     ensures heard { Gives AssocFault.OutOfMemory (λ x. (hearing_of x.0, x.1)) result (heard_open link (spdu_view spdu.entry)) }
     ensures memory { IsErrOf result AssocFault.OutOfMemory → TakesMemory (Phase.Open link) (Some (spdu_view spdu.entry)) }
+    ensures short { IfOk result (λ x. IsShort x.0) }
+    ensures sized { IfOk result (λ x. IsSized x.1) }
 {
     match spdu {
         Spdu::Finish(user) => finished(alloc, link, user),
@@ -296,8 +314,11 @@ pub(crate) fn hear<'a>(
     phase: Phase,
     tsdu: &'a [u8],
 ) -> Result<(Heard<'a>, Phase), AssocFault>
+    requires { IsSized phase }
     ensures heard { Gives AssocFault.OutOfMemory (λ x. (hearing_of x.0, x.1)) result (hearing phase tsdu.now) }
     ensures memory { IsErrOf result AssocFault.OutOfMemory → TakesMemory phase (spdu_in tsdu.now) }
+    ensures short { IfOk result (λ x. IsShort x.0) }
+    ensures sized { IfOk result (λ x. IsSized x.1) }
 {
     match phase {
         Phase::Idle => heard_idle(alloc, spdu_in(tsdu).ok_or(AssocFault::BadSession)?),

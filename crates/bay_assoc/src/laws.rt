@@ -1,9 +1,10 @@
 // Laws of what is heard. Each function does nothing, and its contract is the law.
-ghost use Rattle.std.specs.Prelude.{◌≡◌, List, ℕ, Some, Ok};
+ghost use Rattle.std.specs.Prelude.{◌≡◌, ◌++◌, List, ℕ, Some, IsSome, Ok};
 ghost use Rattle.bay_ber.specs.Octets.{AreOctets};
 ghost use Rattle.bay_assoc.specs.declared.hearing.Phase.{Phase};
 ghost use Rattle.bay_assoc.specs.Acse.{associate_in};
-ghost use Rattle.bay_assoc.specs.Hearing.{Hearing, hearing};
+ghost use Rattle.bay_assoc.specs.Hearing.{Hearing, mms, hearing};
+ghost use Rattle.bay_assoc.specs.Hears.{link_of};
 ghost use Rattle.bay_assoc.specs.Presentation.{Carried, Connect, user_in, request_in};
 ghost use Rattle.bay_assoc.specs.Session.{Spdu, spdu_in};
 ghost use Rattle.bay_assoc.specs.SpelledHearing.{IsHeard};
@@ -16,6 +17,12 @@ pub fn one_hearing()
     ensures heard { (old new : Phase) (octets : List ℕ) (h : Hearing) → IsHeard old octets h new → hearing old octets ≡ Ok (h, new) }
     ensures spelled { (old new : Phase) (octets : List ℕ) (h : Hearing) → AreOctets octets → hearing old octets ≡ Ok (h, new) → IsHeard old octets h new }
     ensures one { (old new next : Phase) (octets : List ℕ) (h k : Hearing) → IsHeard old octets h new → IsHeard old octets k next → (h ≡ k) × (new ≡ next) }
+{}
+
+/// A PDU of MMS is heard in an open association, which stays as it is, and stands last in its TSDU.
+pub fn a_pdu_stands_last()
+    ensures open { (old new : Phase) (octets pdu : List ℕ) → AreOctets octets → hearing old octets ≡ Ok (mms pdu, new) → IsSome (link_of old) × (new ≡ old) }
+    ensures last { (old new : Phase) (octets pdu : List ℕ) → AreOctets octets → hearing old octets ≡ Ok (mms pdu, new) → (front : List ℕ) × (octets ≡ front ++ pdu) }
 {}
 
 /// Octets that are spelled as an SPDU, as user data, as a request for a connection or as one for an association are read as that,

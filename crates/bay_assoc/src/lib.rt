@@ -3,12 +3,13 @@
 //
 // `assoc`: the association as its user sees it. `fault`: why a TSDU is refused. `hearing`: its phases, and what is heard of a TSDU
 // in each. `laws`: what holds of the definitions that the contracts cite. Within the crate `session`, `presentation`, with what
-// a `request` has, and `acse` read each layer, and `text` writes them.
+// a `request` has, and `acse` read each layer, `text` writes the answers, and `front` what stands before a PDU that is sent.
 #![tactic(auto)]
 
 mod acse;
 pub mod assoc;
 pub mod fault;
+mod front;
 pub mod hearing;
 pub mod laws;
 mod presentation;

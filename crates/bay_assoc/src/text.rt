@@ -47,7 +47,8 @@ fn append_unit(out: &mut Vec<u8>, identifier: u8, content: &[u8]) -> Result<(), 
 /// An ACCEPT with user data.
 pub(crate) fn accept(alloc: Global, user: &[u8]) -> Result<Vec<u8>, AllocError>
     requires { length user.now < 65_000 }
-    ensures { IfOk result (λ octets. octets.items ≡ accept_text user.now) }
+    ensures text { IfOk result (λ octets. octets.items ≡ accept_text user.now) }
+    ensures few { IfOk result (λ octets. length octets.items ≤ length user.now + 20) }
 {
     let mut content = Vec::new(alloc);
     content.extend_from_slice(&ACCEPT)?;
@@ -60,7 +61,8 @@ pub(crate) fn accept(alloc: Global, user: &[u8]) -> Result<Vec<u8>, AllocError>
 // A DISCONNECT with user data.
 fn disconnect(alloc: Global, user: &[u8]) -> Result<Vec<u8>, AllocError>
     requires { length user.now < 65_000 }
-    ensures { IfOk result (λ octets. octets.items ≡ disconnect_text user.now) }
+    ensures text { IfOk result (λ octets. octets.items ≡ disconnect_text user.now) }
+    ensures few { IfOk result (λ octets. length octets.items ≤ length user.now + 8) }
 {
     let mut content = Vec::new(alloc);
     append_unit(&mut content, 0xC1, user)?;
@@ -93,20 +95,6 @@ fn put_user(writer: &mut Writer, id: u16, value: &[u8]) -> Result<(), AllocError
     put_carried(writer, Tag::sequence(), id, value)?;
     writer.nest_from(start, Tag::application_constructed(1))?;
     Ok(())
-}
-
-/// A DATA TRANSFER of a value in a context.
-pub(crate) fn transfer(alloc: Global, id: u16, value: &[u8]) -> Result<Vec<u8>, AllocError>
-    requires { length value.now < 2 ^ 31 }
-    ensures text { IfOk result (λ octets. octets.items ≡ transfer_text (user_text id value.now)) }
-    // Its user data are read back.
-    ensures read { OnOk result (user_in (user_text id value.now) ≡ Some (record { id = pos id; value = value.now })) }
-{
-    let mut front = Vec::with_capacity(alloc, value.len() + 36)?;
-    front.extend_from_slice(&[1, 0, 1, 0])?;
-    let mut writer = Writer::behind(front);
-    put_user(&mut writer, id, value)?;
-    Ok(writer.finish())
 }
 
 // What comes of a context.
@@ -237,7 +225,8 @@ pub(crate) fn associated(alloc: Global, mms: u16, pdu: &[u8]) -> Result<Vec<u8>,
 /// The DISCONNECT that answers a request for a release, with its RLRE.
 #[tactic(auto, unfolding(bay_ber::specs::Writing::element, bay_ber::specs::Writing::length_octets))]
 pub(crate) fn released(alloc: Global, acse: u16) -> Result<Vec<u8>, AllocError>
-    ensures { IfOk result (λ octets. octets.items ≡ disconnect_text (user_text acse release_text)) }
+    ensures text { IfOk result (λ octets. octets.items ≡ disconnect_text (user_text acse release_text)) }
+    ensures few { IfOk result (λ octets. length octets.items ≤ 100) }
 {
     let mut writer = Writer::new(alloc);
     put_user(&mut writer, acse, &[0x63, 0x03, 0x80, 0x01, 0x00])?;

@@ -40,11 +40,14 @@ fn response_to(alloc: Global, pdu: &[u8]) -> Result<Vec<u8>> {
 }
 
 /// The TSDU of a response.
-fn wrapped(assoc: &Assoc, pdu: &[u8]) -> Result<Vec<u8>> {
-    if !assoc.is_open() || pdu.len() > assoc.pdu_size() as usize || pdu.len() > 65_000 {
+fn wrapped(alloc: Global, assoc: &Assoc, pdu: &[u8]) -> Result<Vec<u8>> {
+    if !assoc.is_open() || pdu.len() > assoc.pdu_size() as usize {
         bail!("a response that may not be sent");
     }
-    Ok(assoc.wrap(pdu)?)
+    let mut tsdu = Vec::new(alloc);
+    tsdu.extend_from_slice(assoc.front(pdu.len() as u32).as_slice())?;
+    tsdu.extend_from_slice(pdu)?;
+    Ok(tsdu)
 }
 
 /// What a connection does of a TSDU or an end.
@@ -61,7 +64,7 @@ enum Reply {
 /// The TSDU that answers a PDU of MMS.
 fn answered(alloc: Global, assoc: &Assoc, pdu: &[u8]) -> Result<Reply> {
     let response = response_to(alloc, pdu)?;
-    Ok(Reply::Sent(wrapped(assoc, response.as_slice())?))
+    Ok(Reply::Sent(wrapped(alloc, assoc, response.as_slice())?))
 }
 
 /// What is done of a TSDU.

@@ -1,0 +1,24 @@
+-- How long answers and PDUs are.
+use Rattle.std.specs.Prelude.{ℕ, ◌≤◌, length}
+use Rattle.bay_assoc.specs.declared.hearing.Heard.{Heard}
+use Rattle.bay_assoc.specs.declared.hearing.Heard.TheVariants.{Answer, Mms, Released, Aborted}
+use Rattle.bay_assoc.specs.declared.hearing.Phase.{Phase}
+use Rattle.bay_assoc.specs.declared.hearing.Phase.TheVariants.{Idle, Open, Over, Failed}
+
+-- the octets of the largest PDU, as agreed
+pub record IsPduSize (size : ℕ) : Type 0 where
+  pub least : 256 ≤ size
+  pub most : size ≤ 65000
+
+abbrev pub IsSized : Phase → Type 0
+IsSized Idle = Unit {0}
+IsSized (Open link) = IsPduSize link.size
+IsSized Over = Unit {0}
+IsSized Failed = Unit {0}
+
+-- An answer is short.
+abbrev pub IsShort : Heard → Type 0
+IsShort (Answer octets) = length octets.items ≤ 1000
+IsShort (Mms pdu) = Unit {0}
+IsShort (Released octets) = length octets.items ≤ 1000
+IsShort Aborted = Unit {0}
