@@ -9,7 +9,7 @@ use Rattle.bay_mms.specs.declared.response.Response.TheVariants as response
 use Rattle.bay_mms.specs.Tags.{context, constructed}
 use Rattle.bay_mms.specs.Data.{Datum, Data, structure, truth, bits, integer, unsigned, octets, text, utc, other, datum_text}
 use Rattle.bay_mms.specs.Reports.{report_text}
-use Rattle.bay_mms.specs.Responses.{response_text}
+use Rattle.bay_mms.specs.Responses.{confirmed, response_text}
 use Rattle.bay_mms.specs.Laws.{IsRead, datum_tag, datum_content, response_tag}
 use Rattle.bay_mms.proofs.PutLemmas.{content_less}
 
@@ -33,6 +33,9 @@ response_spells response.Conclude short = record { content = []; spelled = spell
 response_spells (response.Confirmed id service) short = record { content = _; spelled = spelled (constructed 1) _ (omega arith) short }
 response_spells (response.Error id class) short = record { content = _; spelled = spelled (constructed 2) _ (omega arith) short }
 response_spells (response.Reject id reason) short = record { content = _; spelled = spelled (constructed 4) _ (omega arith) short }
+
+pub confirmed_spells : (id : ℕ) (service : List ℕ) → length (confirmed id service) < 4294967296 → IsRead (confirmed id service) (constructed 1)
+confirmed_spells id service short = record { content = _; spelled = spelled (constructed 1) _ (omega arith) short }
 
 pub report_spells : (names : List (List ℕ)) (values : Data) → length (report_text names values) < 4294967296 → IsRead (report_text names values) (constructed 3)
 report_spells names values short = record { content = _; spelled = spelled (constructed 3) _ (omega arith) short }

@@ -1,5 +1,6 @@
 pub mod AccessLemmas
 pub mod AgreedLemmas
+pub mod AnswerLemmas
 pub mod AskLemmas
 pub mod ConfirmedLemmas
 pub mod ControlLemmas

@@ -1,25 +1,19 @@
 -- The canonical texts of responses (ISO 9506-2).
-use Rattle.std.specs.Prelude.{ℕ, ℤ, pos, ◌*◌, ◌/◌, Bool, false, Option, Some, None, List, [], ◌∷◌, ◌++◌, All}
+use Rattle.std.specs.Prelude.{ℕ, ℤ, pos, ◌*◌, ◌/◌, Bool, false, Option, Some, None, List, [], ◌∷◌, ◌++◌}
 use Rattle.bay_ber.specs.Writing.{element, integer_octets, truth_octets, bit_string_octets}
-use Rattle.bay_tree.specs.declared.row.Row.{Row}
 use Rattle.bay_tree.specs.Rows.{IsHandle}
 use Rattle.bay_mms.specs.declared.response.Response.{Response}
 use Rattle.bay_mms.specs.declared.response.Response.TheVariants as response
 use Rattle.bay_mms.specs.declared.response.Agreed.{Agreed}
 use Rattle.bay_mms.specs.declared.response.Service.{Service}
 use Rattle.bay_mms.specs.declared.response.Service.TheVariants as service
-use Rattle.bay_mms.specs.declared.response.ReadResult.{ReadResult}
-use Rattle.bay_mms.specs.declared.response.ReadResult.TheVariants as read
-use Rattle.bay_mms.specs.declared.response.WriteResult.{WriteResult}
-use Rattle.bay_mms.specs.declared.response.WriteResult.TheVariants as wrote
 use Rattle.bay_mms.specs.declared.response.ErrorClass.{ErrorClass}
 use Rattle.bay_mms.specs.declared.response.ErrorClass.TheVariants as error
 use Rattle.bay_mms.specs.declared.response.RejectReason.{RejectReason}
 use Rattle.bay_mms.specs.declared.response.RejectReason.TheVariants as reject
 use Rattle.bay_mms.specs.Tags.{context, constructed, int_tag, visible_tag}
-use Rattle.bay_mms.specs.Data.{datum_text}
 use Rattle.bay_mms.specs.Types.{type_text}
-use Rattle.bay_mms.specs.Nodes.{data_at, type_at}
+use Rattle.bay_mms.specs.Nodes.{type_at}
 
 -- a confirmed response: the invoke id and the service
 abbrev pub confirmed : ℕ → List ℕ → List ℕ
@@ -32,23 +26,23 @@ abbrev pub names_text : List (List ℕ) → List ℕ
 names_text [] = []
 names_text (name ∷ names) = element visible_tag name ++ names_text names
 
--- what is read: the data, a text in its place, or an error
-abbrev pub read_text : List Row → ReadResult → List ℕ
-read_text rows (read.Value handle) = datum_text (data_at rows handle)
-read_text rows (read.Reference value) = element (context 10) value
-read_text rows (read.Failure cause) = element (context 0) (integer_octets (pos cause))
+-- the results of a read (ISO 9506-2, AccessResult), one behind another: data, a text in the place of a row's own, or the number of an error
+abbrev pub text_result : List ℕ → List ℕ
+text_result text = element (context 10) text
 
-abbrev pub reads_text : List Row → List ReadResult → List ℕ
-reads_text rows [] = []
-reads_text rows (first ∷ later) = read_text rows first ++ reads_text rows later
+abbrev pub failure_result : ℕ → List ℕ
+failure_result cause = element (context 0) (integer_octets (pos cause))
 
-abbrev pub wrote_text : WriteResult → List ℕ
-wrote_text wrote.Success = element (context 1) []
-wrote_text (wrote.Failure cause) = element (context 0) (integer_octets (pos cause))
+-- and the other result of a write
+abbrev pub success_result : List ℕ
+success_result = element (context 1) []
 
-abbrev pub writes_text : List WriteResult → List ℕ
-writes_text [] = []
-writes_text (first ∷ later) = wrote_text first ++ writes_text later
+-- the responses to a read and to a write of variables with these results
+abbrev pub read_text : ℕ → List ℕ → List ℕ
+read_text id results = confirmed id (element (constructed 4) (element (constructed 1) results))
+
+abbrev pub write_text : ℕ → List ℕ → List ℕ
+write_text id results = confirmed id (element (constructed 5) results)
 
 -- no such object is 2 of the class access, another want of resources 0 of the class resource
 abbrev pub class_text : ErrorClass → List ℕ
@@ -79,15 +73,11 @@ abbrev pub service_number : Service → ℕ
 service_number (service.Identify vendor model revision) = 2
 service_number (service.Names names more) = 1
 service_number (service.Attributes tree handle) = 6
-service_number (service.Read tree results) = 4
-service_number (service.Write results) = 5
 
 abbrev pub content_text : Service → List ℕ
 content_text (service.Identify vendor model revision) = identity_text vendor.now model.now revision.now
 content_text (service.Names names more) = listing_text names.now more
 content_text (service.Attributes tree handle) = element (context 0) (truth_octets false) ++ element (constructed 2) (type_text (type_at tree.now handle))
-content_text (service.Read tree results) = element (constructed 1) (reads_text tree.now results.now)
-content_text (service.Write results) = writes_text results.now
 
 abbrev pub service_text : Service → List ℕ
 service_text s = element (constructed (service_number s)) (content_text s)
@@ -129,17 +119,10 @@ response_text (response.Error id class) = error_text id class
 response_text (response.Reject id reason) = element (constructed 4) (id_text id ++ reason_text reason)
 
 -- The handles are the tree's.
-abbrev pub IsReadOf : List Row → ReadResult → Type 0
-IsReadOf rows (read.Value handle) = IsHandle rows handle
-IsReadOf rows (read.Reference value) = Unit {0}
-IsReadOf rows (read.Failure cause) = Unit {0}
-
 abbrev pub IsOfTree : Service → Type 0
 IsOfTree (service.Identify vendor model revision) = Unit {0}
 IsOfTree (service.Names names more) = Unit {0}
 IsOfTree (service.Attributes tree handle) = IsHandle tree.now handle
-IsOfTree (service.Read tree results) = All (IsReadOf tree.now) results.now
-IsOfTree (service.Write results) = Unit {0}
 
 abbrev pub IsAnswerable : Response → Type 0
 IsAnswerable (response.Initiate agreed) = Unit {0}

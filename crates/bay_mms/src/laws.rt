@@ -1,12 +1,14 @@
 // Laws of the texts. Each function does nothing, and its contract is the law.
-ghost use Rattle.std.specs.Prelude.{◌≡◌, ◌<◌, ◌↔◌, IsTrue, Option, Some, Ok, Err, List, ℕ, length};
+ghost use Rattle.std.specs.Prelude.{◌≡◌, ◌<◌, ◌↔◌, IsTrue, Option, Some, Result, Ok, Err, List, ℕ, length};
 ghost use Rattle.bay_ber.specs.Octets.{AreOctets};
 ghost use Rattle.bay_ber.specs.Spelling.{Spells};
 ghost use Rattle.bay_mms.specs.Data.{Datum, Data, datum_text};
 ghost use Rattle.bay_mms.specs.Types.{TypeSpec, type_text};
 ghost use Rattle.bay_mms.specs.Reports.{report_text};
-ghost use Rattle.bay_mms.specs.Responses.{response_text};
+ghost use Rattle.bay_mms.specs.Responses.{confirmed, response_text};
 ghost use Rattle.bay_mms.specs.Tags.{constructed};
+ghost use Rattle.bay_base.specs.Exact.{Gives};
+ghost use Rattle.bay_mms.specs.Answers.{IsAnswer};
 ghost use Rattle.bay_mms.specs.Asks.{Asks, AsksUnknown, AsksMany, AsksNothing};
 ghost use Rattle.bay_mms.specs.Grammar.{initiate_in, answer_to};
 ghost use Rattle.bay_ber.specs.Values.{value};
@@ -14,6 +16,9 @@ ghost use Rattle.bay_mms.specs.Controls.{Control, Operate, IsOperate, operate_da
 ghost use Rattle.bay_mms.specs.Laws.{IsPlain, IsRead, datum_tag, datum_content, response_tag};
 ghost use Rattle.bay_mms.specs.SpelledData.{IsDatum};
 ghost use Rattle.bay_mms.specs.Requests.{Message};
+ghost use Rattle.bay_mms.specs.RequestViews.{message};
+ghost use Rattle.bay_mms.specs.declared.fault.MmsFault.{MmsFault};
+ghost use Rattle.bay_mms.specs.declared.request.Request.{Request};
 ghost use Rattle.bay_mms.specs.SpelledInitiate.{IsInitiate};
 ghost use Rattle.bay_mms.specs.declared.fault.MmsFault.TheVariants as MmsFault;
 ghost use Rattle.bay_mms.specs.declared.request.Proposal.{Proposal};
@@ -26,15 +31,18 @@ pub fn written_is_read()
     ensures datum { (datum : Datum) → (datum_tag datum).number < 31 → length (datum_text datum) < 4294967296 → Spells (datum_text datum) (datum_tag datum) (datum_content datum) }
     ensures received { (datum : Datum) → IsPlain datum → length (datum_text datum) < 4294967296 → IsDatum (value (datum_tag datum) (datum_content datum)) datum }
     ensures response { (response : Response) → length (response_text response) < 4294967296 → IsRead (response_text response) (response_tag response) }
+    ensures confirmed { (id : ℕ) (service : List ℕ) → length (confirmed id service) < 4294967296 → IsRead (confirmed id service) (constructed 1) }
     ensures report { (names : List (List ℕ)) (values : Data) → length (report_text names values) < 4294967296 → IsRead (report_text names values) (constructed 3) }
 {}
 
 /// Octets ask at most one request: what is in the relation by whole nested spellings is read as that request, and what is read as a
-/// request is in the relation. So is what an association is opened with.
+/// request is in the relation. So is what an association is opened with. What is answered of octets is that request or the fault
+/// that they have, want of memory aside.
 pub fn one_request()
     ensures asked { (octets : List ℕ) (request : Message) → Asks request octets → answer_to octets ≡ Ok request }
     ensures spelled { (octets : List ℕ) (request : Message) → AreOctets octets → answer_to octets ≡ Ok request → Asks request octets }
     ensures one { (octets : List ℕ) (first second : Message) → Asks first octets → Asks second octets → first ≡ second }
+    ensures answer { (octets : List ℕ) (answer : Result Request MmsFault) → AreOctets octets → IsAnswer octets answer → Gives MmsFault.OutOfMemory message answer (answer_to octets) }
     ensures initiate { (octets : List ℕ) (proposal : Proposal) → AreOctets octets → (initiate_in octets ≡ Some proposal) ↔ IsInitiate octets proposal }
 {}
 

@@ -2,7 +2,7 @@
 // and their canonical texts in the Basic Encoding Rules.
 //
 // `request`: what a client asks, read from octets. `data`: data and types as trees. `value`: those of a row of the tree, written
-// as they stand. `control`: what data ask of a control. `response`: responses and their texts. `report`: the reports of controls. `page`: how long a page of names is.
+// as they stand. `control`: what data ask of a control. `response`: responses and their texts, and `results` those to reads and writes. `report`: the reports of controls. `page`: how long a page of names is.
 // `fault`: why nothing is read or written. `laws`: what is written is read back. Within the crate `service`, `access`, `received`
 // and `initiate` read the parts of requests.
 #![tactic(auto)]
@@ -20,6 +20,7 @@ mod received;
 pub mod report;
 pub mod request;
 pub mod response;
+pub mod results;
 mod service;
 mod shape;
 pub mod value;

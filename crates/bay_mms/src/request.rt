@@ -1,8 +1,9 @@
 // Requests of clients.
-ghost use Rattle.std.specs.Prelude.{◌≡◌, map, option_map};
+ghost use Rattle.std.specs.Prelude.{◌≡◌, IsTrue, IsErrOf, map, option_map};
 ghost use Rattle.bay_base.specs.Exact.{Gives};
 ghost use Rattle.bay_ber.specs.Reading.{tlv_at};
-ghost use Rattle.bay_ber.specs.Values.{part_of};
+ghost use Rattle.bay_ber.specs.Values.{part_of, value_in};
+ghost use Rattle.bay_mms.specs.Answers.{IsAnswer, has_list, lists_of, lists_as, lists_at};
 ghost use Rattle.bay_mms.specs.Requests as asked;
 ghost use Rattle.bay_mms.specs.Grammar.{or_bad, front_of, proposal_in, initiate_in, service_as, nothing, id_of, id_as, fault_of, with_id, confirmed_of, message_as, id_in, answer_to};
 ghost use Rattle.bay_mms.specs.RequestViews.{asking, message};
@@ -138,7 +139,8 @@ fn with_id<'a>(
     id: u32,
     service: &Value<'a>,
 ) -> Result<Request<'a>, MmsFault>
-    ensures { Gives MmsFault.OutOfMemory message result (with_id known id (service_as (part_of service.now))) }
+    ensures asked { Gives MmsFault.OutOfMemory message result (with_id known id (service_as (part_of service.now))) }
+    ensures memory { IsErrOf result MmsFault.OutOfMemory → IsTrue (has_list (part_of service.now)) }
 {
     match service_as(alloc, service) {
         Ok(call) => Ok(Request::Confirmed { id, call }),
@@ -152,7 +154,8 @@ fn confirmed_of<'a>(
     known: Option<u32>,
     parts: &[Value<'a>],
 ) -> Result<Request<'a>, MmsFault>
-    ensures { Gives MmsFault.OutOfMemory message result (confirmed_of known (map part_of parts.now)) }
+    ensures asked { Gives MmsFault.OutOfMemory message result (confirmed_of known (map part_of parts.now)) }
+    ensures memory { IsErrOf result MmsFault.OutOfMemory → IsTrue (lists_of (map part_of parts.now)) }
 {
     match parts {
         [id, service] => {
@@ -180,7 +183,8 @@ pub fn read_initiate(octets: &[u8]) -> Option<Proposal>
 }
 
 fn conclude(known: Option<u32>, content: &[u8]) -> Result<Request<'_>, MmsFault>
-    ensures { Gives MmsFault.OutOfMemory message result (or_bad known (nothing content.now asked.conclude)) }
+    ensures asked { Gives MmsFault.OutOfMemory message result (or_bad known (nothing content.now asked.conclude)) }
+    ensures memory { IsErrOf result MmsFault.OutOfMemory → ⊥ }
 {
     if content.is_empty() {
         Ok(Request::Conclude)
@@ -195,7 +199,8 @@ fn message_as<'a>(
     known: Option<u32>,
     value: &Value<'a>,
 ) -> Result<Request<'a>, MmsFault>
-    ensures { Gives MmsFault.OutOfMemory message result (message_as known (part_of value.now)) }
+    ensures asked { Gives MmsFault.OutOfMemory message result (message_as known (part_of value.now)) }
+    ensures memory { IsErrOf result MmsFault.OutOfMemory → IsTrue (lists_as (part_of value.now)) }
 {
     if value.tag.is(Tag::context_constructed(0)) {
         let parts = few_values(value.content).ok_or(MmsFault::BadPdu(known))?;
@@ -212,15 +217,23 @@ fn message_as<'a>(
     }
 }
 
-/// The request that octets are (ISO 9506-2, in the profile of IEC 61850-8-1), whose names, texts and data are slices of the
-/// octets. BadPdu where they are spelled as none, with the invoke id where one stands at their front; UnknownService for a
-/// service that is not served, for alternate access and for a named list; TooMany for more than 32 variables in a request that
-/// is spelled in all else. Data nests at most 10 deep.
+// The request that octets are, as it is read.
 #[tactic(auto, unfolding(crate::specs::Grammar::answer_to))]
-pub fn read_request<'a>(alloc: Global, octets: &'a [u8]) -> Result<Request<'a>, MmsFault>
-    ensures { Gives MmsFault.OutOfMemory message result (answer_to octets.now) }
+fn answer_to<'a>(alloc: Global, octets: &'a [u8]) -> Result<Request<'a>, MmsFault>
+    ensures asked { Gives MmsFault.OutOfMemory message result (answer_to octets.now) }
+    ensures memory { IsErrOf result MmsFault.OutOfMemory → IsTrue (lists_at (value_in octets.now)) }
 {
     let known = id_in(octets);
     let value = whole_value(octets).ok_or(MmsFault::BadPdu(known))?;
     message_as(alloc, known, &value)
+}
+
+/// The request that octets are (ISO 9506-2, in the profile of IEC 61850-8-1), whose names, texts and data are slices of the
+/// octets. BadPdu where they are spelled as none, with the invoke id where one stands at their front; UnknownService for a
+/// service that is not served, for alternate access and for a named list; TooMany for more than 32 variables in a request that
+/// is spelled in all else. Data nests at most 10 deep. Only a read or a write takes memory.
+pub fn read_request<'a>(alloc: Global, octets: &'a [u8]) -> Result<Request<'a>, MmsFault>
+    ensures { IsAnswer octets.now result }
+{
+    answer_to(alloc, octets)
 }

@@ -6,38 +6,18 @@ ghost use Rattle.bay_tree.specs.Rows.{IsHandle};
 ghost use Rattle.bay_mms.specs.Tags.{context, constructed, int_tag};
 ghost use Rattle.bay_mms.specs.Types.{type_text};
 ghost use Rattle.bay_mms.specs.Nodes.{type_at};
-ghost use Rattle.bay_mms.specs.Responses.{nesting_text, parameters_text, services_text, limits_text, detail_text, agreed_text, confirmed, error_text, identity_text, names_text, read_text, reads_text, wrote_text, writes_text, class_text, id_text, reason_text, service_number, content_text, service_text, response_text, IsReadOf, IsOfTree, IsAnswerable};
+ghost use Rattle.bay_mms.specs.Responses.{nesting_text, parameters_text, services_text, limits_text, detail_text, agreed_text, confirmed, error_text, identity_text, names_text, class_text, id_text, reason_text, service_number, content_text, service_text, response_text, IsOfTree, IsAnswerable};
 ghost use Rattle.bay_mms.specs.Writing.{Adds, Appends, written};
 
 use crate::fault::WriteFault;
-use crate::put::{put_around, put_integer, put_octets, put_truth};
-use crate::value::{put_type, put_value};
+use crate::put::{put_around, put_octets, put_truth};
+use crate::value::put_type;
 use bay_base::text::Text;
 use bay_ber::content::Bits;
 use bay_ber::tag::Tag;
 use bay_ber::writer::Writer;
 use bay_tree::tree::{Handle, Tree};
 use std::alloc::{AllocError, Global};
-
-/// What is read of one variable (ISO 9506-2, AccessResult).
-#[derive(Drop)]
-pub enum ReadResult {
-    /// The data of a row.
-    Value(Handle),
-    /// A text in the place of the row's own.
-    Reference(Text),
-    /// The number of an error (ISO 9506-2, DataAccessError).
-    Failure(u8),
-}
-
-/// What comes of one write.
-#[derive(Clone, Copy)]
-pub enum WriteResult {
-    /// The value was written.
-    Success,
-    /// The number of an error (ISO 9506-2, DataAccessError).
-    Failure(u8),
-}
 
 /// Why a request is answered with an error (ISO 9506-2, ServiceError).
 #[derive(Clone, Copy)]
@@ -57,7 +37,7 @@ pub enum RejectReason {
     InvalidPdu,
 }
 
-/// What answers a confirmed request.
+/// What answers a confirmed request, but for reads and writes, which `results` answers.
 #[derive(Clone, Copy)]
 pub enum Service<'a> {
     /// Who makes the device, which model it is, and of which revision.
@@ -75,15 +55,6 @@ pub enum Service<'a> {
     Attributes {
         tree: &'a Tree,
         handle: Handle,
-    },
-    /// What is read of each variable, in order.
-    Read {
-        tree: &'a Tree,
-        results: &'a [ReadResult],
-    },
-    /// What comes of each write, in order.
-    Write {
-        results: &'a [WriteResult],
     },
 }
 
@@ -183,56 +154,6 @@ fn put_attributes(writer: &mut Writer, tree: &Tree, handle: &Handle) -> Result<(
     put_around(writer, start, Tag::context_constructed(2))
 }
 
-fn put_read(writer: &mut Writer, tree: &Tree, read: &ReadResult) -> Result<(), WriteFault>
-    requires { IsReadOf tree.now read.now }
-    ensures { Appends writer.old result writer.new (read_text tree.now read.now) }
-{
-    match read {
-        ReadResult::Value(handle) => put_value(writer, tree, *handle),
-        ReadResult::Reference(text) => {
-            put_octets(writer, Tag::context(10), text.as_str().as_bytes())
-        },
-        ReadResult::Failure(cause) => put_integer(writer, 0, i64::from(*cause)),
-    }
-}
-
-fn put_reads(writer: &mut Writer, tree: &Tree, results: &[ReadResult]) -> Result<(), WriteFault>
-    requires { All (IsReadOf tree.now) results.now }
-    ensures { Adds writer.old result writer.new (reads_text tree.now results.now) }
-{
-    for read in results {
-        put_read(writer, tree, read)?;
-    }
-    Ok(())
-}
-
-fn put_read_list(writer: &mut Writer, tree: &Tree, results: &[ReadResult]) -> Result<(), WriteFault>
-    requires { All (IsReadOf tree.now) results.now }
-    ensures { Adds writer.old result writer.new (element (constructed 1) (reads_text tree.now results.now)) }
-{
-    let start = writer.len();
-    put_reads(writer, tree, results)?;
-    put_around(writer, start, Tag::context_constructed(1))
-}
-
-fn put_write(writer: &mut Writer, wrote: WriteResult) -> Result<(), WriteFault>
-    ensures { Appends writer.old result writer.new (wrote_text wrote) }
-{
-    match wrote {
-        WriteResult::Success => put_octets(writer, Tag::context(1), &[]),
-        WriteResult::Failure(cause) => put_integer(writer, 0, i64::from(cause)),
-    }
-}
-
-fn put_writes(writer: &mut Writer, results: &[WriteResult]) -> Result<(), WriteFault>
-    ensures { Adds writer.old result writer.new (writes_text results.now) }
-{
-    for wrote in results {
-        put_write(writer, *wrote)?;
-    }
-    Ok(())
-}
-
 // The number of a service's tag.
 fn service_number(service: &Service<'_>) -> u8
     ensures number { result ≡ service_number service.now }
@@ -242,8 +163,6 @@ fn service_number(service: &Service<'_>) -> u8
         Service::Identify { .. } => 2,
         Service::Names { .. } => 1,
         Service::Attributes { .. } => 6,
-        Service::Read { .. } => 4,
-        Service::Write { .. } => 5,
     }
 }
 
@@ -259,13 +178,11 @@ fn put_content(writer: &mut Writer, service: &Service<'_>) -> Result<(), WriteFa
         } => put_identity(writer, vendor, model, revision),
         Service::Names { names, more } => put_name_list(writer, names, *more),
         Service::Attributes { tree, handle } => put_attributes(writer, tree, handle),
-        Service::Read { tree, results } => put_read_list(writer, tree, results),
-        Service::Write { results } => put_writes(writer, results),
     }
 }
 
-// Writes an invoke id.
-fn put_id(writer: &mut Writer, id: u32) -> Result<(), AllocError>
+/// Writes an invoke id.
+pub(crate) fn put_id(writer: &mut Writer, id: u32) -> Result<(), AllocError>
     ensures { OnOk result (writer.new ≡ writer.old ++ element int_tag (integer_octets (pos id))) }
 {
     writer.int(Tag::universal(2), i64::from(id))

@@ -1,7 +1,8 @@
 // The services that are asked for (ISO 9506-2, ConfirmedServiceRequest).
-ghost use Rattle.std.specs.Prelude.{◌≡◌, map, option_map};
+ghost use Rattle.std.specs.Prelude.{◌≡◌, IsTrue, IsErrOf, map, option_map};
 ghost use Rattle.bay_base.specs.Exact.{Gives};
 ghost use Rattle.bay_ber.specs.Values.{part_of};
+ghost use Rattle.bay_mms.specs.Answers.{has_list};
 ghost use Rattle.bay_mms.specs.Requests as asked;
 ghost use Rattle.bay_mms.specs.Views.{data_in};
 ghost use Rattle.bay_mms.specs.Grammar.{inner_value, nothing, listing_in, place_as, class_as, scope_as, names_of, attributes_as, read_as, read_of, written_with, write_of, is_unlisted, other_as, service_as};
@@ -87,7 +88,8 @@ fn names_of<'a>(parts: &[Value<'a>]) -> Option<Call<'a>>
 // The variable whose type is asked for (ISO 9506-2, GetVariableAccessAttributes).
 #[tactic(auto, unfolding(crate::specs::Grammar::attributes_as))]
 fn attributes_as<'a>(value: &Value<'a>) -> Result<Call<'a>, Refusal>
-    ensures { Gives Refusal.OutOfMemory asking result (attributes_as (part_of value.now)) }
+    ensures asked { Gives Refusal.OutOfMemory asking result (attributes_as (part_of value.now)) }
+    ensures memory { IsErrOf result Refusal.OutOfMemory → ⊥ }
 {
     match name_in(value.content) {
         Some(name) if value.tag.is(Tag::context_constructed(0)) => Ok(Call::Attributes(name)),
@@ -163,7 +165,8 @@ fn is_unlisted(tag: Tag) -> bool
 
 #[tactic(auto, unfolding(crate::specs::Grammar::other_as))]
 fn other_as<'a>(value: &Value<'a>) -> Result<Call<'a>, Refusal>
-    ensures { Gives Refusal.OutOfMemory asking result (other_as (part_of value.now)) }
+    ensures asked { Gives Refusal.OutOfMemory asking result (other_as (part_of value.now)) }
+    ensures memory { IsErrOf result Refusal.OutOfMemory → ⊥ }
 {
     if is_unlisted(value.tag) {
         Err(Refusal::Unknown)
@@ -189,10 +192,11 @@ fn listing(content: &[u8]) -> Option<Call<'_>>
     names_of(parts.as_slice())
 }
 
-/// The service that a value asks for.
+/// The service that a value asks for. Only a read or a write takes memory.
 #[tactic(auto, unfolding(crate::specs::Grammar::service_as))]
 pub(crate) fn service_as<'a>(alloc: Global, value: &Value<'a>) -> Result<Call<'a>, Refusal>
-    ensures { Gives Refusal.OutOfMemory asking result (service_as (part_of value.now)) }
+    ensures asked { Gives Refusal.OutOfMemory asking result (service_as (part_of value.now)) }
+    ensures memory { IsErrOf result Refusal.OutOfMemory → IsTrue (has_list (part_of value.now)) }
 {
     if value.tag.is(Tag::context_constructed(1)) {
         listing(value.content).ok_or(Refusal::Bad)

@@ -15,8 +15,9 @@
 // - Of MMS: `request OCTETS ID WHAT` is a request in the words of its values, which with one octet more is a bad PDU of this
 //   invoke id (`-` for none), and with one less one without; `no-request OCTETS NUMBER [ID]` is none. `row NAME KIND VALUE` is a
 //   row of the tree, whose rows come one after another; behind them `value NAME OCTETS WHAT` and `type NAME OCTETS WHAT` are a
-//   row's data and type, as they are written and as trees. `response OCTETS KIND ..` is a response, `failure` and `termination`
-//   are reports, as they are written, which with one octet more or less are no value; `page ID LENGTHS LENGTH` and
+//   row's data and type, as they are written and as trees. `response OCTETS KIND ..` is a response, `failure`, `termination`
+//   and `failed` are reports, as they are written, which with one octet more or less are no value; `operate OCTETS WHAT` and
+//   `cancel OCTETS WHAT` are what the first value of a write asks of a control, or the number and the words of its fault; `page ID LENGTHS LENGTH` and
 //   `name NAME LENGTH` are lengths.
 // - Of sessions: `session` begins one; `frame HEX` and `tsdu HEX` are a message of the client, the second in one data TPDU; what
 //   it comes to follows: `sends HEX`, `sends-tsdu HEX`, `fault NUMBER`, `ends` or `aborts`, or nothing; `end` looks at it all.
@@ -28,6 +29,7 @@
 mod ber;
 mod built;
 mod connection;
+mod controls;
 mod messages;
 mod replaced;
 mod reports;
@@ -44,8 +46,9 @@ use ber::{reads_bits, reads_int, reads_long, reads_tag, reads_truth, refuses, wr
 use built::{is_built, is_length};
 use cases::told::Told;
 use cases::words::{first_word, is_case};
+use controls::is_control;
 use messages::is_message;
-use reports::{is_failure, is_name, is_page, is_termination};
+use reports::{is_failed, is_failure, is_name, is_page, is_termination};
 use requests::{is_fault, is_request};
 use responses::is_response;
 use rows::Rows;
@@ -97,6 +100,9 @@ impl Before {
             "response" => is_response(self.alloc, &mut self.rows, words),
             "failure" => is_failure(self.alloc, words),
             "termination" => is_termination(self.alloc, words),
+            "failed" => is_failed(self.alloc, words),
+            "operate" => is_control(self.alloc, words, false),
+            "cancel" => is_control(self.alloc, words, true),
             "page" => is_page(words),
             "name" => is_name(words),
             "session"

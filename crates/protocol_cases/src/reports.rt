@@ -4,7 +4,7 @@ use crate::written::is_written;
 use anyhow::{Result, bail};
 use bay_mms::control::{Operate, Origin};
 use bay_mms::page::{name_length, page_length};
-use bay_mms::report::{ControlError, write_failure, write_termination};
+use bay_mms::report::{ControlError, write_failed_termination, write_failure, write_termination};
 use cases::octets::octets_of;
 use cases::words::{first_word, truth_of};
 use std::alloc::Global;
@@ -93,6 +93,45 @@ pub fn is_termination(alloc: Global, words: &str) -> Result<bool> {
     };
     let operate = operate_of(alloc, value, origin, rest)?;
     let written = write_termination(alloc, domain, item, &operate)?;
+    is_written(alloc, written.as_slice(), octets)
+}
+
+/// The report of an operate that failed.
+fn failed_of(
+    alloc: Global,
+    object: &str,
+    add_cause: u8,
+    names: (&str, &str),
+    operate: &Operate<'_>,
+) -> Result<Vec<u8>> {
+    let (domain, item) = names;
+    let failure = ControlError {
+        object,
+        origin: operate.origin,
+        ctl_num: operate.ctl_num,
+        add_cause,
+    };
+    Ok(write_failed_termination(alloc, &failure, domain, item, operate)?)
+}
+
+/// Whether an operate that has failed is told so: its octets, the cause, the object, and the words of an operate that has ended.
+pub fn is_failed(alloc: Global, words: &str) -> Result<bool> {
+    let (octets, rest) = first_word(words);
+    let (cause, rest) = first_word(rest);
+    let (object, rest) = first_word(rest);
+    let (domain, rest) = first_word(rest);
+    let (item, rest) = first_word(rest);
+    let (value, rest) = first_word(rest);
+    let (category, rest) = first_word(rest);
+    let (identity, rest) = first_word(rest);
+    let identity = octets_of(alloc, identity)?;
+    let origin = Origin {
+        or_cat: category.parse::<i8>()?,
+        or_ident: identity.as_slice(),
+    };
+    let operate = operate_of(alloc, value, origin, rest)?;
+    let cause = cause.parse::<u8>()?;
+    let written = failed_of(alloc, object, cause, (domain, item), &operate)?;
     is_written(alloc, written.as_slice(), octets)
 }
 

@@ -1,14 +1,10 @@
 // Responses, and the octets that they are written in.
-ghost use Rattle.std.specs.Prelude.{IfOk};
-ghost use Rattle.bay_mms.specs.Responses.{IsReadOf};
-
 use crate::rows::Rows;
 use crate::written::is_written;
 use anyhow::{Result, bail};
 use bay_base::text::Text;
-use bay_mms::response::{
-    Agreed, ErrorClass, ReadResult, RejectReason, Response, Service, WriteResult, write_response,
-};
+use bay_mms::response::{Agreed, ErrorClass, RejectReason, Response, Service, write_response};
+use bay_mms::results::{ReadResponse, WriteResponse};
 use bay_tree::tree::Tree;
 use cases::words::{first_word, truth_of};
 use std::alloc::Global;
@@ -42,29 +38,16 @@ fn names_of(alloc: Global, words: &str) -> Result<Vec<Text>> {
     Ok(names)
 }
 
-/// What is read of a variable: `value:` and its name, `text:` and a text in its place, or `failure:` and a number; any other word
-/// stands for a failure.
-fn read_of(alloc: Global, tree: &Tree, word: &str) -> Result<ReadResult>
-    ensures { IfOk result (λ read. IsReadOf tree.now read) }
-{
+/// Appends what is read of a variable: `value:` and its name, `text:` and a text in its place, or `failure:` and a number; any other
+/// word stands for a failure.
+fn add_read(response: &mut ReadResponse, tree: &Tree, word: &str) -> Result<()> {
     let (kind, what) = word.split_once(":").unwrap_or(("failure", "0"));
     match kind {
-        "value" => Ok(ReadResult::Value(tree.find(what)?)),
-        "text" => Ok(ReadResult::Reference(Text::from_str(alloc, what)?)),
-        _ => Ok(ReadResult::Failure(what.parse::<u8>()?)),
+        "value" => response.value(tree, tree.find(what)?)?,
+        "text" => response.text(what)?,
+        _ => response.failure(what.parse::<u8>()?)?,
     }
-}
-
-/// What comes of writes, each: `success`, or a number.
-fn writes_of(alloc: Global, words: &str) -> Result<Vec<WriteResult>> {
-    let mut results = Vec::new(alloc);
-    for word in words.split(" ") {
-        match word.parse::<u8>() {
-            Ok(number) => results.push(WriteResult::Failure(number))?,
-            Err(_) => results.push(WriteResult::Success)?,
-        }
-    }
-    Ok(results)
+    Ok(())
 }
 
 fn class_of(word: &str) -> Result<ErrorClass> {
@@ -102,24 +85,27 @@ fn attributes(alloc: Global, tree: &Tree, id: u32, name: &str) -> Result<Vec<u8>
     Ok(write_response(alloc, &Response::Confirmed { id, service })?)
 }
 
-/// The octets of what is read of two variables.
+/// The octets of what is read of variables, each by a word.
 fn read(alloc: Global, tree: &Tree, id: u32, words: &str) -> Result<Vec<u8>> {
-    let (first, second) = first_word(words);
-    let results = [read_of(alloc, tree, first)?, read_of(alloc, tree, second)?];
-    let service = Service::Read {
-        tree,
-        results: &results,
-    };
-    Ok(write_response(alloc, &Response::Confirmed { id, service })?)
+    let mut response = ReadResponse::new(alloc);
+    for word in words.split(" ") {
+        if !word.is_empty() {
+            add_read(&mut response, tree, word)?;
+        }
+    }
+    Ok(response.finish(id)?)
 }
 
-/// The octets of what comes of writes.
+/// The octets of what comes of writes, each `success` or a number.
 fn write(alloc: Global, id: u32, words: &str) -> Result<Vec<u8>> {
-    let results = writes_of(alloc, words)?;
-    let service = Service::Write {
-        results: results.as_slice(),
-    };
-    Ok(write_response(alloc, &Response::Confirmed { id, service })?)
+    let mut response = WriteResponse::new(alloc);
+    for word in words.split(" ") {
+        match word.parse::<u8>() {
+            Ok(number) => response.failure(number)?,
+            Err(_) => response.success()?,
+        }
+    }
+    Ok(response.finish(id)?)
 }
 
 /// The octets of a response that is made of words alone: its kind, the first of its words, which is mostly an invoke id, and the

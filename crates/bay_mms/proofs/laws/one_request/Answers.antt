@@ -1,3 +1,4 @@
+use Rattle.bay_mms.proofs.AnswerLemmas.{answer_held}
 use Rattle.bay_mms.proofs.AskLemmas.{asked_read, asked_back, one_asked}
 use Rattle.bay_mms.proofs.InitiateLemmas.{initiate_read, initiate_back}
 use Rattle.bay_mms.proofs.laws.one_request.Goals as goal
@@ -13,3 +14,6 @@ returns-clause-one c = one_asked
 
 pub returns-clause-initiate : goal.returns-clause-initiate
 returns-clause-initiate c = λ octets proposal fits. (initiate_back octets proposal fits, initiate_read octets proposal)
+
+pub returns-clause-answer : goal.returns-clause-answer
+returns-clause-answer c = answer_held

@@ -1,4 +1,4 @@
-use Rattle.bay_mms.proofs.LawLemmas.{datum_spells, response_spells, report_spells}
+use Rattle.bay_mms.proofs.LawLemmas.{datum_spells, response_spells, confirmed_spells, report_spells}
 use Rattle.bay_mms.proofs.PlainLemmas.{plain_read}
 use Rattle.bay_mms.proofs.laws.written_is_read.Goals as goal
 
@@ -13,3 +13,6 @@ returns-clause-report c = report_spells
 
 pub returns-clause-received : goal.returns-clause-received
 returns-clause-received c = plain_read
+
+pub returns-clause-confirmed : goal.returns-clause-confirmed
+returns-clause-confirmed c = confirmed_spells
