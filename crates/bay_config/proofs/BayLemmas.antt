@@ -9,7 +9,7 @@ use Rattle.bay_config.specs.declared.read.Sections.{Sections}
 use Rattle.bay_config.specs.Bay.{bay_section, switch_section, name_section, sections, bay_table, nameplate_in, switches_in, names_in, bay_in, bay_of_table}
 use Rattle.bay_base.specs.Exact.{judged}
 use Rattle.bay_config.specs.Key.{first_of, unknown_refusal}
-use Rattle.bay_config.specs.Node.{rows_of_all}
+use Rattle.bay_nodes.specs.Node.{rows_of_all}
 use Rattle.bay_config.specs.Point.{points_of_all, names_refusal}
 use Rattle.bay_config.specs.Section.{section_refusal}
 use Rattle.bay_config.proofs.KeyLemmas.{then, judged-step}

@@ -1,15 +1,15 @@
 -- What holds of every bay that is read.
-use Rattle.std.proofs.Common.{◌≡◌, ◌≢◌, ℕ, zero, suc, ◌+◌, ◌<◌, ◌≤◌, Bool, true, false, not, ◌&&◌, cond, nat_lt, List, [], ◌∷◌, ◌++◌, length, map, drop, get_or, slice_get, Option, None, Some, is_some, option_to_list, unwrap_or, Ok, codes, All, Contains, refl, sym, ap, subst, ◌∙◌, arith, lit<, suc-add}
+use Rattle.std.proofs.Common.{◌≡◌, ◌≢◌, ℕ, zero, suc, ◌+◌, ◌<◌, ◌≤◌, Bool, true, false, not, nat_lt, List, [], ◌∷◌, ◌++◌, length, map, drop, get_or, slice_get, Option, None, Some, is_some, option_to_list, unwrap_or, Ok, codes, All, Contains, refl, sym, subst, arith, lit<, suc-add}
 use Rattle.std.proofs.lemmas.Bool.{and_parts, ltb-false}
 use Rattle.std.proofs.lemmas.List.{length-map}
 use Rattle.std.proofs.lemmas.List.Elements.{All-append, All-from_recursion, All-contains, Contains-get_or}
 use Rattle.std.proofs.lemmas.Slice.Eq.{bytes_eq-Decides}
 use Rattle.std.specs.List.{AllByRecursion}
 use Rattle.std.specs.Str.{bytes_eq}
-use Rattle.toml.specs.Data.{Data, Items, no_items, item, Members, get_member, as_table}
+use Rattle.toml.specs.Data.{Items, no_items, item, Members, get_member, as_table}
 use Rattle.bay_config.specs.declared.bay.Bay.{Bay}
 use Rattle.bay_config.specs.declared.bay.Point.{Point}
-use Rattle.bay_config.specs.declared.bay.Switch.{Switch}
+use Rattle.bay_nodes.specs.declared.switch.Switch.{Switch}
 use Rattle.bay_config.specs.declared.fault.BayFault.{BayFault}
 use Rattle.bay_config.specs.declared.fault.BayFault.TheVariants.{MissingKey, BadValue, DuplicateName, TooMany}
 use Rattle.bay_config.specs.declared.names.NameSection.{NameSection}
@@ -17,12 +17,12 @@ use Rattle.bay_config.specs.declared.names.NameSection.TheVariants.{Input, Meter
 use Rattle.bay_config.specs.Bay.{bay_section, switch_section, name_section, most_names, name_in, name_keys, sections, switches_in, names_in, bay_table, nameplate_in, bay_in, bay_of_table, file_refusal}
 use Rattle.bay_config.specs.Key.{Key, first_of, is_among, unknown_refusal, refused_if}
 use Rattle.bay_config.specs.Laws.{IsOwned, IsBay}
-use Rattle.bay_config.specs.Point.{points_of, points_from, input_point, inputs_from, meter_points, meters_from, points_of_all, has_twin, names_refusal}
+use Rattle.bay_config.specs.Point.{points_of, points_from, inputs_from, meter_points, meters_from, points_of_all, has_twin, names_refusal}
 use Rattle.bay_config.specs.Section.{are_tables, count_of, tables_of, items_at, items_refusal, list_refusal, section_refusal, section_tables}
 use Rattle.bay_config.specs.Switch.{switch_keys, switch_in}
 use Rattle.bay_config.proofs.KeyLemmas.{judged-Ok, or-false_parts}
-use Rattle.bay_config.proofs.NumberLemmas.{rows_make_tree}
-use Rattle.bay_config.proofs.PathLemmas.{AllDiffer}
+use Rattle.bay_nodes.proofs.NumberLemmas.{rows_make_tree}
+use Rattle.bay_nodes.proofs.PathLemmas.{AllDiffer}
 
 abbrev names_of : List Point → List (List ℕ)
 names_of points = map (λ p. p.name) points

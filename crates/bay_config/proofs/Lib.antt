@@ -5,9 +5,5 @@ pub mod ListLemmas
 pub mod NameLemmas
 pub mod NamedLemmas
 pub mod NameplateLemmas
-pub mod NodeLemmas
-pub mod NumberLemmas
-pub mod PathLemmas
 pub mod PointLemmas
 pub mod SwitchLemmas
-pub mod TreeLemmas

@@ -5,14 +5,14 @@ use Rattle.std.proofs.lemmas.List.Elements.{Contains-append_left, Contains-appen
 use Rattle.std.specs.List.{enumerate_from, flat_map}
 use Rattle.bay_tree.specs.declared.row.Row.{Row}
 use Rattle.bay_config.specs.declared.bay.Bay.{Bay}
-use Rattle.bay_config.specs.declared.bay.Control.{Control}
-use Rattle.bay_config.specs.declared.bay.Control.TheVariants.{Status, Direct, Sbo, SboEnhanced}
-use Rattle.bay_config.specs.declared.bay.Switch.{Switch}
-use Rattle.bay_config.specs.declared.nameplate.Nameplate.{Nameplate}
-use Rattle.bay_config.specs.declared.bay.SwitchKind.{SwitchKind}
-use Rattle.bay_config.specs.declared.bay.SwitchKind.TheVariants.{Breaker, Disconnector, Earthing}
+use Rattle.bay_nodes.specs.declared.switch.Control.{Control}
+use Rattle.bay_nodes.specs.declared.switch.Control.TheVariants.{Status, Direct, Sbo, SboEnhanced}
+use Rattle.bay_nodes.specs.declared.switch.Switch.{Switch}
+use Rattle.bay_nodes.specs.declared.nameplate.Nameplate.{Nameplate}
+use Rattle.bay_nodes.specs.declared.switch.SwitchKind.{SwitchKind}
+use Rattle.bay_nodes.specs.declared.switch.SwitchKind.TheVariants.{Breaker, Disconnector, Earthing}
 use Rattle.bay_config.specs.Laws.{nameplate_of, IsBay, HasNode, HasPosition, HasControl, HasEnable, HasMeter, NamesPosition, NamesControl, NamesInterlocking, NamesMeter}
-use Rattle.bay_config.specs.Node.{Parts, Node, row, node_rows, node_name, class_of, is_breaker, is_of, node_number, device_node, physical_node, position_node, position_nodes, position_parts, control_node, control_nodes, control_parts, interlocking_node, interlocking_nodes, interlocking_parts, meter_node, meter_nodes, meter_parts, nodes_of}
+use Rattle.bay_nodes.specs.Node.{Parts, Node, row, node_rows, node_name, class_of, is_breaker, is_of, node_number, device_node, physical_node, position_node, position_nodes, position_parts, control_node, control_nodes, control_parts, interlocking_node, interlocking_nodes, interlocking_parts, meter_node, meter_nodes, meter_parts, nodes_of}
 
 Contains-cons : {X : Type 0} (y : X) (xs : List X) (x : X) → Contains xs x → Contains (y ∷ xs) x
 Contains-cons y xs x w = (suc w.0, omega (arith, w.1), w.2)

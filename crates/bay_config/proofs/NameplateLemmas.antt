@@ -2,7 +2,7 @@
 use Rattle.std.proofs.Common.{◌≡◌, [], ◌∷◌, map, codes, Result, Ok, refl}
 use Rattle.toml.specs.Data.{Members}
 use Rattle.bay_config.specs.declared.fault.BayFault.{BayFault}
-use Rattle.bay_config.specs.declared.nameplate.Nameplate.{Nameplate}
+use Rattle.bay_nodes.specs.declared.nameplate.Nameplate.{Nameplate}
 use Rattle.bay_config.specs.Bay.{bay_keys, nameplate_in}
 use Rattle.bay_base.specs.Exact.{judged}
 use Rattle.bay_config.specs.Key.{Key, identifier, description, number, unknown_refusal, key_refusal, entry_refusal, text_in, number_in}

@@ -1,20 +1,13 @@
 -- A switch's refusal and value, key by key.
-use Rattle.std.proofs.Common.{◌≡◌, ℕ, suc, true, ◌&&◌, cond, nat_lt, is_some, arith, ◌+◌, ◌<◌, length, get_or, drop, append_assoc, option_to_list, List, [], ◌∷◌, map, codes, ◌++◌, false, Option, None, Some, option_map, option_and_then, Result, Ok, Err, unwrap_or, refl, ap, sym, ◌∙◌}
-use Rattle.std.proofs.lemmas.Bool.{and_parts}
-use Rattle.std.specs.List.{list_all}
-use Rattle.toml.specs.Data.{Members, get_member, as_integer, as_table}
-use Rattle.toml.specs.View.{view, items_view}
-use Rattle.toml.specs.declared.value.Value.{Value}
-use Rattle.toml.proofs.Views.{items_view-drop}
-use Rattle.bay_config.specs.declared.bay.Switch.{Switch}
-use Rattle.bay_config.specs.declared.bay.SwitchKind.TheVariants.{Breaker}
-use Rattle.bay_config.specs.declared.bay.Control.{Control}
-use Rattle.bay_config.specs.declared.bay.Control.TheVariants.{Status, Direct}
+use Rattle.std.proofs.Common.{◌≡◌, ℕ, List, [], ◌∷◌, map, codes, ◌++◌, false, Option, None, Some, option_map, option_and_then, Result, Ok, unwrap_or, refl, ap, sym, ◌∙◌}
+use Rattle.toml.specs.Data.{Members, get_member, as_integer}
+use Rattle.bay_nodes.specs.declared.switch.Switch.{Switch}
+use Rattle.bay_nodes.specs.declared.switch.SwitchKind.TheVariants.{Breaker}
+use Rattle.bay_nodes.specs.declared.switch.Control.{Control}
+use Rattle.bay_nodes.specs.declared.switch.Control.TheVariants.{Status, Direct}
 use Rattle.bay_config.specs.declared.fault.BayFault.{BayFault}
 use Rattle.bay_base.specs.Exact.{judged}
 use Rattle.bay_config.specs.Key.{first_of, unknown_refusal, key_refusal, entry_refusal, text_in, number_in, natural, has_unknown, is_among}
-use Rattle.bay_config.specs.declared.fault.BayFault.TheVariants.{BadValue, TooMany}
-use Rattle.bay_config.specs.Section.{are_tables, tables_of, list_refusal}
 use Rattle.bay_config.specs.Switch.{kind_of, control_of, id_key, kind_key, control_key, time_keys, switch_keys, switch_in}
 use Rattle.bay_config.proofs.KeyLemmas.{then, judged-step, judged-last, unknown-absent}
 

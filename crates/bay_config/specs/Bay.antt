@@ -3,15 +3,15 @@ use Rattle.std.specs.Prelude.{ℕ, List, [], ◌∷◌, ◌++◌, map, codes, Op
 use Rattle.toml.specs.Data.{Members, no_members, get_member, as_table}
 use Rattle.toml.specs.Parse.{parse_document}
 use Rattle.bay_config.specs.declared.bay.Bay.{Bay}
-use Rattle.bay_config.specs.declared.bay.Switch.{Switch}
-use Rattle.bay_config.specs.declared.nameplate.Nameplate.{Nameplate}
+use Rattle.bay_nodes.specs.declared.switch.Switch.{Switch}
+use Rattle.bay_nodes.specs.declared.nameplate.Nameplate.{Nameplate}
 use Rattle.bay_config.specs.declared.names.NameSection.{NameSection}
 use Rattle.bay_config.specs.declared.names.NameSection.TheVariants.{Input, Meter}
 use Rattle.bay_config.specs.declared.fault.BayFault.{BayFault}
 use Rattle.bay_config.specs.declared.fault.BayFault.TheVariants.{BadToml}
 use Rattle.bay_base.specs.Exact.{judged}
 use Rattle.bay_config.specs.Key.{Key, identifier, description, number, first_of, unknown_refusal, text_in, number_in}
-use Rattle.bay_config.specs.Node.{rows_of_all}
+use Rattle.bay_nodes.specs.Node.{rows_of_all}
 use Rattle.bay_config.specs.Point.{points_of_all, names_refusal}
 use Rattle.bay_config.specs.Section.{Section, one, many, section_refusal, section_tables}
 use Rattle.bay_config.specs.Switch.{switch_keys, switch_in}

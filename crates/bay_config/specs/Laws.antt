@@ -9,9 +9,9 @@ use Rattle.bay_config.specs.declared.bay.Bay.{Bay}
 use Rattle.bay_config.specs.declared.bay.Source.{Source}
 use Rattle.bay_config.specs.declared.bay.Source.TheVariants as sources
 use Rattle.bay_config.specs.declared.bay.Point.{Point}
-use Rattle.bay_config.specs.declared.bay.Switch.{Switch}
-use Rattle.bay_config.specs.declared.nameplate.Nameplate.{Nameplate}
-use Rattle.bay_config.specs.Node.{Node, row, node_rows, node_name, class_of, node_number, position_parts, control_parts, interlocking_parts, meter_parts, rows_of_all}
+use Rattle.bay_nodes.specs.declared.switch.Switch.{Switch}
+use Rattle.bay_nodes.specs.declared.nameplate.Nameplate.{Nameplate}
+use Rattle.bay_nodes.specs.Node.{Node, row, node_rows, node_name, class_of, node_number, position_parts, control_parts, interlocking_parts, meter_parts, rows_of_all}
 use Rattle.bay_config.specs.Point.{points_of, input_point, meter_points, points_of_all}
 
 -- the switch at a place has the point

@@ -2,8 +2,6 @@ pub mod Bay
 pub mod Code
 pub mod Key
 pub mod Laws
-pub mod Node
-pub mod NodeRows
 pub mod Point
 pub mod Section
 pub mod Switch

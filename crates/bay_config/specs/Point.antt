@@ -2,7 +2,7 @@
 use Rattle.std.specs.Prelude.{ℕ, ◌+◌, Bool, true, false, ◌||◌, List, [], ◌∷◌, ◌++◌, map, codes, Option, is_some}
 use Rattle.std.specs.List.{list_any}
 use Rattle.std.specs.Str.{str_to_ascii_uppercase}
-use Rattle.bay_config.specs.declared.bay.Switch.{Switch}
+use Rattle.bay_nodes.specs.declared.switch.Switch.{Switch}
 use Rattle.bay_config.specs.declared.bay.Point.{Point}
 use Rattle.bay_config.specs.declared.bay.Source.TheVariants as sources
 use Rattle.bay_config.specs.declared.bay.MeterField.{MeterField}

@@ -1,6 +1,6 @@
 -- The sections of a bay file: how often each stands, which keys its tables have, and its first refusal.
-use Rattle.std.specs.Prelude.{ℕ, ◌+◌, nat_lt, Bool, true, not, ◌&&◌, List, [], ◌∷◌, ◌++◌, map, Option, None, Some, is_some, option_to_list, option_and_then, unwrap_or}
-use Rattle.toml.specs.Data.{Data, Items, no_items, item, Members, no_members, get_member, as_table, as_array}
+use Rattle.std.specs.Prelude.{ℕ, ◌+◌, nat_lt, Bool, true, not, ◌&&◌, List, [], ◌∷◌, ◌++◌, map, Option, None, Some, is_some, option_to_list, unwrap_or}
+use Rattle.toml.specs.Data.{Data, Items, no_items, item, Members, get_member, as_table, as_array}
 use Rattle.bay_config.specs.declared.fault.BayFault.{BayFault}
 use Rattle.bay_config.specs.declared.fault.BayFault.TheVariants.{MissingKey, BadValue, TooMany}
 use Rattle.bay_config.specs.Key.{Key, first_of, refused_if, entry_refusal}

@@ -2,6 +2,7 @@
 use bay_base::listing::Listing;
 use bay_base::text::Text;
 use bay_base::types::ElementaryType;
+pub use bay_nodes::switch::{Control, Switch, SwitchKind};
 use bay_tree::row::Row;
 
 /// A bay: one logical device with its switches, inputs and meters.
@@ -27,43 +28,6 @@ pub struct Bay {
     pub inputs: Listing<Text>,
     /// The ids of the meters, at most 8, in the order of the file.
     pub meters: Listing<Text>,
-}
-
-/// A switching device (IEC 61850-7-4, XCBR and XSWI) and the way it is controlled.
-#[derive(Debug, Drop)]
-pub struct Switch {
-    /// The name as the file spells it: a letter, then letters, digits and `_`, at most 16 characters.
-    pub id: Text,
-    pub kind: SwitchKind,
-    pub control: Control,
-    /// How long a selection lasts, in milliseconds, 1 to 600,000; 0 where `control` has no selection.
-    pub sbo_timeout_ms: u32,
-    /// How long the switch may travel, in milliseconds, 1 to 600,000; 0 where it is not controlled.
-    pub travel_ms: u32,
-}
-
-/// What a switch is for.
-#[derive(Clone, Copy, Debug, PartialEq, Eq)]
-pub enum SwitchKind {
-    /// A circuit breaker.
-    Breaker,
-    /// A disconnector.
-    Disconnector,
-    /// An earthing switch.
-    Earthing,
-}
-
-/// How a switch is controlled (IEC 61850-7-2, control model).
-#[derive(Clone, Copy, Debug, PartialEq, Eq)]
-pub enum Control {
-    /// Its status alone is shown.
-    Status,
-    /// Direct control with normal security.
-    Direct,
-    /// Select before operate with normal security.
-    Sbo,
-    /// Select before operate with enhanced security: select with value, and a report of the end.
-    SboEnhanced,
 }
 
 /// A variable by which the program reads or writes the bay.

@@ -1,6 +1,6 @@
 // The configuration of a bay: its switches, inputs and meters, the points that its program reads and writes, and
 // the rows of the tree that clients browse. It is read from TOML, and each text is a bay or is refused with the
-// first fault, in a fixed order.
+// first fault, in a fixed order. The rows are those of bay_nodes.
 //
 // - `bay`: what a bay is: its nameplate, its switches, inputs and meters, its points and its rows.
 // - `fault`: why a text is no bay.
@@ -11,8 +11,6 @@
 // - `names`: the sections `input` and `meter`.
 // - `points`: the points of switches, inputs and meters, and their names.
 // - `nodes`: the names of the logical nodes.
-// - `tables`: the rows of each logical node, with the values of the start.
-// - `rows`: the rows of all of a bay's nodes.
 // - `read`: `read_bay`, which reads all of them.
 #![tactic(auto)]
 
@@ -25,6 +23,4 @@ mod names;
 pub mod nodes;
 mod points;
 pub mod read;
-mod rows;
 mod switches;
-mod tables;

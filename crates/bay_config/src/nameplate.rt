@@ -8,19 +8,9 @@ ghost use Rattle.bay_config.specs.Section.{section_refusal};
 
 use crate::fault::BayFault;
 use crate::keys::{check_keys, description_at, find, identifier_at, number_at};
-use bay_base::text::Text;
+use bay_nodes::nameplate::Nameplate;
 use std::alloc::Global;
 use toml::Table;
-
-/// What the section `bay` says: the device's name and maker, and how old a scan may be.
-#[derive(Drop)]
-pub struct Nameplate {
-    pub domain: Text,
-    pub vendor: Text,
-    pub model: Text,
-    pub revision: Text,
-    pub scan_max_age_ms: u32,
-}
 
 fn nameplate_from(alloc: Global, table: &Table) -> Result<Nameplate, BayFault>
     ensures { let t = table_view table.now in Gives OutOfMemory (λ x. x) result (judged (entry_refusal bay_keys t) (nameplate_in t)) }

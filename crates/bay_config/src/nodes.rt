@@ -1,38 +1,12 @@
 // The names of a bay's logical nodes.
 ghost use Rattle.std.specs.Prelude.{◌≡◌, ◌<◌, ◌≤◌, filter, length, IfOk};
-ghost use Rattle.bay_config.specs.Node.{is_breaker, is_of, class_of};
+ghost use Rattle.bay_nodes.specs.Node.{is_of};
 ghost use Rattle.bay_config.specs.Laws.{NamesPosition, NamesControl, NamesInterlocking, NamesMeter};
 
-use crate::bay::{Bay, Switch, SwitchKind};
+use crate::bay::{Bay, Switch};
 use bay_base::text::Text;
+use bay_nodes::names::{class_of, is_breaker, is_of};
 use std::alloc::{AllocError, Global};
-
-pub(crate) fn is_breaker(kind: SwitchKind) -> bool
-    ensures { result ≡ is_breaker kind }
-{
-    kind == SwitchKind::Breaker
-}
-
-/// Whether the switch is one of the breakers, or one of the others.
-pub(crate) fn is_of(breakers: bool, switch: &Switch) -> bool
-    ensures { result ≡ is_of breakers switch.now }
-{
-    if breakers {
-        is_breaker(switch.kind)
-    } else {
-        !is_breaker(switch.kind)
-    }
-}
-
-/// The class of a switch's node.
-pub(crate) fn class_of(kind: SwitchKind) -> &'static str
-    ensures { result.now ≡ class_of kind }
-{
-    match kind {
-        SwitchKind::Breaker => "XCBR",
-        SwitchKind::Disconnector | SwitchKind::Earthing => "XSWI",
-    }
-}
 
 /// How many of the switches are breakers, or are none.
 fn count_of(switches: &[Switch], breakers: bool) -> usize

@@ -7,20 +7,21 @@ ghost use Rattle.bay_config.specs.declared.names.NameSection.TheVariants.{Input,
 ghost use Rattle.bay_base.specs.Exact.{Gives, judged};
 ghost use Rattle.bay_config.specs.Key.{first_of, unknown_refusal};
 ghost use Rattle.bay_config.specs.Laws.{IsBay};
-ghost use Rattle.bay_config.specs.Node.{rows_of_all};
+ghost use Rattle.bay_nodes.specs.Node.{rows_of_all};
 ghost use Rattle.bay_config.specs.Point.{names_refusal, points_of_all};
 ghost use Rattle.bay_config.specs.Section.{section_refusal};
 
 use crate::bay::{Bay, Point, Switch};
 use crate::fault::BayFault;
 use crate::keys::check_keys;
-use crate::nameplate::{Nameplate, nameplate_at};
+use crate::nameplate::nameplate_at;
 use crate::names::{NameSection, names_at};
 use crate::points::{check_names, points_of};
-use crate::rows::rows_of;
 use crate::switches::switches_at;
 use bay_base::listing::Listing;
 use bay_base::text::Text;
+use bay_nodes::nameplate::Nameplate;
+use bay_nodes::rows::rows_of;
 use bay_tree::row::Row;
 use std::alloc::Global;
 use toml::Table;

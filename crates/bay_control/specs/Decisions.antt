@@ -1,6 +1,6 @@
 -- The decisions on select, operate and cancel (IEC 61850-7-2, 20): their answers, and the controls after them.
 use Rattle.std.specs.Prelude.{ℕ, ◌+◌, Bool, false, not, ◌&&◌, ◌||◌, ◌==◌, nat_le, if◌then◌else◌, List, [], ◌∷◌, map, Option, None, Some, Result, Ok, Err, is_ok}
-use Rattle.bay_config.specs.declared.bay.Switch.{Switch}
+use Rattle.bay_nodes.specs.declared.switch.Switch.{Switch}
 use Rattle.bay_tree.specs.declared.leaf.Dbpos.{Dbpos}
 use Rattle.bay_control.specs.Requests.{asked_choice, control_of, is_controlled, is_enhanced, is_normal, is_reached, is_released, is_sbo, same_choice}
 use Rattle.bay_control.specs.declared.cause.AddCause.{AddCause}

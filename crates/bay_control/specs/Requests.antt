@@ -3,8 +3,8 @@
 use Rattle.std.specs.Prelude.{ℕ, Bool, true, false, not, ◌&&◌, if◌then◌else◌, List, nat_eq, slice_get, Option, None, Some}
 use Rattle.std.specs.Cmp.Lexicographic.{pointwise}
 use Rattle.std.specs.Ordering.{int_eq}
-use Rattle.bay_config.specs.declared.bay.Control.{Control}
-use Rattle.bay_config.specs.declared.bay.Control.TheVariants.{Status, Direct, Sbo, SboEnhanced}
+use Rattle.bay_nodes.specs.declared.switch.Control.{Control}
+use Rattle.bay_nodes.specs.declared.switch.Control.TheVariants.{Status, Direct, Sbo, SboEnhanced}
 use Rattle.bay_tree.specs.declared.leaf.Dbpos.{Dbpos}
 use Rattle.bay_tree.specs.declared.leaf.Dbpos.TheVariants.{Intermediate, Off, On, Bad}
 use Rattle.bay_control.specs.declared.control.SwitchControl.{SwitchControl}

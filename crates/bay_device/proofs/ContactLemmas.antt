@@ -5,7 +5,7 @@ use Rattle.bay_tree.specs.declared.leaf.Dbpos.{Dbpos}
 use Rattle.bay_tree.specs.declared.leaf.Kind.TheVariants as kind
 use Rattle.bay_config.specs.declared.bay.MeterField.{MeterField}
 use Rattle.bay_config.specs.declared.bay.MeterField.TheVariants.{TotW, TotVAr, Hz, PhaseA, PhaseB, PhaseC}
-use Rattle.bay_config.specs.declared.bay.Switch.{Switch}
+use Rattle.bay_nodes.specs.declared.switch.Switch.{Switch}
 use Rattle.bay_device.specs.Device.{State, tells, rows_after_contact, contact_taken, tells_measure, rows_after_measure, measure_taken}
 use Rattle.bay_device.specs.Layout.{Layout, status_in, AreStatusRows, meter_in, field_rows, AreMeterRows}
 use Rattle.bay_device.specs.Names.{StatusNames, SwitchNames, switch_names, meter_names, field_names}

@@ -13,9 +13,9 @@ use Rattle.bay_tree.specs.Rows.{IsTree, row_at, name_at, leaf_of, kind_at, kinds
 use Rattle.bay_tree.specs.declared.leaf.Leaf.TheVariants as leaf
 use Rattle.bay_tree.specs.declared.leaf.Quality.TheVariants.{Good}
 use Rattle.bay_tree.proofs.NamedLemmas.{leaf-named}
-use Rattle.bay_config.specs.Node.{row, position_parts}
-use Rattle.bay_config.specs.declared.bay.SwitchKind.{SwitchKind}
-use Rattle.bay_config.specs.declared.bay.SwitchKind.TheVariants.{Breaker, Disconnector, Earthing}
+use Rattle.bay_nodes.specs.Node.{row, position_parts}
+use Rattle.bay_nodes.specs.declared.switch.SwitchKind.{SwitchKind}
+use Rattle.bay_nodes.specs.declared.switch.SwitchKind.TheVariants.{Breaker, Disconnector, Earthing}
 use Rattle.bay_config.specs.Laws.{IsBay, HasNode, HasPosition, HasControl, HasEnable, HasMeasured, HasMeter, NamesMeter}
 use Rattle.bay_config.specs.declared.bay.Bay.{Bay}
 use Rattle.bay_device.specs.Layout.{Layout, layout_of, name_in, status_in, HasKind, AreStatusRows, AreMetersBound, IsMeterBound}

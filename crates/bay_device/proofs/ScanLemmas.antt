@@ -6,7 +6,7 @@ use Rattle.bay_tree.specs.Rows.{leaf_of}
 use Rattle.bay_config.specs.declared.bay.MeterField.{MeterField}
 use Rattle.bay_config.specs.declared.bay.Source.{Source}
 use Rattle.bay_config.specs.declared.bay.Source.TheVariants as source
-use Rattle.bay_config.specs.declared.bay.Switch.{Switch}
+use Rattle.bay_nodes.specs.declared.switch.Switch.{Switch}
 use Rattle.bay_config.specs.declared.bay.SwitchPoint.{SwitchPoint}
 use Rattle.il_image.specs.Machine.{Halted, Ending, run}
 use Rattle.il_image.specs.declared.value.Value.{Value}

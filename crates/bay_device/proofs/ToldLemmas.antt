@@ -17,12 +17,12 @@ use Rattle.bay_tree.specs.declared.leaf.Leaf.TheVariants as leaf
 use Rattle.bay_tree.specs.declared.leaf.Dbpos.{Dbpos}
 use Rattle.bay_tree.specs.declared.leaf.Quality.{Quality}
 use Rattle.bay_tree.specs.declared.leaf.Quality.TheVariants.{Good, Invalid}
-use Rattle.bay_config.specs.Node.{class_of, node_name, node_number}
+use Rattle.bay_nodes.specs.Node.{class_of, node_name, node_number}
 use Rattle.bay_config.specs.declared.bay.MeterField.{MeterField}
 use Rattle.bay_config.specs.declared.bay.MeterField.TheVariants.{TotW, TotVAr, Hz, PhaseA, PhaseB, PhaseC}
-use Rattle.bay_config.specs.declared.bay.Switch.{Switch}
-use Rattle.bay_config.specs.declared.bay.SwitchKind.{SwitchKind}
-use Rattle.bay_config.specs.declared.bay.SwitchKind.TheVariants.{Breaker, Disconnector, Earthing}
+use Rattle.bay_nodes.specs.declared.switch.Switch.{Switch}
+use Rattle.bay_nodes.specs.declared.switch.SwitchKind.{SwitchKind}
+use Rattle.bay_nodes.specs.declared.switch.SwitchKind.TheVariants.{Breaker, Disconnector, Earthing}
 use Rattle.bay_device.specs.Device.{is_truth, is_quality, same_truth, with_status, with_enabled, with_output, counted, operation_counted, is_operation, tells, position_quality, rows_after_change, rows_after_contact, tells_measure, rows_after_measure}
 use Rattle.bay_device.specs.Names.{StatusNames, SwitchNames, switch_names, node_of, field_names, meter_names, interlocking_of, opening_of, closing_of}
 use Rattle.bay_device.specs.declared.switch.Enabled.{Enabled}

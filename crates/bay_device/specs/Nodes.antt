@@ -6,7 +6,7 @@ use Rattle.bay_tree.specs.declared.row.Row.{Row}
 use Rattle.bay_tree.specs.declared.leaf.Kind.{Kind}
 use Rattle.bay_tree.specs.declared.leaf.Kind.TheVariants as kind
 use Rattle.bay_config.specs.declared.bay.Bay.{Bay}
-use Rattle.bay_config.specs.Node.{node_name}
+use Rattle.bay_nodes.specs.Node.{node_name}
 use Rattle.bay_config.specs.Laws.{NamesPosition, NamesControl, NamesInterlocking, NamesMeter}
 use Rattle.bay_device.specs.Layout.{Layout, switch_in, AreSwitchRows, meter_in, AreMeterRows}
 use Rattle.bay_device.specs.Names.{StatusNames, SwitchNames, names_by_nodes, MeterNames, meter_names_of}

@@ -2,7 +2,7 @@
 use Rattle.std.specs.Prelude.{◌≡◌, true, false, ℕ, List, length, map, None}
 use Rattle.bay_config.specs.declared.bay.Source.{Source}
 use Rattle.bay_config.specs.declared.bay.Point.{Point}
-use Rattle.bay_config.specs.declared.bay.Switch.{Switch}
+use Rattle.bay_nodes.specs.declared.switch.Switch.{Switch}
 use Rattle.bay_tree.specs.declared.row.Row.{Row}
 use Rattle.il_image.specs.Images.{Image}
 use Rattle.il_scan.specs.Scans.{held_first}

@@ -1,7 +1,7 @@
 -- What is printed for a line of the trace.
 use Rattle.std.specs.Prelude.{ℕ, ◌+◌, Bool, true, false, List, [], ◌∷◌, ◌++◌, length, codes, unwrap_or, Option, None, Some, Result, Ok, Err, if◌then◌else◌}
 use Rattle.std.specs.Fmt.{decimal}
-use Rattle.bay_config.specs.declared.bay.Switch.{Switch}
+use Rattle.bay_nodes.specs.declared.switch.Switch.{Switch}
 use Rattle.bay_device.specs.Code.{step_code_of}
 use Rattle.bay_device.specs.Device.{State, outcome}
 use Rattle.bay_device.specs.LookUps.{switch_place, input_place, meter_place, may_open, may_close}

@@ -2,7 +2,7 @@
 ghost use Rattle.std.specs.Prelude.{◌≡◌, ℕ, List, Ok};
 ghost use Rattle.bay_config.specs.Point.{points_of_all};
 ghost use Rattle.bay_config.specs.declared.bay.Point.{Point};
-ghost use Rattle.bay_config.specs.declared.bay.Switch.{Switch};
+ghost use Rattle.bay_nodes.specs.declared.switch.Switch.{Switch};
 ghost use Rattle.il_text.specs.Listing as text;
 ghost use Rattle.il_check.specs.Checking.{checked_of};
 ghost use Rattle.il_check.specs.Program.{Checked};

@@ -1,6 +1,6 @@
-use Rattle.std.proofs.Common.{◌≡◌, ◌≤◌, ◌∙◌, true, false, sym, arith}
+use Rattle.std.proofs.Common.{◌≡◌, ◌∙◌, true, false, sym, arith}
 use Rattle.toml.specs.View.{items_view}
-use Rattle.bay_config.specs.Section.{are_tables, count_of}
+use Rattle.bay_config.specs.Section.{are_tables}
 use Rattle.bay_config.proofs.ListLemmas.{are_tables-map, count-items, too_few, no_tables, too_many, all_well}
 use Rattle.bay_config.proofs.lists.check_list.Goals as goal
 

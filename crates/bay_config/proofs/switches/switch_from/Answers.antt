@@ -1,4 +1,4 @@
-use Rattle.std.proofs.Common.{◌≡◌, ◌∷◌, ◌∙◌, map, codes, Some, Ok, ap, sym, refl, rules}
+use Rattle.std.proofs.Common.{◌∙◌, Some, refl, rules}
 use Rattle.toml.specs.View.{table_view}
 use Rattle.bay_config.specs.Switch.{control_of}
 use Rattle.bay_config.proofs.SwitchLemmas.{by_keys}

@@ -1,5 +1,5 @@
 use Rattle.std.proofs.Common.{◌∙◌}
-use Rattle.bay_config.specs.declared.bay.Switch.{Switch}
+use Rattle.bay_nodes.specs.declared.switch.Switch.{Switch}
 use Rattle.bay_base.specs.Names.{same_name}
 use Rattle.bay_device.specs.declared.switch.BoundSwitch.{BoundSwitch}
 use Rattle.bay_device.proofs.ListLemmas.{position_mapped}

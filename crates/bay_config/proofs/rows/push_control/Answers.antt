@@ -1,9 +1,0 @@
-use Rattle.std.proofs.Common.{◌≡◌, ◌++◌, ◌∙◌, codes, ap, rules}
-use Rattle.bay_config.specs.Node.{node_rows, node_name, control_parts}
-use Rattle.bay_config.proofs.rows.push_control.Goals as goal
-
-pub returns : goal.returns
-returns c =
-    let s = c.args.switch.now in
-    let named : c.as_str.result.now ≡ node_name (codes "CSWI") c.args.number = search rules in
-    c.in_ok-push_control_node.ensures ∙ ap (λ m. c.args.rows.now.items ++ node_rows (record { name = m; parts = control_parts s.control s.sbo_timeout_ms })) named

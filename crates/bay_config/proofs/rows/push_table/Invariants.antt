@@ -1,7 +1,0 @@
-use Rattle.std.proofs.Common.{◌≡◌, ◌++◌, drop}
-use Rattle.bay_config.specs.NodeRows.{table_rows}
-use Rattle.bay_config.proofs.rows.push_table.Given as goal
-
-abbrev pub invariant-loop-path : goal.invariant-loop-path
-invariant-loop-path l =
-    l.fn.rows.items ++ table_rows l.nameplate l.node l.table ≡ l.rows.items ++ table_rows l.nameplate l.node (drop l.path-index l.table)

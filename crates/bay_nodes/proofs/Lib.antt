@@ -1,0 +1,4 @@
+pub mod NodeLemmas
+pub mod NumberLemmas
+pub mod PathLemmas
+pub mod TreeLemmas

@@ -1,0 +1,246 @@
+-- The logical nodes of a bay (IEC 61850-7-4), as rows of the tree (IEC 61850-8-1, names of named variables).
+use Rattle.std.specs.Prelude.{ℕ, ◌+◌, pos, Bool, true, false, not, List, [], ◌∷◌, ◌++◌, map, filter, take, length, codes, Option, None, Some}
+use Rattle.std.specs.List.{flat_map, enumerate_from}
+use Rattle.std.specs.Fmt.{decimal}
+use Rattle.bay_tree.specs.declared.row.Row.{Row}
+use Rattle.bay_tree.specs.declared.leaf.Leaf.{Leaf}
+use Rattle.bay_tree.specs.declared.leaf.Leaf.TheVariants.{Truth, Dbpos, Quality, Int8, Int32, Unsigned8, Unsigned32, Octets, Reference, Text, Utc}
+use Rattle.bay_tree.specs.declared.leaf.Dbpos.TheVariants.{Intermediate}
+use Rattle.bay_tree.specs.declared.leaf.Quality.{Quality as Validity}
+use Rattle.bay_tree.specs.declared.leaf.Quality.TheVariants.{Good, Invalid}
+use Rattle.bay_nodes.specs.declared.switch.Control.{Control}
+use Rattle.bay_nodes.specs.declared.switch.Control.TheVariants.{Status, Direct, Sbo, SboEnhanced}
+use Rattle.bay_nodes.specs.declared.switch.Switch.{Switch}
+use Rattle.bay_nodes.specs.declared.switch.SwitchKind.{SwitchKind}
+use Rattle.bay_nodes.specs.declared.switch.SwitchKind.TheVariants.{Breaker, Disconnector, Earthing}
+use Rattle.bay_nodes.specs.declared.nameplate.Nameplate.{Nameplate}
+
+-- a part of a logical node: a value, or a structure with its parts
+mutual
+  pub data Part : Type 0 where
+    value : List ℕ → Leaf → Part
+    structure : List ℕ → Parts → Part
+
+  pub data Parts : Type 0 where
+    end : Parts
+    part : Part → Parts → Parts
+
+abbrev pub row : List ℕ → Option Leaf → Row
+row name leaf = record { name = name; leaf = leaf }
+
+-- the rows of a part and of parts, depth first, with the name that leads to them in front
+abbrev mutual
+  pub rows_of : List ℕ → Part → List Row
+  rows_of path (value name leaf) = row (path ++ codes "$" ++ name) (Some leaf) ∷ []
+  rows_of path (structure name parts) = row (path ++ codes "$" ++ name) None ∷ rows_of_parts (path ++ codes "$" ++ name) parts
+
+  pub rows_of_parts : List ℕ → Parts → List Row
+  rows_of_parts path end = []
+  rows_of_parts path (part p ps) = rows_of path p ++ rows_of_parts path ps
+
+pub record Node : Type 0 where
+  pub name : List ℕ
+  pub parts : Parts
+
+-- the rows of a logical node: its own, and those of its parts, which its name leads to
+abbrev pub node_rows : Node → List Row
+node_rows node = row node.name None ∷ map (λ r. row (node.name ++ r.name) r.leaf) (rows_of_parts [] node.parts)
+
+abbrev pub parts_of : List Part → Parts
+parts_of [] = end
+parts_of (p ∷ ps) = part p (parts_of ps)
+
+-- a structure with its parts
+abbrev pub inside : List ℕ → List Part → Part
+inside name ps = structure name (parts_of ps)
+
+-- the quality of a value, and its moment, 0
+abbrev pub stamp : Validity → List Part
+stamp q = value (codes "q") (Quality q) ∷ value (codes "t") (Utc 0) ∷ []
+
+-- a value with its quality and its moment (IEC 61850-7-3, common data classes of status)
+abbrev pub status : List ℕ → Leaf → Validity → Part
+status name v q = inside name (value (codes "stVal") v ∷ stamp q)
+
+-- a data object that shows its status alone: its control model is 0 (IEC 61850-7-3, ctlModel)
+abbrev pub status_only : List ℕ → Part
+status_only name = inside name (value (codes "ctlModel") (Int8 (pos 0)) ∷ [])
+
+-- the parts of LLN0, with the texts of the nameplate: mode, behaviour and health are 1, `on` and `ok`
+abbrev pub device_parts : Nameplate → Parts
+device_parts n =
+    parts_of
+    (inside (codes "ST") (status (codes "Mod") (Int8 (pos 1)) Good ∷ status (codes "Beh") (Int8 (pos 1)) Good ∷ status (codes "Health") (Int8 (pos 1)) Good ∷ [])
+    ∷ inside (codes "CF") (status_only (codes "Mod") ∷ [])
+    ∷ inside (codes "DC") (inside (codes "NamPlt") (value (codes "vendor") (Text n.vendor) ∷ value (codes "swRev") (Text n.revision) ∷ value (codes "d") (Text n.model) ∷ []) ∷ [])
+    ∷ [])
+
+-- the parts of LPHD1
+abbrev pub physical_parts : Nameplate → Parts
+physical_parts n =
+    parts_of
+    (inside (codes "ST") (status (codes "PhyHealth") (Int8 (pos 1)) Good ∷ status (codes "Proxy") (Truth false) Good ∷ [])
+    ∷ inside (codes "DC") (inside (codes "PhyNam") (value (codes "vendor") (Text n.vendor) ∷ []) ∷ [])
+    ∷ [])
+
+-- a breaker has no type; a disconnector's is 2, an earthing switch's 3 (IEC 61850-7-4, SwTyp)
+abbrev pub switch_type : SwitchKind → List Part
+switch_type Breaker = []
+switch_type Disconnector = status (codes "SwTyp") (Int8 (pos 2)) Good ∷ []
+switch_type Earthing = status (codes "SwTyp") (Int8 (pos 3)) Good ∷ []
+
+-- the parts of XCBR and XSWI
+abbrev pub position_parts : SwitchKind → Parts
+position_parts kind =
+    parts_of
+    (inside (codes "ST")
+    (status (codes "Pos") (Dbpos Intermediate) Invalid
+    ∷ status (codes "BlkOpn") (Truth false) Good
+    ∷ status (codes "BlkCls") (Truth false) Good
+    ∷ status (codes "OpCnt") (Int32 (pos 0)) Good
+    ∷ switch_type kind)
+    ∷ inside (codes "CF") (status_only (codes "Pos") ∷ [])
+    ∷ [])
+
+-- what is written to operate a switch, or to select it with a value (IEC 61850-8-1, Oper and SBOw)
+abbrev pub operation : List ℕ → Part
+operation name =
+    inside name
+    (value (codes "ctlVal") (Truth false)
+    ∷ inside (codes "origin") (value (codes "orCat") (Int8 (pos 0)) ∷ value (codes "orIdent") (Octets []) ∷ [])
+    ∷ value (codes "ctlNum") (Unsigned8 0)
+    ∷ value (codes "T") (Utc 0)
+    ∷ value (codes "Test") (Truth false)
+    ∷ value (codes "Check") (Dbpos Intermediate)
+    ∷ [])
+
+-- what is written to give a selection up, which has no checks (IEC 61850-8-1, Cancel)
+abbrev pub cancelling : Part
+cancelling =
+    inside (codes "Cancel")
+    (value (codes "ctlVal") (Truth false)
+    ∷ inside (codes "origin") (value (codes "orCat") (Int8 (pos 0)) ∷ value (codes "orIdent") (Octets []) ∷ [])
+    ∷ value (codes "ctlNum") (Unsigned8 0)
+    ∷ value (codes "T") (Utc 0)
+    ∷ value (codes "Test") (Truth false)
+    ∷ [])
+
+abbrev pub controls_by : List Part → List Part
+controls_by ps = inside (codes "CO") (inside (codes "Pos") ps ∷ []) ∷ []
+
+-- what may be written to a switch with each kind of control
+abbrev pub commands : Control → List Part
+commands Status = []
+commands Direct = controls_by (operation (codes "Oper") ∷ [])
+commands Sbo = controls_by (value (codes "SBO") (Reference []) ∷ operation (codes "Oper") ∷ cancelling ∷ [])
+commands SboEnhanced = controls_by (operation (codes "SBOw") ∷ operation (codes "Oper") ∷ cancelling ∷ [])
+
+-- the number of a control model (IEC 61850-7-3, ctlModel)
+abbrev pub model_of : Control → ℕ
+model_of Status = 0
+model_of Direct = 1
+model_of Sbo = 2
+model_of SboEnhanced = 4
+
+-- the parts of CSWI, whose position repeats that of the switch
+abbrev pub control_parts : Control → ℕ → Parts
+control_parts control timeout =
+    parts_of
+    (inside (codes "ST") (inside (codes "Pos") (value (codes "stVal") (Dbpos Intermediate) ∷ stamp Invalid ++ value (codes "stSeld") (Truth false) ∷ []) ∷ [])
+    ∷ commands control
+    ++ inside (codes "CF") (inside (codes "Pos") (value (codes "ctlModel") (Int8 (pos (model_of control))) ∷ value (codes "sboTimeout") (Unsigned32 timeout) ∷ []) ∷ [])
+    ∷ [])
+
+-- the parts of CILO
+abbrev pub interlocking_parts : Parts
+interlocking_parts =
+    parts_of (inside (codes "ST") (status (codes "EnaOpn") (Truth false) Invalid ∷ status (codes "EnaCls") (Truth false) Invalid ∷ []) ∷ [])
+
+-- the magnitude of a measured value, as a whole number
+abbrev pub magnitude : Part
+magnitude = inside (codes "mag") (value (codes "i") (Int32 (pos 0)) ∷ [])
+
+-- a measured value, and that of a phase (IEC 61850-7-3, MV and CMV)
+abbrev pub measured : List ℕ → Part
+measured name = inside name (magnitude ∷ stamp Invalid)
+
+abbrev pub phase : List ℕ → Part
+phase name = inside name (inside (codes "cVal") (magnitude ∷ []) ∷ stamp Invalid)
+
+-- the parts of MMXU
+abbrev pub meter_parts : Parts
+meter_parts =
+    parts_of
+    (inside (codes "MX")
+    (measured (codes "TotW") ∷ measured (codes "TotVAr") ∷ measured (codes "Hz") ∷ inside (codes "A") (phase (codes "phsA") ∷ phase (codes "phsB") ∷ phase (codes "phsC") ∷ []) ∷ [])
+    ∷ [])
+
+abbrev pub is_breaker : SwitchKind → Bool
+is_breaker Breaker = true
+is_breaker Disconnector = false
+is_breaker Earthing = false
+
+-- the class of a switch's node: XCBR for a breaker, XSWI for another switch
+abbrev pub class_of : SwitchKind → List ℕ
+class_of Breaker = codes "XCBR"
+class_of Disconnector = codes "XSWI"
+class_of Earthing = codes "XSWI"
+
+-- a logical node's name: its class and its number
+abbrev pub node_name : List ℕ → ℕ → List ℕ
+node_name class number = class ++ decimal number
+
+-- the nodes of the device itself
+abbrev pub device_node : Nameplate → Node
+device_node nameplate = record { name = codes "LLN0"; parts = device_parts nameplate }
+
+abbrev pub physical_node : Nameplate → Node
+physical_node nameplate = record { name = codes "LPHD1"; parts = physical_parts nameplate }
+
+-- the nodes of a switch with its number
+abbrev pub position_node : ℕ × Switch → Node
+position_node s = record { name = node_name (class_of s.1.kind) s.0; parts = position_parts s.1.kind }
+
+abbrev pub control_node : ℕ × Switch → Node
+control_node s = record { name = node_name (codes "CSWI") s.0; parts = control_parts s.1.control s.1.sbo_timeout_ms }
+
+abbrev pub interlocking_node : ℕ × Switch → Node
+interlocking_node s = record { name = node_name (codes "CILO") s.0; parts = interlocking_parts }
+
+-- the node of a meter with its number
+abbrev pub meter_node : ℕ × List ℕ → Node
+meter_node m = record { name = node_name (codes "MMXU") m.0; parts = meter_parts }
+
+-- the breakers, or the other switches
+abbrev pub is_of : Bool → Switch → Bool
+is_of true s = is_breaker s.kind
+is_of false s = not (is_breaker s.kind)
+
+-- the nodes of the breakers or of the other switches, numbered from 1 among themselves
+abbrev pub position_nodes : Bool → List Switch → List Node
+position_nodes breakers switches = map position_node (enumerate_from 1 (filter (is_of breakers) switches))
+
+-- the nodes of the controls and of the interlocking, numbered by the switches' places from 1
+abbrev pub control_nodes : List Switch → List Node
+control_nodes switches = map control_node (enumerate_from 1 switches)
+
+abbrev pub interlocking_nodes : List Switch → List Node
+interlocking_nodes switches = map interlocking_node (enumerate_from 1 switches)
+
+-- the nodes of the meters, numbered from 1
+abbrev pub meter_nodes : List (List ℕ) → List Node
+meter_nodes meters = map meter_node (enumerate_from 1 meters)
+
+-- the nodes of a bay, in the order of the tree
+abbrev pub nodes_of : Nameplate → List Switch → List (List ℕ) → List Node
+nodes_of nameplate switches meters =
+    (device_node nameplate ∷ physical_node nameplate ∷ [])
+    ++ (position_nodes true switches ++ (position_nodes false switches ++ (control_nodes switches ++ (interlocking_nodes switches ++ meter_nodes meters))))
+
+-- the rows of a bay
+abbrev pub rows_of_all : Nameplate → List Switch → List (List ℕ) → List Row
+rows_of_all nameplate switches meters = flat_map node_rows (nodes_of nameplate switches meters)
+
+-- the number of the switch at a place: one more than there are of its class before it
+abbrev pub node_number : List Switch → Switch → ℕ → ℕ
+node_number switches s place = length (filter (is_of (is_breaker s.kind)) (take place switches)) + 1

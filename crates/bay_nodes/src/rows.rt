@@ -1,0 +1,350 @@
+// The rows of a bay's logical nodes, with the values of the start.
+ghost use Rattle.std.specs.Prelude.{◌≡◌, ◌<◌, ◌^◌, length, ◌++◌, ◌∷◌, [], codes, map, None, IfOk};
+ghost use Rattle.std.specs.List.{flat_map};
+ghost use Rattle.bay_tree.specs.Rows.{IsTree};
+ghost use Rattle.bay_nodes.specs.Node.{row, rows_of, node_rows, operation, cancelling, position_parts, control_parts, interlocking_parts, meter_parts, class_of, node_name, device_node, physical_node, position_node, position_nodes, control_node, control_nodes, interlocking_nodes, meter_nodes, rows_of_all};
+ghost use Rattle.bay_nodes.specs.NodeRows.{leaf_from, line_row, under, table_rows, group_row, command_rows};
+
+use crate::nameplate::Nameplate;
+use crate::names::{class_of, is_of};
+use crate::switch::{Control, Switch, SwitchKind};
+use crate::tables as tables;
+use crate::tables::InitialValue;
+use bay_base::listing::Listing;
+use bay_base::text::Text;
+use bay_tree::leaf::{Dbpos, Leaf, Quality};
+use bay_tree::row::Row;
+use std::alloc::{AllocError, Global};
+
+/// The value that a row begins with; None for a structure.
+fn leaf_from(
+    alloc: Global,
+    nameplate: &Nameplate,
+    start: InitialValue,
+) -> Result<Option<Leaf>, AllocError>
+    ensures { IfOk result (λ leaf. leaf ≡ leaf_from nameplate.now start) }
+{
+    let leaf = match start {
+        InitialValue::Structure => return Ok(None),
+        InitialValue::False => Leaf::Truth(false),
+        InitialValue::Intermediate => Leaf::Dbpos(Dbpos::Intermediate),
+        InitialValue::Good => Leaf::Quality(Quality::Good),
+        InitialValue::Invalid => Leaf::Quality(Quality::Invalid),
+        InitialValue::Int8(number) => Leaf::Int8(number),
+        InitialValue::Int32 => Leaf::Int32(0),
+        InitialValue::Unsigned8 => Leaf::Unsigned8(0),
+        InitialValue::Octets => Leaf::Octets(Listing::new(Vec::new(alloc))),
+        InitialValue::Reference => Leaf::Reference(Text::new(String::new(alloc))),
+        InitialValue::Moment => Leaf::Utc(0),
+        InitialValue::Vendor => Leaf::Text(Text::from_str(alloc, nameplate.vendor.as_str())?),
+        InitialValue::Model => Leaf::Text(Text::from_str(alloc, nameplate.model.as_str())?),
+        InitialValue::Revision => Leaf::Text(Text::from_str(alloc, nameplate.revision.as_str())?),
+    };
+    Ok(Some(leaf))
+}
+
+/// A row of a node: the node's name, and then the path of the row within the node.
+fn push_row(
+    alloc: Global,
+    rows: &mut Vec<Row>,
+    node: &str,
+    path: &str,
+    leaf: Option<Leaf>,
+) -> Result<(), AllocError>
+    ensures { IfOk result (λ _. rows.new.items ≡ rows.old.items ++ row (node.now ++ path.now) leaf ∷ []) }
+{
+    let name = format!(in alloc; "{node}{path}")?;
+    rows.push(Row {
+        name: Text::new(name),
+        leaf,
+    })?;
+    Ok(())
+}
+
+/// The rows of a node that a table holds.
+fn push_table(
+    alloc: Global,
+    rows: &mut Vec<Row>,
+    nameplate: &Nameplate,
+    node: &str,
+    table: &[(&str, InitialValue)],
+) -> Result<(), AllocError>
+    ensures { IfOk result (λ _. rows.new.items ≡ rows.old.items ++ table_rows nameplate.now node.now table.now) }
+{
+    for (path, start) in table {
+        let leaf = leaf_from(alloc, nameplate, *start)?;
+        push_row(alloc, rows, node, path, leaf)?;
+    }
+    Ok(())
+}
+
+/// A node whose rows a table holds.
+fn push_node(
+    alloc: Global,
+    rows: &mut Vec<Row>,
+    nameplate: &Nameplate,
+    node: &str,
+    table: &[(&str, InitialValue)],
+) -> Result<(), AllocError>
+    ensures { IfOk result (λ _. rows.new.items ≡ rows.old.items ++ row node.now None ∷ table_rows nameplate.now node.now table.now) }
+{
+    push_row(alloc, rows, node, "", None)?;
+    push_table(alloc, rows, nameplate, node, table)?;
+    Ok(())
+}
+
+/// The nodes of the device itself (IEC 61850-7-4, LLN0 and LPHD).
+fn push_device(alloc: Global, rows: &mut Vec<Row>, nameplate: &Nameplate) -> Result<(), AllocError>
+    ensures { IfOk result (λ _. rows.new.items ≡ rows.old.items ++ flat_map node_rows (device_node nameplate.now ∷ physical_node nameplate.now ∷ [])) }
+{
+    push_node(alloc, rows, nameplate, "LLN0", tables::device_table())?;
+    push_node(alloc, rows, nameplate, "LPHD1", tables::physical_table())?;
+    Ok(())
+}
+
+/// The node of a breaker or another switch (IEC 61850-7-4, XCBR and XSWI).
+fn push_position_node(
+    alloc: Global,
+    rows: &mut Vec<Row>,
+    nameplate: &Nameplate,
+    node: &str,
+    kind: SwitchKind,
+) -> Result<(), AllocError>
+    ensures { IfOk result (λ _. rows.new.items ≡ rows.old.items ++ node_rows (record { name = node.now; parts = position_parts kind })) }
+{
+    push_row(alloc, rows, node, "", None)?;
+    push_table(alloc, rows, nameplate, node, tables::position_table())?;
+    push_table(alloc, rows, nameplate, node, tables::type_table(kind))?;
+    push_table(alloc, rows, nameplate, node, tables::position_model_table())?;
+    Ok(())
+}
+
+/// What may be written to a switch that is selected by the rows of a table.
+fn push_selection(
+    alloc: Global,
+    rows: &mut Vec<Row>,
+    nameplate: &Nameplate,
+    node: &str,
+    select: &[(&str, InitialValue)],
+) -> Result<(), AllocError>
+    ensures { let operate = rows_of (codes "$CO$Pos") (operation (codes "Oper")) in let cancel = rows_of (codes "$CO$Pos") cancelling in
+        IfOk result (λ _. rows.new.items ≡ rows.old.items ++ map (under node.now) (group_row ++ (map (line_row nameplate.now) select.now ++ (operate ++ cancel)))) }
+{
+    push_table(alloc, rows, nameplate, node, tables::group_table())?;
+    push_table(alloc, rows, nameplate, node, select)?;
+    push_table(alloc, rows, nameplate, node, tables::operate_table())?;
+    push_table(alloc, rows, nameplate, node, tables::cancel_table())?;
+    Ok(())
+}
+
+/// What may be written to a switch with this kind of control.
+fn push_commands(
+    alloc: Global,
+    rows: &mut Vec<Row>,
+    nameplate: &Nameplate,
+    node: &str,
+    control: Control,
+) -> Result<(), AllocError>
+    ensures { IfOk result (λ _. rows.new.items ≡ rows.old.items ++ map (under node.now) (command_rows control)) }
+{
+    match control {
+        Control::Status => Ok(()),
+        Control::Direct => {
+            push_table(alloc, rows, nameplate, node, tables::group_table())?;
+            push_table(alloc, rows, nameplate, node, tables::operate_table())?;
+            Ok(())
+        }
+        Control::Sbo => push_selection(alloc, rows, nameplate, node, tables::select_table()),
+        Control::SboEnhanced => push_selection(
+            alloc,
+            rows,
+            nameplate,
+            node,
+            tables::select_with_value_table(),
+        ),
+    }
+}
+
+/// The node of the control of a switch (IEC 61850-7-4, CSWI).
+fn push_control_node(
+    alloc: Global,
+    rows: &mut Vec<Row>,
+    nameplate: &Nameplate,
+    node: &str,
+    switch: &Switch,
+) -> Result<(), AllocError>
+    ensures { IfOk result (λ _. rows.new.items ≡ rows.old.items
+        ++ node_rows (record { name = node.now; parts = control_parts switch.now.control switch.now.sbo_timeout_ms })) }
+{
+    push_row(alloc, rows, node, "", None)?;
+    push_table(alloc, rows, nameplate, node, tables::control_table())?;
+    push_commands(alloc, rows, nameplate, node, switch.control)?;
+    push_table(
+        alloc,
+        rows,
+        nameplate,
+        node,
+        tables::control_model_table(switch.control),
+    )?;
+    push_row(
+        alloc,
+        rows,
+        node,
+        "$CF$Pos$sboTimeout",
+        Some(Leaf::Unsigned32(switch.sbo_timeout_ms)),
+    )?;
+    Ok(())
+}
+
+/// The node of a switch with this number.
+fn push_position(
+    alloc: Global,
+    rows: &mut Vec<Row>,
+    nameplate: &Nameplate,
+    number: usize,
+    switch: &Switch,
+) -> Result<(), AllocError>
+    ensures { IfOk result (λ _. rows.new.items ≡ rows.old.items ++ node_rows (position_node (number, switch.now))) }
+{
+    let class = class_of(switch.kind);
+    let node = format!(in alloc; "{class}{number}")?;
+    push_position_node(alloc, rows, nameplate, node.as_str(), switch.kind)?;
+    Ok(())
+}
+
+/// The node of a control with this number.
+fn push_control(
+    alloc: Global,
+    rows: &mut Vec<Row>,
+    nameplate: &Nameplate,
+    number: usize,
+    switch: &Switch,
+) -> Result<(), AllocError>
+    ensures { IfOk result (λ _. rows.new.items ≡ rows.old.items ++ node_rows (control_node (number, switch.now))) }
+{
+    let node = format!(in alloc; "CSWI{number}")?;
+    push_control_node(alloc, rows, nameplate, node.as_str(), switch)?;
+    Ok(())
+}
+
+/// The node of the interlocking with this number (IEC 61850-7-4, CILO).
+fn push_interlocking(
+    alloc: Global,
+    rows: &mut Vec<Row>,
+    nameplate: &Nameplate,
+    number: usize,
+) -> Result<(), AllocError>
+    ensures { IfOk result (λ _. rows.new.items ≡ rows.old.items ++ node_rows (record { name = node_name (codes "CILO") number; parts = interlocking_parts })) }
+{
+    let node = format!(in alloc; "CILO{number}")?;
+    push_node(
+        alloc,
+        rows,
+        nameplate,
+        node.as_str(),
+        tables::interlocking_table(),
+    )?;
+    Ok(())
+}
+
+/// The node of the meter with this number (IEC 61850-7-4, MMXU).
+fn push_meter(
+    alloc: Global,
+    rows: &mut Vec<Row>,
+    nameplate: &Nameplate,
+    number: usize,
+) -> Result<(), AllocError>
+    ensures { IfOk result (λ _. rows.new.items ≡ rows.old.items ++ node_rows (record { name = node_name (codes "MMXU") number; parts = meter_parts })) }
+{
+    let node = format!(in alloc; "MMXU{number}")?;
+    push_node(alloc, rows, nameplate, node.as_str(), tables::meter_table())?;
+    Ok(())
+}
+
+/// The nodes of the breakers, or of the other switches, numbered from 1.
+fn push_positions(
+    alloc: Global,
+    rows: &mut Vec<Row>,
+    nameplate: &Nameplate,
+    switches: &[Switch],
+    breakers: bool,
+) -> Result<(), AllocError>
+    ensures { IfOk result (λ _. rows.new.items ≡ rows.old.items ++ flat_map node_rows (position_nodes breakers switches.now)) }
+{
+    let mut number = 1usize;
+    for switch in switches {
+        if is_of(breakers, switch) {
+            push_position(alloc, rows, nameplate, number, switch)?;
+            number += 1;
+        }
+    }
+    Ok(())
+}
+
+/// The nodes of the controls, numbered from 1.
+fn push_controls(
+    alloc: Global,
+    rows: &mut Vec<Row>,
+    nameplate: &Nameplate,
+    switches: &[Switch],
+) -> Result<(), AllocError>
+    ensures { IfOk result (λ _. rows.new.items ≡ rows.old.items ++ flat_map node_rows (control_nodes switches.now)) }
+{
+    for i in 0..switches.len() {
+        push_control(alloc, rows, nameplate, i + 1, &switches[i])?;
+    }
+    Ok(())
+}
+
+/// The nodes of the switches' interlocking, numbered from 1.
+fn push_interlockings(
+    alloc: Global,
+    rows: &mut Vec<Row>,
+    nameplate: &Nameplate,
+    switches: &[Switch],
+) -> Result<(), AllocError>
+    ensures { IfOk result (λ _. rows.new.items ≡ rows.old.items ++ flat_map node_rows (interlocking_nodes switches.now)) }
+{
+    for i in 0..switches.len() {
+        push_interlocking(alloc, rows, nameplate, i + 1)?;
+    }
+    Ok(())
+}
+
+/// The nodes of the meters, numbered from 1.
+fn push_meters(
+    alloc: Global,
+    rows: &mut Vec<Row>,
+    nameplate: &Nameplate,
+    meters: &[Text],
+) -> Result<(), AllocError>
+    ensures { IfOk result (λ _. rows.new.items ≡ rows.old.items ++ flat_map node_rows (meter_nodes meters.now)) }
+{
+    for i in 0..meters.len() {
+        push_meter(alloc, rows, nameplate, i + 1)?;
+    }
+    Ok(())
+}
+
+/// The rows of a bay's nodes with the values of the start: those of the device, the breakers, the other
+/// switches, the controls, the interlocking, and the meters.
+pub fn rows_of(
+    alloc: Global,
+    nameplate: &Nameplate,
+    switches: &[Switch],
+    meters: &[Text],
+) -> Result<Listing<Row>, AllocError>
+    ensures rows { IfOk result (λ rows. rows ≡ rows_of_all nameplate.now switches.now meters.now) }
+
+    // Their names are distinct, and each row's parent is a structure before it.
+    ensures tree { length switches.now < 2 ^ 32 → length meters.now < 2 ^ 32 → IfOk result IsTree }
+{
+    let mut rows = Vec::new(alloc);
+    push_device(alloc, &mut rows, nameplate)?;
+    push_positions(alloc, &mut rows, nameplate, switches, true)?;
+    push_positions(alloc, &mut rows, nameplate, switches, false)?;
+    push_controls(alloc, &mut rows, nameplate, switches)?;
+    push_interlockings(alloc, &mut rows, nameplate, switches)?;
+    push_meters(alloc, &mut rows, nameplate, meters)?;
+    Ok(Listing::new(rows))
+}

@@ -1,0 +1,39 @@
+// What a switch is.
+use bay_base::text::Text;
+
+/// A switching device (IEC 61850-7-4, XCBR and XSWI) and the way it is controlled.
+#[derive(Debug, Drop)]
+pub struct Switch {
+    /// The name as the file spells it: a letter, then letters, digits and `_`, at most 16 characters.
+    pub id: Text,
+    pub kind: SwitchKind,
+    pub control: Control,
+    /// How long a selection lasts, in milliseconds, 1 to 600,000; 0 where `control` has no selection.
+    pub sbo_timeout_ms: u32,
+    /// How long the switch may travel, in milliseconds, 1 to 600,000; 0 where it is not controlled.
+    pub travel_ms: u32,
+}
+
+/// What a switch is for.
+#[derive(Clone, Copy, Debug, PartialEq, Eq)]
+pub enum SwitchKind {
+    /// A circuit breaker.
+    Breaker,
+    /// A disconnector.
+    Disconnector,
+    /// An earthing switch.
+    Earthing,
+}
+
+/// How a switch is controlled (IEC 61850-7-2, control model).
+#[derive(Clone, Copy, Debug, PartialEq, Eq)]
+pub enum Control {
+    /// Its status alone is shown.
+    Status,
+    /// Direct control with normal security.
+    Direct,
+    /// Select before operate with normal security.
+    Sbo,
+    /// Select before operate with enhanced security: select with value, and a report of the end.
+    SboEnhanced,
+}

@@ -1,0 +1,315 @@
+// The rows of each logical node, in the order of the tree: the path from the node to the row, and what the row
+// begins with (IEC 61850-7-4; IEC 61850-8-1, names of variables).
+ghost use Rattle.std.specs.Prelude.{◌≡◌, map, codes, ◌∷◌, []};
+ghost use Rattle.bay_nodes.specs.Node as node;
+ghost use Rattle.bay_nodes.specs.NodeRows.{line_row, status_group, type_rows, position_model, group_row, select_row, control_group, control_model};
+ghost use Rattle.bay_nodes.specs.declared.nameplate.Nameplate.{Nameplate};
+
+use crate::switch::{Control, SwitchKind};
+
+/// What a row begins with.
+#[derive(Clone, Copy)]
+pub enum InitialValue {
+    /// No value: the row is a structure.
+    Structure,
+    /// FALSE.
+    False,
+    /// The intermediate position, or no checks.
+    Intermediate,
+    Good,
+    Invalid,
+    Int8(i8),
+    /// A count or a measured value of 0.
+    Int32,
+    /// A control's number, 0.
+    Unsigned8,
+    /// No octets.
+    Octets,
+    /// The empty reference.
+    Reference,
+    /// The moment 0.
+    Moment,
+    /// The maker, as the nameplate tells it.
+    Vendor,
+    /// The model.
+    Model,
+    /// The software's revision.
+    Revision,
+}
+
+use InitialValue::{
+    False, Good, Int8, Int32, Intermediate, Invalid, Model, Moment, Octets, Reference, Revision,
+    Structure, Unsigned8, Vendor,
+};
+
+/// The rows below LLN0.
+pub fn device_table() -> &'static [(&'static str, InitialValue)]
+    ensures { (n : Nameplate) → map (line_row n) result.now ≡ node.rows_of_parts [] (node.device_parts n) }
+{
+    &[
+        ("$ST", Structure),
+        ("$ST$Mod", Structure),
+        ("$ST$Mod$stVal", Int8(1)),
+        ("$ST$Mod$q", Good),
+        ("$ST$Mod$t", Moment),
+        ("$ST$Beh", Structure),
+        ("$ST$Beh$stVal", Int8(1)),
+        ("$ST$Beh$q", Good),
+        ("$ST$Beh$t", Moment),
+        ("$ST$Health", Structure),
+        ("$ST$Health$stVal", Int8(1)),
+        ("$ST$Health$q", Good),
+        ("$ST$Health$t", Moment),
+        ("$CF", Structure),
+        ("$CF$Mod", Structure),
+        ("$CF$Mod$ctlModel", Int8(0)),
+        ("$DC", Structure),
+        ("$DC$NamPlt", Structure),
+        ("$DC$NamPlt$vendor", Vendor),
+        ("$DC$NamPlt$swRev", Revision),
+        ("$DC$NamPlt$d", Model),
+    ]
+}
+
+/// The rows below LPHD1.
+pub fn physical_table() -> &'static [(&'static str, InitialValue)]
+    ensures { (n : Nameplate) → map (line_row n) result.now ≡ node.rows_of_parts [] (node.physical_parts n) }
+{
+    &[
+        ("$ST", Structure),
+        ("$ST$PhyHealth", Structure),
+        ("$ST$PhyHealth$stVal", Int8(1)),
+        ("$ST$PhyHealth$q", Good),
+        ("$ST$PhyHealth$t", Moment),
+        ("$ST$Proxy", Structure),
+        ("$ST$Proxy$stVal", False),
+        ("$ST$Proxy$q", Good),
+        ("$ST$Proxy$t", Moment),
+        ("$DC", Structure),
+        ("$DC$PhyNam", Structure),
+        ("$DC$PhyNam$vendor", Vendor),
+    ]
+}
+
+/// The first rows below XCBR and XSWI, up to the type of the switch.
+pub fn position_table() -> &'static [(&'static str, InitialValue)]
+    ensures { (n : Nameplate) → map (line_row n) result.now ≡ status_group }
+{
+    &[
+        ("$ST", Structure),
+        ("$ST$Pos", Structure),
+        ("$ST$Pos$stVal", Intermediate),
+        ("$ST$Pos$q", Invalid),
+        ("$ST$Pos$t", Moment),
+        ("$ST$BlkOpn", Structure),
+        ("$ST$BlkOpn$stVal", False),
+        ("$ST$BlkOpn$q", Good),
+        ("$ST$BlkOpn$t", Moment),
+        ("$ST$BlkCls", Structure),
+        ("$ST$BlkCls$stVal", False),
+        ("$ST$BlkCls$q", Good),
+        ("$ST$BlkCls$t", Moment),
+        ("$ST$OpCnt", Structure),
+        ("$ST$OpCnt$stVal", Int32),
+        ("$ST$OpCnt$q", Good),
+        ("$ST$OpCnt$t", Moment),
+    ]
+}
+
+/// The rows of the type of a switch that is no breaker.
+pub fn type_table(kind: SwitchKind) -> &'static [(&'static str, InitialValue)]
+    ensures { (n : Nameplate) → map (line_row n) result.now ≡ type_rows kind }
+{
+    match kind {
+        SwitchKind::Breaker => &[],
+        SwitchKind::Disconnector => &[
+            ("$ST$SwTyp", Structure),
+            ("$ST$SwTyp$stVal", Int8(2)),
+            ("$ST$SwTyp$q", Good),
+            ("$ST$SwTyp$t", Moment),
+        ],
+        SwitchKind::Earthing => &[
+            ("$ST$SwTyp", Structure),
+            ("$ST$SwTyp$stVal", Int8(3)),
+            ("$ST$SwTyp$q", Good),
+            ("$ST$SwTyp$t", Moment),
+        ],
+    }
+}
+
+/// The last rows below XCBR and XSWI.
+pub fn position_model_table() -> &'static [(&'static str, InitialValue)]
+    ensures { (n : Nameplate) → map (line_row n) result.now ≡ position_model }
+{
+    &[
+        ("$CF", Structure),
+        ("$CF$Pos", Structure),
+        ("$CF$Pos$ctlModel", Int8(0)),
+    ]
+}
+
+/// The first rows below CSWI: the position of its switch, and whether it is selected.
+pub fn control_table() -> &'static [(&'static str, InitialValue)]
+    ensures { (n : Nameplate) → map (line_row n) result.now ≡ control_group }
+{
+    &[
+        ("$ST", Structure),
+        ("$ST$Pos", Structure),
+        ("$ST$Pos$stVal", Intermediate),
+        ("$ST$Pos$q", Invalid),
+        ("$ST$Pos$t", Moment),
+        ("$ST$Pos$stSeld", False),
+    ]
+}
+
+/// The rows that hold what may be written.
+pub fn group_table() -> &'static [(&'static str, InitialValue)]
+    ensures { (n : Nameplate) → map (line_row n) result.now ≡ group_row }
+{
+    &[("$CO", Structure), ("$CO$Pos", Structure)]
+}
+
+/// The row by which a switch is selected.
+pub fn select_table() -> &'static [(&'static str, InitialValue)]
+    ensures { (n : Nameplate) → map (line_row n) result.now ≡ select_row }
+{
+    &[("$CO$Pos$SBO", Reference)]
+}
+
+/// The rows by which a switch is selected with a value.
+pub fn select_with_value_table() -> &'static [(&'static str, InitialValue)]
+    ensures { (n : Nameplate) → map (line_row n) result.now ≡ node.rows_of (codes "$CO$Pos") (node.operation (codes "SBOw")) }
+{
+    &[
+        ("$CO$Pos$SBOw", Structure),
+        ("$CO$Pos$SBOw$ctlVal", False),
+        ("$CO$Pos$SBOw$origin", Structure),
+        ("$CO$Pos$SBOw$origin$orCat", Int8(0)),
+        ("$CO$Pos$SBOw$origin$orIdent", Octets),
+        ("$CO$Pos$SBOw$ctlNum", Unsigned8),
+        ("$CO$Pos$SBOw$T", Moment),
+        ("$CO$Pos$SBOw$Test", False),
+        ("$CO$Pos$SBOw$Check", Intermediate),
+    ]
+}
+
+/// The rows by which a switch is operated.
+pub fn operate_table() -> &'static [(&'static str, InitialValue)]
+    ensures { (n : Nameplate) → map (line_row n) result.now ≡ node.rows_of (codes "$CO$Pos") (node.operation (codes "Oper")) }
+{
+    &[
+        ("$CO$Pos$Oper", Structure),
+        ("$CO$Pos$Oper$ctlVal", False),
+        ("$CO$Pos$Oper$origin", Structure),
+        ("$CO$Pos$Oper$origin$orCat", Int8(0)),
+        ("$CO$Pos$Oper$origin$orIdent", Octets),
+        ("$CO$Pos$Oper$ctlNum", Unsigned8),
+        ("$CO$Pos$Oper$T", Moment),
+        ("$CO$Pos$Oper$Test", False),
+        ("$CO$Pos$Oper$Check", Intermediate),
+    ]
+}
+
+/// The rows by which a selection is given up.
+pub fn cancel_table() -> &'static [(&'static str, InitialValue)]
+    ensures { (n : Nameplate) → map (line_row n) result.now ≡ node.rows_of (codes "$CO$Pos") node.cancelling }
+{
+    &[
+        ("$CO$Pos$Cancel", Structure),
+        ("$CO$Pos$Cancel$ctlVal", False),
+        ("$CO$Pos$Cancel$origin", Structure),
+        ("$CO$Pos$Cancel$origin$orCat", Int8(0)),
+        ("$CO$Pos$Cancel$origin$orIdent", Octets),
+        ("$CO$Pos$Cancel$ctlNum", Unsigned8),
+        ("$CO$Pos$Cancel$T", Moment),
+        ("$CO$Pos$Cancel$Test", False),
+    ]
+}
+
+/// The rows that hold the control model (IEC 61850-7-3, ctlModel).
+pub fn control_model_table(control: Control) -> &'static [(&'static str, InitialValue)]
+    ensures { (n : Nameplate) → map (line_row n) result.now ≡ control_model control }
+{
+    match control {
+        Control::Status => &[
+            ("$CF", Structure),
+            ("$CF$Pos", Structure),
+            ("$CF$Pos$ctlModel", Int8(0)),
+        ],
+        Control::Direct => &[
+            ("$CF", Structure),
+            ("$CF$Pos", Structure),
+            ("$CF$Pos$ctlModel", Int8(1)),
+        ],
+        Control::Sbo => &[
+            ("$CF", Structure),
+            ("$CF$Pos", Structure),
+            ("$CF$Pos$ctlModel", Int8(2)),
+        ],
+        Control::SboEnhanced => &[
+            ("$CF", Structure),
+            ("$CF$Pos", Structure),
+            ("$CF$Pos$ctlModel", Int8(4)),
+        ],
+    }
+}
+
+/// The rows below CILO.
+pub fn interlocking_table() -> &'static [(&'static str, InitialValue)]
+    ensures { (n : Nameplate) → map (line_row n) result.now ≡ node.rows_of_parts [] node.interlocking_parts }
+{
+    &[
+        ("$ST", Structure),
+        ("$ST$EnaOpn", Structure),
+        ("$ST$EnaOpn$stVal", False),
+        ("$ST$EnaOpn$q", Invalid),
+        ("$ST$EnaOpn$t", Moment),
+        ("$ST$EnaCls", Structure),
+        ("$ST$EnaCls$stVal", False),
+        ("$ST$EnaCls$q", Invalid),
+        ("$ST$EnaCls$t", Moment),
+    ]
+}
+
+/// The rows below MMXU.
+pub fn meter_table() -> &'static [(&'static str, InitialValue)]
+    ensures { (n : Nameplate) → map (line_row n) result.now ≡ node.rows_of_parts [] node.meter_parts }
+{
+    &[
+        ("$MX", Structure),
+        ("$MX$TotW", Structure),
+        ("$MX$TotW$mag", Structure),
+        ("$MX$TotW$mag$i", Int32),
+        ("$MX$TotW$q", Invalid),
+        ("$MX$TotW$t", Moment),
+        ("$MX$TotVAr", Structure),
+        ("$MX$TotVAr$mag", Structure),
+        ("$MX$TotVAr$mag$i", Int32),
+        ("$MX$TotVAr$q", Invalid),
+        ("$MX$TotVAr$t", Moment),
+        ("$MX$Hz", Structure),
+        ("$MX$Hz$mag", Structure),
+        ("$MX$Hz$mag$i", Int32),
+        ("$MX$Hz$q", Invalid),
+        ("$MX$Hz$t", Moment),
+        ("$MX$A", Structure),
+        ("$MX$A$phsA", Structure),
+        ("$MX$A$phsA$cVal", Structure),
+        ("$MX$A$phsA$cVal$mag", Structure),
+        ("$MX$A$phsA$cVal$mag$i", Int32),
+        ("$MX$A$phsA$q", Invalid),
+        ("$MX$A$phsA$t", Moment),
+        ("$MX$A$phsB", Structure),
+        ("$MX$A$phsB$cVal", Structure),
+        ("$MX$A$phsB$cVal$mag", Structure),
+        ("$MX$A$phsB$cVal$mag$i", Int32),
+        ("$MX$A$phsB$q", Invalid),
+        ("$MX$A$phsB$t", Moment),
+        ("$MX$A$phsC", Structure),
+        ("$MX$A$phsC$cVal", Structure),
+        ("$MX$A$phsC$cVal$mag", Structure),
+        ("$MX$A$phsC$cVal$mag$i", Int32),
+        ("$MX$A$phsC$q", Invalid),
+        ("$MX$A$phsC$t", Moment),
+    ]
+}
