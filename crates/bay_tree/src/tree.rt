@@ -1,9 +1,10 @@
 // The tree as a list of rows.
-ghost use Rattle.std.specs.Prelude.{ℕ, ◌≡◌, ◌≢◌, ◌<◌, All, ◌≤◌, ◌↔◌, length, drop, map, Some, Ok, Err, IfOk, IsOk, OnOk, OnErr, IfErr, IfSome, IsTrue};
+ghost use Rattle.std.specs.Prelude.{ℕ, ◌+◌, ◌≡◌, ◌≢◌, ◌<◌, All, ◌≤◌, ◌↔◌, length, drop, map, Some, Ok, Err, IfOk, IsOk, OnOk, OnErr, IfErr, IfSome, IsTrue};
 ghost use Rattle.std.specs.Option.{ok_or, option_copied};
 ghost use Rattle.bay_tree.specs.Names.{IsNamed, parent_of, word_of};
 ghost use Rattle.bay_tree.specs.Rows.{IsTree, IsHandle, place_of, name_at, leaf_at, leaf_of, kind_at, names_of, kinds_of, with_leaf, with_leaf_of, first_below_from, first_below, next_beside, places_below, places_behind, places_since};
 ghost use Rattle.bay_tree.specs.Kinds.{kind_of};
+ghost use Rattle.bay_tree.specs.Order.{place_if};
 ghost use Rattle.bay_tree.specs.Page.{page_after, start_after, IsUnknown};
 
 use crate::fault::{NamesFault, TreeFault};
@@ -185,6 +186,33 @@ impl Tree {
     {
         let index = self.nodes[handle.index].beside?;
         Some(Handle { index })
+    }
+
+    /// The first of all rows; None where there is none.
+    pub fn first(&self) -> Option<Handle>
+        ensures place { result ≡ place_if self.now 0 }
+        ensures there { IfSome result (IsHandle self.now) }
+    {
+        if self.nodes.is_empty() {
+            None
+        } else {
+            Some(Handle { index: 0 })
+        }
+    }
+
+    /// The row behind a row, in the order of all rows; None for the last.
+    pub fn next(&self, handle: Handle) -> Option<Handle>
+        requires { IsHandle self.now handle }
+        ensures place { result ≡ place_if self.now (handle + 1) }
+        ensures there { IfSome result (IsHandle self.now) }
+    {
+        if self.nodes.len() - handle.index > 1 {
+            Some(Handle {
+                index: handle.index + 1,
+            })
+        } else {
+            None
+        }
     }
 
     /// The name of a row.
