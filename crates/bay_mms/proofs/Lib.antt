@@ -8,6 +8,7 @@ pub mod DataLemmas
 pub mod InitiateLemmas
 pub mod LawLemmas
 pub mod NodeLemmas
+pub mod PageLemmas
 pub mod PlainLemmas
 pub mod PutLemmas
 pub mod ReceivedLemmas

@@ -7,6 +7,7 @@ pub mod Data
 pub mod Grammar
 pub mod Laws
 pub mod Nodes
+pub mod Pages
 pub mod Reports
 pub mod RequestViews
 pub mod Requests

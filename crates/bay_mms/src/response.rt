@@ -96,9 +96,9 @@ pub enum Response<'a> {
     },
 }
 
-// Makes a confirmed response of what was written since a place: the invoke id, and from the second place on the content of
-// the service of this number.
-fn put_confirmed_around(
+/// Makes a confirmed response of what was written since a place: the invoke id, and from the second place on the content of
+/// the service of this number.
+pub(crate) fn put_confirmed_around(
     writer: &mut Writer,
     start: usize,
     inner: usize,

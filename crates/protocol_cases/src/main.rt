@@ -17,8 +17,9 @@
 //   row of the tree, whose rows come one after another; behind them `value NAME OCTETS WHAT` and `type NAME OCTETS WHAT` are a
 //   row's data and type, as they are written and as trees. `response OCTETS KIND ..` is a response, `failure`, `termination`
 //   and `failed` are reports, as they are written, which with one octet more or less are no value; `operate OCTETS WHAT` and
-//   `cancel OCTETS WHAT` are what the first value of a write asks of a control, or the number and the words of its fault; `page ID LENGTHS LENGTH` and
-//   `name NAME LENGTH` are lengths.
+//   `cancel OCTETS WHAT` are what the first value of a write asks of a control, or the number and the words of its fault;
+//   `page OCTETS ID SIZE AFTER` is the page of names behind a name in octets, or behind none for `first`, for PDUs of a size;
+//   its octets are `unknown` where no row has the name.
 // - Of sessions: `session` begins one; `frame HEX` and `tsdu HEX` are a message of the client, the second in one data TPDU; what
 //   it comes to follows: `sends HEX`, `sends-tsdu HEX`, `fault NUMBER`, `ends` or `aborts`, or nothing; `end` looks at it all.
 //   `replaced HEX COUNTS` is a frame behind the session's messages, of which each octet is replaced by each other value, and how
@@ -48,7 +49,7 @@ use cases::told::Told;
 use cases::words::{first_word, is_case};
 use controls::is_control;
 use messages::is_message;
-use reports::{is_failed, is_failure, is_name, is_page, is_termination};
+use reports::{is_failed, is_failure, is_termination};
 use requests::{is_fault, is_request};
 use responses::is_response;
 use rows::Rows;
@@ -97,14 +98,13 @@ impl Before {
             "row" => self.rows.add(words),
             "value" => self.rows.has_value(words),
             "type" => self.rows.has_type(words),
+            "page" => self.rows.has_page(words),
             "response" => is_response(self.alloc, &mut self.rows, words),
             "failure" => is_failure(self.alloc, words),
             "termination" => is_termination(self.alloc, words),
             "failed" => is_failed(self.alloc, words),
             "operate" => is_control(self.alloc, words, false),
             "cancel" => is_control(self.alloc, words, true),
-            "page" => is_page(words),
-            "name" => is_name(words),
             "session"
             | "frame"
             | "tsdu"

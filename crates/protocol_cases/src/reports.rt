@@ -1,9 +1,8 @@
-// Reports of controls, and lengths of pages.
+// Reports of controls.
 use crate::rows::position_of;
 use crate::written::is_written;
 use anyhow::{Result, bail};
 use bay_mms::control::{Operate, Origin};
-use bay_mms::page::{name_length, page_length};
 use bay_mms::report::{ControlError, write_failed_termination, write_failure, write_termination};
 use cases::octets::octets_of;
 use cases::words::{first_word, truth_of};
@@ -133,24 +132,4 @@ pub fn is_failed(alloc: Global, words: &str) -> Result<bool> {
     let cause = cause.parse::<u8>()?;
     let written = failed_of(alloc, object, cause, (domain, item), &operate)?;
     is_written(alloc, written.as_slice(), octets)
-}
-
-/// Whether a page of names of so many octets has this length under an invoke id.
-pub fn is_page(words: &str) -> Result<bool> {
-    let (id, rest) = first_word(words);
-    let (names, length) = first_word(rest);
-    let names = names.parse::<u32>()?;
-    if names > 1_000_000 {
-        bail!("a page of {names} octets");
-    }
-    Ok(page_length(id.parse::<u32>()?, names) == length.parse::<u64>()?)
-}
-
-/// Whether a name takes so many octets of a page.
-pub fn is_name(words: &str) -> Result<bool> {
-    let (name, length) = first_word(words);
-    if name.len() > 1_000 {
-        bail!("a name that is too long");
-    }
-    Ok(name_length(name) == length.parse::<u64>()?)
 }

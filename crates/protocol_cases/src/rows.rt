@@ -1,9 +1,12 @@
-// Rows of a tree, and their data and types.
+// Rows of a tree, their data and types, and pages of their names.
+ghost use Rattle.std.specs.Prelude.{◌≤◌};
+
 use crate::written::is_written;
 use anyhow::{Context, Result, bail};
 use bay_base::listing::Listing;
 use bay_base::text::Text;
 use bay_mms::data::{data_of, type_spec_of};
+use bay_mms::page::write_page;
 use bay_mms::value::{write_type, write_value};
 use bay_tree::leaf::{Dbpos, Leaf, Quality};
 use bay_tree::row::Row;
@@ -90,6 +93,23 @@ fn is_type(alloc: Global, tree: &Tree, name: &str, octets: &str) -> Result<bool>
     is_written(alloc, written.as_slice(), octets)
 }
 
+/// Whether a page of names, of its invoke id and its size, is written in these octets.
+fn is_page(alloc: Global, tree: &Tree, page: (u32, u32), after: &str, octets: &str) -> Result<bool>
+    requires some { 256 ≤ page.1 }
+    requires few { page.1 ≤ 1000000 }
+{
+    let name = octets_of(alloc, if after == "first" { "-" } else { after })?;
+    let after = if after == "first" {
+        None
+    } else {
+        Some(name.as_slice())
+    };
+    match write_page(alloc, page.0, tree, after, page.1) {
+        Ok(written) => is_written(alloc, written.as_slice(), octets),
+        Err(fault) => Ok(octets == "unknown" && fault.code() == Some(40)),
+    }
+}
+
 impl Rows {
     /// No rows.
     pub fn new(alloc: Global) -> Rows {
@@ -138,5 +158,19 @@ impl Rows {
         let (octets, wanted) = first_word(rest);
         let tree = self.tree()?;
         Ok(is_type(alloc, tree, name, octets)? && is_type_spec(alloc, tree, name, wanted)?)
+    }
+
+    /// Whether the page behind a name, or behind none for `first`, is written in these octets, or the name is `unknown`.
+    pub fn has_page(&mut self, words: &str) -> Result<bool> {
+        let alloc = self.alloc;
+        let (octets, rest) = first_word(words);
+        let (id, rest) = first_word(rest);
+        let (size, after) = first_word(rest);
+        let id = id.parse::<u32>()?;
+        let size = size.parse::<u32>()?;
+        if size < 256 || size > 1_000_000 {
+            bail!("a page of {size} octets");
+        }
+        is_page(alloc, self.tree()?, (id, size), after, octets)
     }
 }
