@@ -20,16 +20,20 @@
 //   `cancel OCTETS WHAT` are what the first value of a write asks of a control, or the number and the words of its fault;
 //   `page OCTETS ID SIZE AFTER` is the page of names behind a name in octets, or behind none for `first`, for PDUs of a size;
 //   its octets are `unknown` where no row has the name.
+// - Of the association: `heard TSDU WHAT ..` are TSDUs in turn and what is heard of each: `answer:TSDU`, `mms:PDU`,
+//   `released:TSDU`, `aborted` or `fault:NUMBER`.
 // - Of sessions: `session` begins one; `frame HEX` and `tsdu HEX` are a message of the client, the second in one data TPDU; what
-//   it comes to follows: `sends HEX`, `sends-tsdu HEX`, `fault NUMBER`, `ends` or `aborts`, or nothing; `end` looks at it all.
+//   it comes to follows: `sends HEX`, `sends-tsdu HEX`, `fault NUMBER` or `ends`, or nothing; `end` looks at it all, whole and in
+//   single octets.
 //   `replaced HEX COUNTS` is a frame behind the session's messages, of which each octet is replaced by each other value, and how
 //   often that comes to what.
 // - `message FAMILY NUMBER TEXT` is what a fault is told as.
 #![tactic(auto)]
 
+mod association;
 mod ber;
 mod built;
-mod connection;
+mod client;
 mod controls;
 mod messages;
 mod replaced;
@@ -43,6 +47,7 @@ mod turns;
 mod written;
 
 use anyhow::{Result, bail};
+use association::hears;
 use ber::{reads_bits, reads_int, reads_long, reads_tag, reads_truth, refuses, writes_int};
 use built::{is_built, is_length};
 use cases::told::Told;
@@ -83,6 +88,7 @@ fn octets_agree(alloc: Global, kind: &str, words: &str) -> Result<bool> {
         "length" => is_length(words),
         "stream" => streams(alloc, words),
         "wrap" => wraps(alloc, words),
+        "heard" => hears(alloc, words),
         "message" => is_message(alloc, words),
         _ => bail!("what is this: {kind}"),
     }
@@ -112,7 +118,6 @@ impl Before {
             | "sends-tsdu"
             | "fault"
             | "ends"
-            | "aborts"
             | "end"
             | "replaced" => self.session.agrees(kind, words),
             _ => octets_agree(self.alloc, kind, words),

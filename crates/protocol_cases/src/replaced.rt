@@ -1,26 +1,24 @@
 // Each octet of a frame replaced by each other value.
-use crate::connection::Connection;
+use crate::client::Client;
 use anyhow::{Result, bail};
 use std::alloc::Global;
 use std::fmt;
 
-/// How often frames came to what: an answer, an abort, an end, nothing yet, and each fault.
+/// How often frames came to what: an answer, an end, nothing yet, and each fault.
 #[derive(Drop)]
 struct Counts {
     answers: u32,
-    aborts: u32,
     ends: u32,
     waits: u32,
     faults: [u32; 27],
 }
 
 impl Counts {
-    /// Counts what a connection did of a frame.
+    /// Counts what was done of a frame.
     fn count(&mut self, log: &[u8]) -> Result<()> {
         match log {
             [] => self.waits = self.waits.saturating_add(1),
             [b'S', ..] => self.answers = self.answers.saturating_add(1),
-            [b'A', ..] => self.aborts = self.aborts.saturating_add(1),
             [b'E', ..] => self.ends = self.ends.saturating_add(1),
             [b'F', number, ..] if *number < 27 => {
                 let place = *number as usize;
@@ -34,12 +32,8 @@ impl Counts {
 
 impl fmt::Display for Counts {
     fn fmt<W: fmt::Write>(&self, f: &mut fmt::Formatter<W>) -> fmt::Result {
-        let (answers, aborts) = (self.answers, self.aborts);
-        let (ends, waits) = (self.ends, self.waits);
-        write!(
-            f,
-            "answers={answers} aborts={aborts} ends={ends} waits={waits}"
-        )?;
+        let (answers, ends, waits) = (self.answers, self.ends, self.waits);
+        write!(f, "answers={answers} ends={ends} waits={waits}")?;
         for (number, count) in self.faults.iter().enumerate() {
             if *count > 0 {
                 write!(f, " {number}={count}")?;
@@ -51,11 +45,11 @@ impl fmt::Display for Counts {
 
 /// What a frame comes to first behind the octets of a connection.
 fn log_of(alloc: Global, front: &[u8], frame: &[u8], counts: &mut Counts) -> Result<()> {
-    let mut connection = Connection::new(alloc);
-    connection.feed(front, front.len())?;
-    let before = connection.log().len();
-    connection.feed(frame, frame.len())?;
-    match connection.log().get(before..) {
+    let mut client = Client::new(alloc);
+    client.feed(front, front.len())?;
+    let before = client.log().len();
+    client.feed(frame, frame.len())?;
+    match client.log().get(before..) {
         Some(log) => counts.count(log),
         None => bail!("what was done is forgotten"),
     }
@@ -65,7 +59,6 @@ fn log_of(alloc: Global, front: &[u8], frame: &[u8], counts: &mut Counts) -> Res
 fn replaced(alloc: Global, front: &[u8], frame: &[u8]) -> Result<Counts> {
     let mut counts = Counts {
         answers: 0,
-        aborts: 0,
         ends: 0,
         waits: 0,
         faults: [0; 27],

@@ -1,5 +1,5 @@
 // The messages of a session and what they come to.
-use crate::connection::Connection;
+use crate::client::Client;
 use crate::replaced::is_replaced;
 use anyhow::{Result, bail};
 use cases::octets::octets_of;
@@ -48,9 +48,9 @@ fn octets_in(alloc: Global, kind: &str, word: &str) -> Result<Vec<u8>> {
 
 /// Whether octets come to this, in pieces of at most so many.
 fn comes_to(alloc: Global, octets: &[u8], size: usize, wanted: &[u8]) -> Result<bool> {
-    let mut connection = Connection::new(alloc);
-    connection.feed(octets, size)?;
-    Ok(connection.log() == wanted)
+    let mut client = Client::new(alloc);
+    client.feed(octets, size)?;
+    Ok(client.log() == wanted)
 }
 
 impl Session {
@@ -125,7 +125,6 @@ impl Session {
             "sends" | "sends-tsdu" => self.comes_to(b'S', octets.as_slice())?,
             "fault" => self.comes_to(b'F', octets.as_slice())?,
             "ends" => self.comes_to(b'E', octets.as_slice())?,
-            "aborts" => self.comes_to(b'A', octets.as_slice())?,
             "replaced" => {
                 return is_replaced(self.alloc, self.octets.as_slice(), octets.as_slice(), rest);
             }
