@@ -1,9 +1,5 @@
-pub mod ContactLemmas
-pub mod ListLemmas
 pub mod LoadLemmas
 pub mod MeaningLemmas
-pub mod NodeLemmas
-pub mod SourceLemmas
 pub mod ScanLemmas
+pub mod StepLemmas
 pub mod TableLemmas
-pub mod ToldLemmas

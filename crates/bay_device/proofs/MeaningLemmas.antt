@@ -29,11 +29,13 @@ use Rattle.il_compile.specs.Compiled.{image_of, point_of}
 use Rattle.il_compile.specs.Correct.{DoesTheText, Follows, HasTypes}
 use Rattle.il_compile.specs.Senses.{timer_of}
 use Rattle.bay_device.specs.Load.{initial_device}
-use Rattle.bay_device.proofs.SourceLemmas.{IsTyped, bay-typed, points-fit, reads-typed}
+use Rattle.bay_process.proofs.SourceLemmas.{IsTyped, bay-typed, points-fit, reads-typed}
 use Rattle.il_compile.specs.Meaning.{Memory}
 use Rattle.il_scan.specs.Scans.{first_input, first_slots, first_value, outputs_of, read_only, type_of_point, with_inputs}
-use Rattle.bay_device.specs.Device.{Outcome, State, Ran, contact_outcome, ending_at, event_outcome, input_outcome, inputs_of, last_moment, measure_outcome, outcome, outcomes, point_value, ran_at, ran_of, scanned, with_outputs}
-use Rattle.bay_device.specs.Meaning.{AllMean, Means, MeansAt, Runs, memory_before, memory_of, type_of_source}
+use Rattle.bay_device.specs.Device.{Outcome, State, Ran, contact_outcome, ending_at, event_outcome, input_outcome, inputs_of, last_moment, measure_outcome, outcome, outcomes, point_value, ran_at, ran_of, scanned}
+use Rattle.bay_process.specs.Values.{with_outputs}
+use Rattle.bay_device.specs.Meaning.{AllMean, Means, MeansAt, Runs, memory_before, memory_of}
+use Rattle.bay_process.specs.Sources.{type_of_source}
 use Rattle.bay_device.specs.declared.event.Event.{Event}
 use Rattle.bay_device.specs.declared.event.Event.TheVariants.{Contact, Input, Measure, Scan}
 

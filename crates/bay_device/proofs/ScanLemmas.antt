@@ -13,17 +13,18 @@ use Rattle.il_image.specs.declared.value.Value.{Value}
 use Rattle.il_image.specs.declared.value.Value.TheVariants.{Long}
 use Rattle.il_scan.specs.Places.{is_true}
 use Rattle.il_scan.specs.Scans.{Held, Scans, outputs_of, started}
-use Rattle.bay_device.specs.Device.{Ran, after_run, ending_at, inputs_of, measure_leaf, number_of_leaf, output_at, point_value, position_leaf, position_value, ran_at, ran_of, scanned, with_output, with_outputs}
-use Rattle.bay_device.specs.Layout.{Layout, layout_of, switches_of, IsBound, AreBound, AreKinded, AreMetersBound, AreMeterKinded}
+use Rattle.bay_device.specs.Device.{Ran, after_run, ending_at, inputs_of, point_value, ran_at, ran_of, scanned}
+use Rattle.bay_process.specs.Values.{measure_leaf, number_of_leaf, output_at, position_leaf, position_value, with_output, with_outputs}
+use Rattle.bay_process.specs.Layout.{Layout, layout_of, switches_of, IsBound, AreBound, AreKinded, AreMetersBound, AreMeterKinded}
 use Rattle.bay_device.specs.Meaning.{Halts}
-use Rattle.bay_device.specs.Names.{StatusNames, SwitchNames, field_names, switch_names}
-use Rattle.bay_device.specs.Scans.{bound_value, meter_value, outputs_put, switch_value}
+use Rattle.bay_process.specs.Names.{StatusNames, SwitchNames, field_names, switch_names}
+use Rattle.bay_process.specs.Scans.{bound_value, meter_value, outputs_put, switch_value}
 use Rattle.bay_device.specs.StateView.{state_view}
-use Rattle.bay_device.specs.Told.{AreInterlocked}
-use Rattle.bay_device.specs.declared.meter.BoundMeter.{BoundMeter}
+use Rattle.bay_process.specs.Told.{AreInterlocked}
+use Rattle.bay_process.specs.declared.meter.BoundMeter.{BoundMeter}
 use Rattle.bay_device.specs.declared.state.DeviceState.{DeviceState}
-use Rattle.bay_device.specs.declared.switch.BoundSwitch.{BoundSwitch}
-use Rattle.bay_device.proofs.ContactLemmas.{field-named}
+use Rattle.bay_process.specs.declared.switch.BoundSwitch.{BoundSwitch}
+use Rattle.bay_process.proofs.FieldLemmas.{field-named}
 
 -- the values at the handles of bound switches and meters have the kinds that a step wants
 pub kinded : (layout : Layout) (writes : List Source) (bound : List BoundSwitch) → AreBound layout writes bound → AreKinded layout bound

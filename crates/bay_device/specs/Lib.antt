@@ -1,14 +1,8 @@
 pub mod Code
 pub mod Device
-pub mod Layout
 pub mod Load
 pub mod LookUps
 pub mod Meaning
-pub mod Names
-pub mod Nodes
-pub mod Parts
 pub mod Report
-pub mod Scans
 pub mod StateView
 pub mod Table
-pub mod Told

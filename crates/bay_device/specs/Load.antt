@@ -1,11 +1,7 @@
 -- The device that a bay file and a program or an image load to, or why they are refused.
-use Rattle.std.specs.Prelude.{◌≡◌, ℕ, Bool, true, false, find, List, [], ◌∷◌, map, option_map, Option, None, Some, Result, Ok, Err, if◌then◌else◌}
-use Rattle.std.specs.Bool.{beq}
-use Rattle.std.specs.List.{cons_option}
+use Rattle.std.specs.Prelude.{◌≡◌, ℕ, true, false, map, Option, None, Some, Result, Ok, Err}
 use Rattle.bay_config.specs.Code as bay_code
 use Rattle.bay_config.specs.declared.bay.Bay.{Bay}
-use Rattle.bay_config.specs.declared.bay.Source.{Source}
-use Rattle.bay_config.specs.declared.bay.Point.{Point}
 use Rattle.bay_config.specs.declared.fault.BayFault.{BayFault}
 use Rattle.il_text.specs.Code as text_code
 use Rattle.il_text.specs.Listing.{PlainProgram}
@@ -17,11 +13,9 @@ use Rattle.il_check.specs.declared.fault.CheckFault.{CheckFault}
 use Rattle.il_image.specs.Codes as image_code
 use Rattle.il_image.specs.Images.{Image}
 use Rattle.il_image.specs.declared.fault.ImageFault.{ImageFault}
-use Rattle.il_image.specs.declared.image.ImagePoint.{ImagePoint}
 use Rattle.il_compile.specs.Compiled.{compiled_of}
 use Rattle.il_compile.specs.Faults as compile_code
 use Rattle.il_compile.specs.declared.fault.CompileFault.{CompileFault}
-use Rattle.il_verify.specs.Binding.{is_point}
 use Rattle.il_verify.specs.Codes as verify_code
 use Rattle.il_verify.specs.Refusals.{IsRefusal}
 use Rattle.il_verify.specs.Verdicts.{IsVerified}
@@ -30,16 +24,7 @@ use Rattle.il_scan.specs.Scans.{held_first}
 use Rattle.bay_device.specs.Device.{State}
 use Rattle.bay_device.specs.declared.fault.LoadFault.{LoadFault}
 use Rattle.bay_device.specs.declared.fault.LoadFault.TheVariants.{Refused, OutOfMemory}
-
--- what an image's point stands for: the bay's point of its name, its type and its writability
-abbrev pub source_of : List Point → ImagePoint → Option Source
-source_of bay p = option_map (λ b. b.source) (find (is_point p) bay)
-
--- what those of an image's points stand for that may be written, or those that may not
-abbrev pub sources_of : Bool → List Point → List ImagePoint → List Source
-sources_of writable bay [] = []
-sources_of writable bay (p ∷ points) =
-    if beq p.writable writable then cons_option (source_of bay p) (sources_of writable bay points) else sources_of writable bay points
+use Rattle.bay_process.specs.Sources.{source_of, sources_of}
 
 -- a device before its first event
 abbrev pub initial_device : Bay → Image → State

@@ -2,8 +2,9 @@
 use Rattle.std.specs.Prelude.{ℕ, Bool, true, nat_lt, List, length, position, Option, None, Some, codes, if◌then◌else◌}
 use Rattle.bay_tree.specs.Rows.{leaf_of}
 use Rattle.bay_base.specs.Names.{same_name}
-use Rattle.bay_device.specs.Device.{State, is_truth}
-use Rattle.bay_device.specs.Names.{status_names, interlocking_of}
+use Rattle.bay_device.specs.Device.{State}
+use Rattle.bay_process.specs.Values.{is_truth}
+use Rattle.bay_process.specs.Names.{status_names, interlocking_of}
 
 -- the place of the switch with an id, whatever the case of its letters
 abbrev pub switch_place : State → List ℕ → Option ℕ

@@ -1,11 +1,5 @@
 -- What the events of a device come to that was loaded from the text of a program: each scan leaves what the text means.
 use Rattle.std.specs.Prelude.{ℕ, ◌≡◌, ◌≤◌, Bool, false, nat_lt, ◌||◌, List, [], ◌∷◌, length, map, take, drop, Some}
-use Rattle.bay_base.specs.declared.types.ElementaryType.{ElementaryType}
-use Rattle.bay_base.specs.declared.types.ElementaryType.TheVariants as elementary
-use Rattle.bay_config.specs.declared.bay.Source.{Source}
-use Rattle.bay_config.specs.declared.bay.Source.TheVariants as source
-use Rattle.bay_config.specs.declared.bay.SwitchPoint.{SwitchPoint}
-use Rattle.bay_config.specs.declared.bay.SwitchPoint.TheVariants.{Position, Open, Closed, EnableOpen, EnableClose}
 use Rattle.il_image.specs.Machine.{Halted}
 use Rattle.il_image.specs.declared.timer.Timer.{Timer}
 use Rattle.il_image.specs.declared.value.Value.{Value}
@@ -15,9 +9,11 @@ use Rattle.il_compile.specs.Correct.{DoesTheText, HasTypes}
 use Rattle.il_compile.specs.Meaning.{Memory, mean}
 use Rattle.il_verify.specs.Verdicts.{IsBudget}
 use Rattle.il_scan.specs.Scans.{outputs_of, read_only, started, type_of_point}
-use Rattle.bay_device.specs.Device.{State, ending_at, inputs_of, last_moment, outcome, scanned, with_outputs}
+use Rattle.bay_device.specs.Device.{State, ending_at, inputs_of, last_moment, outcome, scanned}
+use Rattle.bay_process.specs.Values.{with_outputs}
 use Rattle.bay_device.specs.declared.event.Event.{Event}
 use Rattle.bay_device.specs.declared.event.Event.TheVariants.{Contact, Input, Measure, Scan}
+use Rattle.bay_process.specs.Sources.{type_of_source}
 
 -- ---- no trap, and the budget
 
@@ -76,19 +72,6 @@ AllMean c [] s = Unit {0}
 AllMean c (e ∷ es) s = MeansAt c e.0 e.1 s × AllMean c es (outcome e.0 e.1 s).after
 
 -- ---- which device runs a text
-
--- the type of what a point stands for
-abbrev pub type_of_switch_point : SwitchPoint → ElementaryType
-type_of_switch_point Position = elementary.Int
-type_of_switch_point Open = elementary.Bool
-type_of_switch_point Closed = elementary.Bool
-type_of_switch_point EnableOpen = elementary.Bool
-type_of_switch_point EnableClose = elementary.Bool
-
-abbrev pub type_of_source : Source → ElementaryType
-type_of_source (source.Switch k point) = type_of_switch_point point
-type_of_source (source.Input k) = elementary.Bool
-type_of_source (source.Meter k field) = elementary.Dint
 
 -- The device runs the program: its image has the program's externals as points and code that does what the text means, its slots
 -- and timers hold values of the program's types, and the points that it only reads have their types.

@@ -1,6 +1,6 @@
 -- The device that a state of the code stands for.
 use Rattle.bay_device.specs.Device.{State}
-use Rattle.bay_device.specs.Layout.{switches_of, meters_of}
+use Rattle.bay_process.specs.Layout.{switches_of, meters_of}
 use Rattle.bay_device.specs.declared.state.DeviceState.{DeviceState}
 
 abbrev pub state_view : DeviceState → State

@@ -1,8 +1,8 @@
 -- Where names stand: for each key a place before which no name has it.
 use Rattle.std.specs.Prelude.{◌≡◌, ℕ, ◌+◌, ◌*◌, ◌<◌, ◌≤◌, ◌%◌, nat_lt, List, length, map, get_or, slice_get, slice_set, Some, if◌then◌else◌}
 use Rattle.std.specs.List.{fold}
-use Rattle.bay_device.specs.declared.meter.BoundMeter.{BoundMeter}
-use Rattle.bay_device.specs.declared.switch.BoundSwitch.{BoundSwitch}
+use Rattle.bay_process.specs.declared.meter.BoundMeter.{BoundMeter}
+use Rattle.bay_process.specs.declared.switch.BoundSwitch.{BoundSwitch}
 use Rattle.bay_device.specs.declared.table.NameTables.{NameTables}
 
 -- the key of a name, below 64: the same for a name in other letters, whose octets differ by 32

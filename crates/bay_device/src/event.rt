@@ -4,7 +4,7 @@ use bay_tree::leaf::Dbpos;
 
 /// The last moment that an event may have, in milliseconds since 1970: the end of the last second that
 /// a time stamp of 32 bits of seconds can tell (IEC 61850-8-1, UtcTime).
-pub const LAST_MOMENT: u64 = 4_294_967_295_999;
+pub(crate) const LAST_MOMENT: u64 = 4_294_967_295_999;
 
 /// What happens to a device at a moment.
 #[derive(Clone, Copy, Debug, PartialEq, Eq)]

@@ -20,15 +20,15 @@ ghost use Rattle.bay_device.specs.Meaning.{Runs};
 ghost use Rattle.bay_device.specs.StateView.{state_view};
 ghost use Rattle.bay_device.specs.declared.fault.LoadFault.TheVariants.{OutOfMemory};
 
-use crate::bind::falses;
 use crate::device::Device;
 use crate::fault::LoadFault;
-use crate::parts::{bound_rows, node_names, wired_machine};
 use crate::state::DeviceState;
 use crate::table::tables_of;
 use bay_base::listing::Listing;
 use bay_config::bay::{Bay, Point};
 use bay_config::read::read_bay;
+use bay_process::bind::falses;
+use bay_process::parts::{bound_rows, node_names, wired_machine};
 use il_check::check::check;
 use il_check::program::Typed;
 use il_compile::compile::compile;

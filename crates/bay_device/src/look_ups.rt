@@ -1,14 +1,14 @@
 // What can be asked of a device's state.
 ghost use Rattle.std.specs.Prelude.{◌≡◌, true, slice_get, option_map};
 ghost use Rattle.bay_tree.specs.Rows.{leaf_of};
-ghost use Rattle.bay_device.specs.Device.{is_truth};
-ghost use Rattle.bay_device.specs.Layout.{layout_of, status_in, switches_of, AreSwitchRows};
+ghost use Rattle.bay_process.specs.Values.{is_truth};
+ghost use Rattle.bay_process.specs.Layout.{layout_of, status_in, switches_of, AreSwitchRows};
 ghost use Rattle.bay_device.specs.LookUps.{switch_place, input_place, meter_place, enabled_of};
 ghost use Rattle.bay_device.specs.StateView.{state_view};
 
-use crate::rows::{SwitchRows, is_truth};
 use crate::state::DeviceState;
-use crate::switch::Enabled;
+use bay_process::rows::{SwitchRows, is_truth};
+use bay_process::switch::Enabled;
 use bay_tree::tree::Tree;
 
 /// The interlocking values that stand in the tree.

@@ -33,7 +33,7 @@ fn instruction_count(code: &[u8]) -> u32
 }
 
 /// The report of a verified image.
-pub fn report_of(verified: &Verified) -> Report
+pub(crate) fn report_of(verified: &Verified) -> Report
     ensures { IsReport verified.now result }
 {
     Report {

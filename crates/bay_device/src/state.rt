@@ -1,18 +1,18 @@
 // The state of a device, which can take no memory.
 ghost use Rattle.std.specs.Prelude.{◌≡◌, length, map};
 ghost use Rattle.il_scan.specs.Scans.{read_only, type_of_point};
-ghost use Rattle.bay_device.specs.Layout.{layout_of, AreBound, AreMetersBound};
-ghost use Rattle.bay_device.specs.Meaning.{type_of_source};
+ghost use Rattle.bay_process.specs.Layout.{layout_of, AreBound, AreMetersBound};
+ghost use Rattle.bay_process.specs.Sources.{type_of_source};
 ghost use Rattle.bay_device.specs.Table.{AreTables};
-ghost use Rattle.bay_device.specs.Told.{AreTold};
+ghost use Rattle.bay_process.specs.Told.{AreTold};
 
-use crate::meter::BoundMeter;
-use crate::switch::BoundSwitch;
 use crate::table::NameTables;
-use crate::values::{ToldValues, Truths};
 use bay_base::listing::Listing;
 use bay_base::text::Text;
 use bay_config::bay::Source;
+use bay_process::meter::BoundMeter;
+use bay_process::switch::BoundSwitch;
+use bay_process::values::{ToldValues, Truths};
 use bay_tree::tree::Tree;
 use il_scan::machine::Machine;
 

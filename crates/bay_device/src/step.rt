@@ -5,14 +5,14 @@ ghost use Rattle.bay_device.specs.Meaning.{Halts, HaltsAt, is_refused};
 ghost use Rattle.bay_device.specs.declared.event.Event.TheVariants.{Contact, Input, Measure};
 ghost use Rattle.bay_device.specs.StateView.{state_view};
 
-use crate::contact::take_position;
 use crate::event::{Event, LAST_MOMENT, Step};
 use crate::fault::StepFault;
-use crate::meter::take_measure;
-use crate::scan::{ReadPoints, write_outputs};
 use crate::state::DeviceState;
-use crate::values::same_truth;
 use bay_config::bay::MeterField;
+use bay_process::contact::take_position;
+use bay_process::meter::take_measure;
+use bay_process::scan::{ReadPoints, write_outputs};
+use bay_process::values::same_truth;
 use bay_tree::leaf::Dbpos;
 
 impl DeviceState {

@@ -3,10 +3,10 @@ ghost use Rattle.std.specs.Prelude.{◌≡◌, ◌<◌, length, map, position};
 ghost use Rattle.bay_base.specs.Names.{same_name};
 ghost use Rattle.bay_device.specs.Table.{IsTable, AreTables, key_of, noted};
 
-use crate::meter::BoundMeter;
-use crate::switch::BoundSwitch;
 use bay_base::names::same_name;
 use bay_base::text::Text;
+use bay_process::meter::BoundMeter;
+use bay_process::switch::BoundSwitch;
 
 /// How many keys there are.
 const KEYS: usize = 64;

@@ -5,17 +5,21 @@ ghost use Rattle.bay_io.specs.Input.{failed_of};
 use crate::reader::WatchedReader;
 use std::alloc::Global;
 use std::io::Read;
+use thiserror::Error;
 
 /// How many octets are asked for at a time.
 const PIECE: usize = 65_536;
 
 /// Why the input could not be had.
-#[derive(Debug, Drop)]
+#[derive(Debug, Drop, Error)]
 pub enum ReadFault {
     /// There is more than the limit.
+    #[error("there are too many octets")]
     TooLong,
     /// A read failed.
+    #[error("a read failed")]
     Failed,
+    #[error("out of memory")]
     OutOfMemory,
 }
 

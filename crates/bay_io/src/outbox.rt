@@ -23,7 +23,7 @@ const SHORT: usize = 4;
 pub struct WriteFault;
 
 /// Writes all of the text, or a front of it. A writer of which a write has failed is not written to again.
-pub fn write_out<W: Write>(writer: &mut WatchedWriter<W>, text: &[u8]) -> Result<(), WriteFault>
+fn write_out<W: Write>(writer: &mut WatchedWriter<W>, text: &[u8]) -> Result<(), WriteFault>
     ensures ok { OnOk result (Appends (W.contents writer.old.inner) (W.contents writer.new.inner) text.now) }
     ensures err { OnErr result (SendsPart (W.contents writer.old.inner) (W.contents writer.new.inner) text.now) }
     ensures fault { is_err result ≡ writer.new.has_failed }

@@ -8,7 +8,7 @@ use Rattle.bay_device.specs.declared.report.Report.{Report}
 use Rattle.bay_main.specs.Load.{load_of, LoadsTo}
 use Rattle.bay_main.specs.Report.{report_text, HeadReport, MayReport, MayTell, MayRefuse, LoadReport, LoadsReport, CheckReport}
 use Rattle.bay_main.specs.Scenario.{ScenarioParts, lines_of}
-use Rattle.bay_main.specs.declared.load.ProgramFile.{ProgramFile}
+use Rattle.bay_main.specs.declared.load.Form.{Form}
 
 -- a line and the trace behind it are a device's, if the line is that of its load
 pub MayReport-head : (report : Report) (s : State) (lines : List (List ℕ)) (head : List ℕ) → IsReport s.machine.image report → head ≡ report_text report
@@ -20,13 +20,13 @@ pub LoadsReport-device : (parts : ScenarioParts) (s : State) → load_of parts.b
 LoadsReport-device parts s loads text status (inl told) = inl (subst (λ loaded. LoadReport loaded parts.trace text status) (sym loads) told)
 LoadsReport-device parts s loads text status (inr refused) = inr refused
 
-pub CheckReport-device : (bay : List ℕ) (program : ProgramFile) (s : State) (report : Report) → LoadsTo bay program (Ok s) → IsReport s.machine.image report
-    → (text : List ℕ) (status : ℕ) → MayTell report text status → CheckReport bay program text status
-CheckReport-device bay program s report loads is text status (inl told) = inl (Ok s, loads, (report, is, told.0, told.1))
-CheckReport-device bay program s report loads is text status (inr refused) = inr refused
+pub CheckReport-device : (bay : List ℕ) (form : Form) (program : List ℕ) (s : State) (report : Report) → LoadsTo bay form program (Ok s) → IsReport s.machine.image report
+    → (text : List ℕ) (status : ℕ) → MayTell report text status → CheckReport bay form program text status
+CheckReport-device bay form program s report loads is text status (inl told) = inl (Ok s, loads, (report, is, told.0, told.1))
+CheckReport-device bay form program s report loads is text status (inr refused) = inr refused
 
-pub CheckReport-refused : (bay : List ℕ) (program : ProgramFile) (fault : LoadFault) → (fault ≢ OutOfMemory → LoadsTo bay program (Err fault))
-    → (text : List ℕ) (status : ℕ) → MayRefuse fault text status → CheckReport bay program text status
-CheckReport-refused bay program OutOfMemory refuses text status (inl told) = inr told
-CheckReport-refused bay program (Refused code line) refuses text status (inl told) = inl (Err (Refused code line), refuses (λ e. cc), told)
-CheckReport-refused bay program fault refuses text status (inr told) = inr told
+pub CheckReport-refused : (bay : List ℕ) (form : Form) (program : List ℕ) (fault : LoadFault) → (fault ≢ OutOfMemory → LoadsTo bay form program (Err fault))
+    → (text : List ℕ) (status : ℕ) → MayRefuse fault text status → CheckReport bay form program text status
+CheckReport-refused bay form program OutOfMemory refuses text status (inl told) = inr told
+CheckReport-refused bay form program (Refused code line) refuses text status (inl told) = inl (Err (Refused code line), refuses (λ e. cc), told)
+CheckReport-refused bay form program fault refuses text status (inr told) = inr told

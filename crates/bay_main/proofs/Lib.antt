@@ -1,5 +1,6 @@
 pub mod AnswerLemmas
 pub mod CheckLemmas
+pub mod CommandLemmas
 pub mod FeedLemmas
 pub mod JobLemmas
 pub mod PieceLemmas

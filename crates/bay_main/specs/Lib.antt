@@ -1,5 +1,6 @@
-pub mod Compiled
+pub mod Commands
 pub mod Ending
+pub mod Files
 pub mod Jobs
 pub mod JobView
 pub mod LineAnswers

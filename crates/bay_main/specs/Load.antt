@@ -13,8 +13,8 @@ use Rattle.il_image.specs.Decoding.{decoded}
 use Rattle.bay_device.specs.Device.{State}
 use Rattle.bay_device.specs.Load.{of_bay, Loads}
 use Rattle.bay_device.specs.declared.fault.LoadFault.{LoadFault}
-use Rattle.bay_main.specs.declared.load.ProgramFile.{ProgramFile}
-use Rattle.bay_main.specs.declared.load.ProgramFile.TheVariants.{Logic, Image}
+use Rattle.bay_main.specs.declared.load.Form.{Form}
+use Rattle.bay_main.specs.declared.load.Form.TheVariants.{Logic, Image}
 
 -- a program that is not in UTF-8 is a bad token at its first line
 abbrev pub text_of : List ℕ → Result PlainProgram TextFault
@@ -29,6 +29,6 @@ abbrev pub load_of : List ℕ → List ℕ → Result State LoadFault
 load_of bay logic = of_bay (file_of bay) (text_of logic)
 
 -- the octets of a bay file and of a program or an image load to this device, or are refused so
-abbrev pub LoadsTo : List ℕ → ProgramFile → Result State LoadFault → Type 0
-LoadsTo bay (Logic logic) loaded = load_of bay logic.now ≡ loaded
-LoadsTo bay (Image image) loaded = Loads (file_of bay) (decoded image.now) loaded
+abbrev pub LoadsTo : List ℕ → Form → List ℕ → Result State LoadFault → Type 0
+LoadsTo bay Logic program loaded = load_of bay program ≡ loaded
+LoadsTo bay Image program loaded = Loads (file_of bay) (decoded program) loaded

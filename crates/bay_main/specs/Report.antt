@@ -7,7 +7,7 @@ use Rattle.bay_device.specs.Report.{IsReport as IsReportOf}
 use Rattle.bay_device.specs.declared.report.Report.{Report}
 use Rattle.bay_main.specs.LineAnswers.{line_answer}
 use Rattle.bay_main.specs.Load.{load_of, LoadsTo}
-use Rattle.bay_main.specs.declared.load.ProgramFile.{ProgramFile}
+use Rattle.bay_main.specs.declared.load.Form.{Form}
 use Rattle.bay_main.specs.Scenario.{ScenarioParts, scenario_of, lines_of}
 use Rattle.bay_io.specs.Sent.{SendsPart}
 use Rattle.bay_io.specs.Watched.{Writing}
@@ -88,9 +88,9 @@ LoadedReport (Err fault) text status = Refuses fault text status
 LoadedReport (Ok device) text status = Accepts device text status
 
 -- the text and the status of a bay file and a program or an image; their load may want memory
-abbrev pub CheckReport : List ℕ → ProgramFile → List ℕ → ℕ → Type 0
-CheckReport bay program text status =
-    ((loaded : Result State LoadFault) × LoadsTo bay program loaded × LoadedReport loaded text status) ⊎ Refuses OutOfMemory text status
+abbrev pub CheckReport : List ℕ → Form → List ℕ → List ℕ → ℕ → Type 0
+CheckReport bay form program text status =
+    ((loaded : Result State LoadFault) × LoadsTo bay form program loaded × LoadedReport loaded text status) ⊎ Refuses OutOfMemory text status
 
 -- the text and the status of a scenario's parts
 abbrev pub PartsReport : Option ScenarioParts → List ℕ → ℕ → Type 0

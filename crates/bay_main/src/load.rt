@@ -16,13 +16,13 @@ use bay_device::load::{load, load_image};
 use il_text::fault::TextFault;
 use std::alloc::Global;
 
-/// The octets of a program, or of what was compiled of one.
-#[derive(Clone, Copy)]
-pub enum ProgramFile<'a> {
+/// What the octets beside a bay file are.
+#[derive(Clone, Copy, Debug, PartialEq, Eq)]
+pub enum Form {
     /// A program in Instruction List.
-    Logic(&'a [u8]),
+    Logic,
     /// An image.
-    Image(&'a [u8]),
+    Image,
 }
 
 /// The refusal of a bay file, or else of a program that is not in UTF-8: a bad token at its first line.
@@ -68,13 +68,14 @@ fn load_image_octets(alloc: Global, bay: &[u8], image: &[u8]) -> Result<Device, 
 pub fn load_program(
     alloc: Global,
     bay: &[u8],
-    program: ProgramFile<'_>,
+    form: Form,
+    program: &[u8],
 ) -> Result<Device, LoadFault>
-    ensures ok { IfOk result (λ device. LoadsTo bay.now program.entry (Ok device)) }
-    ensures refused { IfErr result (λ e. e ≢ OutOfMemory → LoadsTo bay.now program.entry (Err e)) }
+    ensures ok { IfOk result (λ device. LoadsTo bay.now form program.now (Ok device)) }
+    ensures refused { IfErr result (λ e. e ≢ OutOfMemory → LoadsTo bay.now form program.now (Err e)) }
 {
-    match program {
-        ProgramFile::Logic(logic) => load_octets(alloc, bay, logic),
-        ProgramFile::Image(image) => load_image_octets(alloc, bay, image),
+    match form {
+        Form::Logic => load_octets(alloc, bay, program),
+        Form::Image => load_image_octets(alloc, bay, program),
     }
 }

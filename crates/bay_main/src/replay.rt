@@ -1,6 +1,5 @@
 // Reads a scenario, replays it, and writes its report.
 ghost use Rattle.std.specs.Prelude.{◌≡◌, ◌+◌, ◌≤◌, length, true, OnOk, is_err};
-ghost use Rattle.bay_main.specs.Ending.{ending_of};
 ghost use Rattle.bay_main.specs.Report.{HeadReport, DeviceReport, MayReport, IsLast, MayRefuse, LoadsReport, IsReport, IsReplay, Prints};
 ghost use Rattle.bay_main.specs.Scenario.{scenario_limit, lines_of};
 ghost use Rattle.bay_main.specs.ScenarioView.{scenario_view};
@@ -117,30 +116,5 @@ pub fn replay_run<R: Read, W: Write>(
         Err(ReadFault::OutOfMemory) => write_text(writer, b"fault memory\n", FAULT),
         Err(ReadFault::TooLong) => write_text(writer, b"fault 121\n", FAULT),
         Err(ReadFault::Failed) => write_text(writer, b"fault 121\n", FAULT),
-    }
-}
-
-/// How a program ends: its exit status, and what it writes to standard error before.
-#[derive(Clone, Copy, Debug, PartialEq, Eq)]
-pub struct Ending {
-    pub status: u8,
-    pub complaint: &'static str,
-}
-
-/// How a program ends by the answer of a replay: with its status, or for a failed write with 3 and the complaint
-/// `fault 122`.
-pub fn exit_of(answer: Result<u8, WriteFault>) -> Ending
-    ensures status { result.status ≡ (ending_of answer).status }
-    ensures complaint { result.complaint.now ≡ (ending_of answer).complaint }
-{
-    match answer {
-        Ok(status) => Ending {
-            status,
-            complaint: "",
-        },
-        Err(WriteFault) => Ending {
-            status: FAULT,
-            complaint: "fault 122\n",
-        },
     }
 }

@@ -8,6 +8,7 @@ ghost use Rattle.bay_main.specs.JobView.{job_view};
 use clap::error::ErrorKind;
 use clap::{Arg, ArgAction, ArgMatches, Command, Error};
 use std::alloc::{AllocError, Global};
+use thiserror::Error;
 
 /// What the program does.
 #[derive(Clone, Copy, Debug, PartialEq, Eq)]
@@ -35,10 +36,12 @@ pub struct Job {
 }
 
 /// Why words ask for nothing that is done.
-#[derive(Debug, Drop)]
+#[derive(Debug, Drop, Error)]
 pub enum WordsFault {
     /// The text says what is wrong with them, or is the help that they ask for.
+    #[error("{0}")]
     Refused(String),
+    #[error("out of memory")]
     OutOfMemory,
 }
 

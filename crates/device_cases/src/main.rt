@@ -9,7 +9,9 @@
 // `QUESTION -> ANSWER`: in `device` what a new device of these texts is asked or does, one line after the other; in
 // `bays` a part of the bay file that is replaced and what by, `OLD|NEW`, and what becomes of that file; in `many` how many
 // switches, inputs and meters a bay file has, and its last line; in `trees` the names of rows; in `images` the octets of an
-// image for the bay, in hexadecimal digits; in `jobs` the words of a command line; in `messages` a fault; in `endings` the
+// image for the bay, in hexadecimal digits; in `controls` what controls are asked (`controls` says how; a line may be a note behind
+// `#`, or `bay` with the control of each switch, whose controls are asked from then on: `status`, `direct/TRAVEL`, `sbo/TIMEOUT/TRAVEL`
+// or `sbo-enhanced/TIMEOUT/TRAVEL`, with milliseconds); in `jobs` the words of a command line; in `messages` a fault; in `endings` the
 // answer of a replay.
 //
 // The sections behind `== note examples` are those of examples/, as `tools/examples_stdin` makes them of the examples' files.
@@ -17,6 +19,7 @@
 
 mod bay;
 mod commands;
+mod controls;
 mod device;
 mod files;
 mod messages;
@@ -28,7 +31,8 @@ use anyhow::{Context, Result, bail};
 use bay::check_bay;
 use bay_device::device::Device;
 use cases::told::Told;
-use cases::words::first_word;
+use cases::words::{first_word, is_case};
+use controls::Session;
 use names::check_names;
 use scenario::{Texts, check_octets, check_report, device_of};
 use std::alloc::Global;
@@ -101,6 +105,17 @@ fn tell_device(alloc: Global, told: &mut Told, texts: &Texts, body: &str) -> Res
     tell_steps(alloc, told, &mut device, body)
 }
 
+/// The lines of what controls are asked.
+fn tell_controls(alloc: Global, told: &mut Told, body: &str) -> Result<()> {
+    let mut session = Session::new(alloc, "status")?;
+    for line in body.lines() {
+        if is_case(line) {
+            told.tell(line, session.agrees(alloc, line))?;
+        }
+    }
+    Ok(())
+}
+
 /// The case that a whole section is.
 fn check_whole(alloc: Global, texts: &Texts, head: &str, body: &str) -> Result<()> {
     let (kind, rest) = first_word(head);
@@ -124,6 +139,7 @@ fn tell_section(
     match kind {
         "note" => Ok(()),
         "device" => tell_device(alloc, told, texts, body),
+        "controls" => tell_controls(alloc, told, body),
         "fields" | "nodes" | "points" | "rows" | "names" | "report" => {
             let outcome = outcome_of(check_whole(alloc, texts, head, body));
             told.tell(head, outcome)

@@ -3,13 +3,14 @@ use Rattle.std.proofs.lemmas.List.{length-map}
 use Rattle.bay_config.specs.declared.bay.Point.{Point}
 use Rattle.il_image.specs.Images.{Each}
 use Rattle.il_scan.specs.Scans.{Held, read_only, type_of_point}
-use Rattle.bay_device.specs.Layout.{Layout, bound_from, layout_of, meters_of, switches_of}
-use Rattle.bay_device.specs.Load.{sources_of}
-use Rattle.bay_device.specs.Meaning.{type_of_source}
-use Rattle.bay_device.proofs.LoadLemmas.{are-bound, bound-switches, loaded-view}
-use Rattle.bay_device.proofs.NodeLemmas.{has-switches, have-meters}
-use Rattle.bay_device.proofs.SourceLemmas.{IsTyped, bay-typed, points-fit, reads-typed}
-use Rattle.bay_device.proofs.ToldLemmas.{none-told}
+use Rattle.bay_process.specs.Layout.{Layout, bound_from, layout_of, meters_of, switches_of}
+use Rattle.bay_process.specs.Sources.{sources_of}
+use Rattle.bay_process.specs.Sources.{type_of_source}
+use Rattle.bay_process.proofs.BoundLemmas.{are-bound, bound-switches}
+use Rattle.bay_device.proofs.LoadLemmas.{loaded-view}
+use Rattle.bay_process.proofs.NodeLemmas.{has-switches, have-meters}
+use Rattle.bay_process.proofs.SourceLemmas.{IsTyped, bay-typed, points-fit, reads-typed}
+use Rattle.bay_process.proofs.ToldLemmas.{none-told}
 use Rattle.bay_device.proofs.load.state_of.Goals as goal
 
 pub bound_rows-requires-clause-switches_there : goal.bound_rows-requires-clause-switches_there

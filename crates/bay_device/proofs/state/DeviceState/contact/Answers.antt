@@ -1,13 +1,14 @@
 use Rattle.std.proofs.Common.{◌≡◌, Some, ap, sym, ◌∙◌, slice_get, option_map}
 use Rattle.std.proofs.lemmas.Option.{slice_get-map}
-use Rattle.bay_device.specs.Device.{contact_outcome, rows_after_contact}
-use Rattle.bay_device.specs.Layout.{layout_of, switch_in, switches_of}
-use Rattle.bay_device.specs.Names.{switch_names}
+use Rattle.bay_device.specs.Device.{contact_outcome}
+use Rattle.bay_process.specs.Values.{rows_after_contact}
+use Rattle.bay_process.specs.Layout.{layout_of, switch_in, switches_of}
+use Rattle.bay_process.specs.Names.{switch_names}
 use Rattle.bay_device.specs.StateView.{state_view}
-use Rattle.bay_device.specs.declared.switch.BoundSwitch.{BoundSwitch}
-use Rattle.bay_device.proofs.ContactLemmas.{contact-done}
-use Rattle.bay_device.proofs.ListLemmas.{got-some}
-use Rattle.bay_device.proofs.ToldLemmas.{told-kept, keeps-contact}
+use Rattle.bay_process.specs.declared.switch.BoundSwitch.{BoundSwitch}
+use Rattle.bay_device.proofs.StepLemmas.{contact-done}
+use Rattle.bay_process.proofs.ListLemmas.{got-some}
+use Rattle.bay_process.proofs.ToldLemmas.{told-kept, keeps-contact}
 use Rattle.bay_device.proofs.state.DeviceState.contact.Goals as goal
 
 pub take_position-changed-requires : goal.take_position-changed-requires

@@ -2,14 +2,14 @@ use Rattle.std.proofs.Common.{◌≡◌, ◌<◌, Bool, true, cond, nat_lt, Opti
 use Rattle.std.proofs.lemmas.Bool.Decides.{nat_tests}
 use Rattle.std.proofs.lemmas.Option.{slice_get-map, slice_get_within}
 use Rattle.bay_tree.specs.Rows.{leaf_of}
-use Rattle.bay_device.specs.Device.{is_truth}
+use Rattle.bay_process.specs.Values.{is_truth}
 use Rattle.bay_device.specs.LookUps.{enabled_of, may_open, may_close}
-use Rattle.bay_device.specs.Names.{SwitchNames}
+use Rattle.bay_process.specs.Names.{SwitchNames}
 use Rattle.bay_device.specs.StateView.{state_view}
-use Rattle.bay_device.specs.Layout.{switches_of}
+use Rattle.bay_process.specs.Layout.{switches_of}
 use Rattle.bay_device.specs.declared.state.DeviceState.{DeviceState}
-use Rattle.bay_device.specs.declared.switch.BoundSwitch.{BoundSwitch}
-use Rattle.bay_device.proofs.ListLemmas.{got-some}
+use Rattle.bay_process.specs.declared.switch.BoundSwitch.{BoundSwitch}
+use Rattle.bay_process.proofs.ListLemmas.{got-some}
 use Rattle.bay_device.proofs.state.DeviceState.ena.Goals as goal
 
 pub enabled_at-enabled-requires : goal.enabled_at-enabled-requires

@@ -1,14 +1,16 @@
 use Rattle.std.proofs.Common.{◌≡◌, Some, ap, sym, ◌∙◌, slice_get, option_map}
 use Rattle.std.proofs.lemmas.Int.{to_z-of_z}
 use Rattle.std.proofs.lemmas.Option.{slice_get-map}
-use Rattle.bay_device.specs.Device.{measure_outcome, rows_after_measure}
-use Rattle.bay_device.specs.Layout.{layout_of, status_in, meters_of}
-use Rattle.bay_device.specs.Names.{field_names, meter_names}
+use Rattle.bay_device.specs.Device.{measure_outcome}
+use Rattle.bay_process.specs.Values.{rows_after_measure}
+use Rattle.bay_process.specs.Layout.{layout_of, status_in, meters_of}
+use Rattle.bay_process.specs.Names.{field_names, meter_names}
 use Rattle.bay_device.specs.StateView.{state_view}
-use Rattle.bay_device.specs.declared.meter.BoundMeter.{BoundMeter}
-use Rattle.bay_device.proofs.ContactLemmas.{measure-done, field-kinded, field-named}
-use Rattle.bay_device.proofs.ListLemmas.{got-some}
-use Rattle.bay_device.proofs.ToldLemmas.{told-kept, keeps-measure, field-away}
+use Rattle.bay_process.specs.declared.meter.BoundMeter.{BoundMeter}
+use Rattle.bay_process.proofs.FieldLemmas.{field-kinded, field-named}
+use Rattle.bay_device.proofs.StepLemmas.{measure-done}
+use Rattle.bay_process.proofs.ListLemmas.{got-some}
+use Rattle.bay_process.proofs.ToldLemmas.{told-kept, keeps-measure, field-away}
 use Rattle.bay_device.proofs.state.DeviceState.measure.Goals as goal
 
 pub take_measure-changed-requires : goal.take_measure-changed-requires

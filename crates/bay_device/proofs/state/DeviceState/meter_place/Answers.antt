@@ -1,7 +1,7 @@
 use Rattle.std.proofs.Common.{◌∙◌}
 use Rattle.bay_base.specs.Names.{same_name}
-use Rattle.bay_device.specs.declared.meter.BoundMeter.{BoundMeter}
-use Rattle.bay_device.proofs.ListLemmas.{position_mapped}
+use Rattle.bay_process.specs.declared.meter.BoundMeter.{BoundMeter}
+use Rattle.bay_process.proofs.ListLemmas.{position_mapped}
 use Rattle.bay_device.proofs.state.DeviceState.meter_place.Goals as goal
 
 pub returns : goal.returns

@@ -2,8 +2,8 @@ use Rattle.std.proofs.Common.{length, map, ap, sym, ◌∙◌}
 use Rattle.il_image.specs.Images.{Image}
 use Rattle.il_scan.specs.Scans.{outputs_of, read_only, type_of_point}
 use Rattle.bay_device.specs.Device.{Ran}
-use Rattle.bay_device.specs.Layout.{layout_of}
-use Rattle.bay_device.specs.Meaning.{type_of_source}
+use Rattle.bay_process.specs.Layout.{layout_of}
+use Rattle.bay_process.specs.Sources.{type_of_source}
 use Rattle.bay_device.proofs.ScanLemmas.{halted, inputs-named, interlocked, kinded, meters-kinded, ran, scan-done}
 use Rattle.bay_device.proofs.state.DeviceState.scan.Goals as goal
 

@@ -1,8 +1,8 @@
 use Rattle.std.proofs.Common.{◌∙◌}
 use Rattle.bay_nodes.specs.declared.switch.Switch.{Switch}
 use Rattle.bay_base.specs.Names.{same_name}
-use Rattle.bay_device.specs.declared.switch.BoundSwitch.{BoundSwitch}
-use Rattle.bay_device.proofs.ListLemmas.{position_mapped}
+use Rattle.bay_process.specs.declared.switch.BoundSwitch.{BoundSwitch}
+use Rattle.bay_process.proofs.ListLemmas.{position_mapped}
 use Rattle.bay_device.proofs.state.DeviceState.switch.Goals as goal
 
 pub returns : goal.returns

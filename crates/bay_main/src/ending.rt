@@ -1,0 +1,55 @@
+// How a command ends.
+ghost use Rattle.std.specs.Prelude.{◌≡◌};
+ghost use Rattle.bay_main.specs.Commands.{Ends};
+ghost use Rattle.bay_main.specs.Ending.{complaint_of, status_of};
+
+use crate::output::FAULT;
+use bay_io::outbox::WriteFault;
+
+/// The status of words that ask for nothing that is done.
+const WORDS: u8 = 2;
+
+/// How a command ends.
+#[derive(Debug, Drop)]
+pub enum Ended {
+    /// With this exit status.
+    Status(u8),
+    /// A write failed, of what is printed or of a file.
+    WriteFailed,
+    /// The words ask for nothing that is done; the text says why, or is the help that they ask for.
+    Refused(String),
+}
+
+impl Ended {
+    /// How a command ends by what it answers.
+    pub fn of(answer: Result<u8, WriteFault>) -> Ended
+        ensures { Ends answer result }
+    {
+        match answer {
+            Ok(status) => Ended::Status(status),
+            Err(WriteFault) => Ended::WriteFailed,
+        }
+    }
+
+    /// The exit status: for a failed write 3, for refused words 2.
+    pub fn status(&self) -> u8
+        ensures { result ≡ status_of self.now }
+    {
+        match self {
+            Ended::Status(status) => *status,
+            Ended::WriteFailed => FAULT,
+            Ended::Refused(_) => WORDS,
+        }
+    }
+
+    /// What is written to standard error: `fault 122` for a failed write, the text of refused words, and else nothing.
+    pub fn complaint(&self) -> &str
+        ensures { result.now ≡ complaint_of self.now }
+    {
+        match self {
+            Ended::Status(_) => "",
+            Ended::WriteFailed => "fault 122\n",
+            Ended::Refused(text) => text.as_str(),
+        }
+    }
+}

@@ -1,0 +1,6 @@
+pub mod BoundLemmas
+pub mod FieldLemmas
+pub mod ListLemmas
+pub mod NodeLemmas
+pub mod SourceLemmas
+pub mod ToldLemmas

@@ -1,0 +1,24 @@
+use Rattle.bay_process.specs.Nodes.{nodes_names}
+use Rattle.bay_process.proofs.NodeLemmas.{are-there, found-switch}
+use Rattle.bay_process.proofs.nodes.switch_rows.Goals as goal
+
+pub status_rows-requires : goal.status_rows-requires
+status_rows-requires c = rw c.as_str-node.ensures (are-there _ _ _ c.requires.position)
+
+pub status_rows-requires-2 : goal.status_rows-requires-2
+status_rows-requires-2 c = rw c.as_str-control.ensures (are-there _ _ _ c.requires.control)
+
+pub status_rows-requires-3 : goal.status_rows-requires-3
+status_rows-requires-3 c = rw c.as_str-node.ensures (are-there _ _ _ c.requires.operations)
+
+pub status_rows-requires-4 : goal.status_rows-requires-4
+status_rows-requires-4 c = rw c.as_str-interlocking.ensures (are-there _ _ _ c.requires.ena_opn)
+
+pub status_rows-requires-5 : goal.status_rows-requires-5
+status_rows-requires-5 c = rw c.as_str-interlocking.ensures (are-there _ _ _ c.requires.ena_cls)
+
+pub returns : goal.returns
+returns c =
+    found-switch c.args.tree.now (nodes_names c.args.nodes.now) _ c.requires
+    (rw c.as_str-node.ensures at c.in_ok-position.ensures) (rw c.as_str-control.ensures at c.in_ok-repeated.ensures) (rw c.as_str-node.ensures at c.in_ok-operations.ensures)
+    (rw c.as_str-interlocking.ensures at c.in_ok-ena_opn.ensures) (rw c.as_str-interlocking.ensures at c.in_ok-ena_cls.ensures)

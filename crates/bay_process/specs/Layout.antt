@@ -1,0 +1,132 @@
+-- Where the values of switches and meters stand in a tree: the names and the kinds of the rows at their handles.
+use Rattle.std.specs.Prelude.{◌≡◌, ℕ, ◌+◌, List, [], ◌∷◌, map, Option, Some, None, All, position, slice_get, slice_index_or}
+use Rattle.bay_tree.specs.Rows.{names_of, kinds_of}
+use Rattle.bay_tree.specs.declared.row.Row.{Row}
+use Rattle.bay_tree.specs.declared.leaf.Kind.{Kind}
+use Rattle.bay_tree.specs.declared.leaf.Kind.TheVariants as kind
+use Rattle.bay_nodes.specs.declared.switch.Switch.{Switch}
+use Rattle.bay_process.specs.Names.{StatusNames, SwitchNames, switch_names, MeterNames, meter_names}
+use Rattle.bay_process.specs.declared.switch.SwitchOutputs.{SwitchOutputs}
+use Rattle.bay_config.specs.declared.bay.SwitchPoint.TheVariants.{EnableOpen, EnableClose}
+use Rattle.bay_process.specs.Values.{is_point}
+use Rattle.bay_config.specs.declared.bay.Source.{Source}
+use Rattle.bay_config.specs.declared.bay.MeterField.{MeterField}
+use Rattle.bay_config.specs.declared.bay.MeterField.TheVariants.{TotW, TotVAr, Hz, PhaseA, PhaseB, PhaseC}
+use Rattle.bay_process.specs.declared.meter.BoundMeter.{BoundMeter}
+use Rattle.bay_process.specs.declared.meter.MeterRows.{MeterRows}
+use Rattle.bay_process.specs.declared.rows.StatusRows.{StatusRows}
+use Rattle.bay_process.specs.declared.rows.SwitchRows.{SwitchRows}
+use Rattle.bay_process.specs.declared.switch.BoundSwitch.{BoundSwitch}
+
+-- the names and the kinds of a tree's rows, which no new value changes
+pub record Layout : Type 0 where
+  pub names : List (List ℕ)
+  pub kinds : List (Option Kind)
+
+abbrev pub layout_of : List Row → Layout
+layout_of rows = record { names = names_of rows; kinds = kinds_of rows }
+
+-- the name of the row at a handle
+abbrev pub name_in : Layout → ℕ → List ℕ
+name_in layout handle = slice_index_or layout.names handle []
+
+abbrev pub status_in : Layout → StatusRows → StatusNames
+status_in layout rows = record { value = name_in layout rows.value; quality = name_in layout rows.quality; time = name_in layout rows.time }
+
+abbrev pub switch_in : Layout → SwitchRows → SwitchNames
+switch_in layout rows = record {
+  position = status_in layout rows.position;
+  control = status_in layout rows.control;
+  operations = status_in layout rows.operations;
+  ena_opn = status_in layout rows.ena_opn;
+  ena_cls = status_in layout rows.ena_cls;
+}
+
+-- a value of this kind stands at the handle
+abbrev pub HasKind : Layout → ℕ → Kind → Type 0
+HasKind layout handle kind = slice_index_or layout.kinds handle None ≡ Some kind
+
+-- a value of this kind, with its quality and its moment
+pub record AreStatusRows (layout : Layout) (value : Kind) (rows : StatusRows) : Type 0 where
+  pub value_kind : HasKind layout rows.value value
+  pub quality_kind : HasKind layout rows.quality kind.Quality
+  pub time_kind : HasKind layout rows.time kind.Utc
+
+-- a switch's position, twice, how often it moved, and its two interlocking values
+pub record AreSwitchRows (layout : Layout) (rows : SwitchRows) : Type 0 where
+  pub position : AreStatusRows layout kind.Dbpos rows.position
+  pub control : AreStatusRows layout kind.Dbpos rows.control
+  pub operations : AreStatusRows layout kind.Int32 rows.operations
+  pub ena_opn : AreStatusRows layout kind.Truth rows.ena_opn
+  pub ena_cls : AreStatusRows layout kind.Truth rows.ena_cls
+
+-- those of each switch
+abbrev pub AreKinded : Layout → List BoundSwitch → Type 0
+AreKinded layout bound = All (λ b. AreSwitchRows layout b.rows) bound
+
+-- the bay's switches, in their order
+abbrev pub switches_of : List BoundSwitch → List Switch
+switches_of bound = map (λ b. b.switch) bound
+
+-- among the points that may be written, the places of the interlocking values of the switch at a place
+abbrev pub outputs_at : List Source → ℕ → SwitchOutputs
+outputs_at writes k = record { ena_opn = position (is_point k EnableOpen) writes; ena_cls = position (is_point k EnableClose) writes }
+
+-- the handles of the switch at a place have its names, and its outputs are those of its points
+pub record IsBound (layout : Layout) (writes : List Source) (switches : List Switch) (k : ℕ) (bound : BoundSwitch) : Type 0 where
+  pub named : switch_in layout bound.rows ≡ switch_names switches k bound.switch
+  pub kinded : AreSwitchRows layout bound.rows
+  pub outputs : bound.outputs ≡ outputs_at writes k
+
+abbrev pub AreBound : Layout → List Source → List BoundSwitch → Type 0
+AreBound layout writes bound = (k : ℕ) (b : BoundSwitch) → slice_get bound k ≡ Some b → IsBound layout writes (switches_of bound) k b
+
+-- the switches with their rows, from place k on, and the places of their interlocking values
+abbrev pub bound_from : List Source → ℕ → List Switch → List SwitchRows → List BoundSwitch
+bound_from writes k [] rows = []
+bound_from writes k (s ∷ ss) [] = []
+bound_from writes k (s ∷ ss) (r ∷ rs) = record { switch = s; rows = r; outputs = outputs_at writes k } ∷ bound_from writes (k + 1) ss rs
+
+abbrev pub meter_in : Layout → MeterRows → MeterNames
+meter_in layout rows = record {
+  tot_w = status_in layout rows.tot_w;
+  tot_var = status_in layout rows.tot_var;
+  hz = status_in layout rows.hz;
+  phase_a = status_in layout rows.phase_a;
+  phase_b = status_in layout rows.phase_b;
+  phase_c = status_in layout rows.phase_c;
+}
+
+-- where the value of a field stands
+abbrev pub field_rows : MeterRows → MeterField → StatusRows
+field_rows rows TotW = rows.tot_w
+field_rows rows TotVAr = rows.tot_var
+field_rows rows Hz = rows.hz
+field_rows rows PhaseA = rows.phase_a
+field_rows rows PhaseB = rows.phase_b
+field_rows rows PhaseC = rows.phase_c
+
+-- the measured values of a meter
+pub record AreMeterRows (layout : Layout) (rows : MeterRows) : Type 0 where
+  pub tot_w : AreStatusRows layout kind.Int32 rows.tot_w
+  pub tot_var : AreStatusRows layout kind.Int32 rows.tot_var
+  pub hz : AreStatusRows layout kind.Int32 rows.hz
+  pub phase_a : AreStatusRows layout kind.Int32 rows.phase_a
+  pub phase_b : AreStatusRows layout kind.Int32 rows.phase_b
+  pub phase_c : AreStatusRows layout kind.Int32 rows.phase_c
+
+-- those of each meter
+abbrev pub AreMeterKinded : Layout → List BoundMeter → Type 0
+AreMeterKinded layout bound = All (λ m. AreMeterRows layout m.rows) bound
+
+-- the bay's meters, in their order
+abbrev pub meters_of : List BoundMeter → List (List ℕ)
+meters_of bound = map (λ m. m.id) bound
+
+-- the handles of the meter at a place have its names
+pub record IsMeterBound (layout : Layout) (k : ℕ) (rows : MeterRows) : Type 0 where
+  pub named : meter_in layout rows ≡ meter_names k
+  pub kinded : AreMeterRows layout rows
+
+abbrev pub AreMetersBound : Layout → List BoundMeter → Type 0
+AreMetersBound layout bound = (k : ℕ) (m : BoundMeter) → slice_get bound k ≡ Some m → IsMeterBound layout k m.rows

@@ -1,0 +1,37 @@
+-- The parts that the state of a device is made of.
+use Rattle.std.specs.Prelude.{◌≡◌, true, false, ℕ, List, length, map, None}
+use Rattle.bay_config.specs.declared.bay.Source.{Source}
+use Rattle.bay_config.specs.declared.bay.Point.{Point}
+use Rattle.bay_nodes.specs.declared.switch.Switch.{Switch}
+use Rattle.bay_tree.specs.declared.row.Row.{Row}
+use Rattle.il_image.specs.Images.{Image}
+use Rattle.il_scan.specs.Scans.{held_first}
+use Rattle.bay_process.specs.Layout.{Layout, layout_of, bound_from, meters_of, AreMetersBound}
+use Rattle.bay_process.specs.Sources.{sources_of}
+use Rattle.bay_process.specs.Nodes.{AreAllRows}
+use Rattle.bay_process.specs.declared.nodes.Nodes.{Nodes}
+use Rattle.bay_process.specs.declared.parts.BoundRows.{BoundRows}
+use Rattle.bay_process.specs.declared.parts.WiredMachine.{WiredMachine}
+use Rattle.bay_process.specs.declared.rows.SwitchRows.{SwitchRows}
+use Rattle.bay_process.specs.declared.switch.BoundSwitch.{BoundSwitch}
+
+-- a machine with an image before its first scan, what the image's points stand for among the bay's
+pub record IsWired (bay : List Point) (image : Image) (wired : WiredMachine) : Type 0 where
+  pub machine : wired.machine ≡ held_first image
+  pub reads : wired.reads.items ≡ sources_of false bay image.points
+  pub writes : wired.writes.items ≡ sources_of true bay image.points
+
+-- the switches, each with rows that its nodes name, and the places of their interlocking values
+pub record AreBoundSwitches (layout : Layout) (writes : List Source) (switches : List Switch) (nodes : List Nodes) (bound : List BoundSwitch) : Type 0 where
+  pub rows : List SwitchRows
+  pub sized : length rows ≡ length nodes
+  pub named : AreAllRows layout nodes rows
+  pub is : bound ≡ bound_from writes 0 switches rows
+
+-- a tree of these rows, and the switches and the meters with the rows that their nodes name
+pub record AreBoundRows (rows : List Row) (switches : List Switch) (meters : List (List ℕ)) (nodes : List Nodes) (writes : List Source) (bound : BoundRows) : Type 0 where
+  pub tree : bound.tree ≡ rows
+  pub of_switches : AreBoundSwitches (layout_of bound.tree) writes switches nodes bound.switches.items
+  pub ids : meters_of bound.meters.items ≡ meters
+  pub of_meters : AreMetersBound (layout_of bound.tree) bound.meters.items
+  pub told : bound.told ≡ map (λ _. None) bound.switches.items

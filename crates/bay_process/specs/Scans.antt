@@ -1,0 +1,41 @@
+-- What a scan reads and writes, where switches and meters stand in the tree.
+use Rattle.std.specs.Prelude.{ℕ, Bool, false, List, [], ◌∷◌, slice_get, unwrap_or, Option, Some, None}
+use Rattle.bay_tree.specs.Rows.{leaf_of}
+use Rattle.bay_tree.specs.declared.leaf.Leaf.{Leaf}
+use Rattle.bay_tree.specs.declared.row.Row.{Row}
+use Rattle.bay_config.specs.declared.bay.MeterField.{MeterField}
+use Rattle.bay_config.specs.declared.bay.Source.{Source}
+use Rattle.bay_config.specs.declared.bay.Source.TheVariants as source
+use Rattle.bay_config.specs.declared.bay.SwitchPoint.{SwitchPoint}
+use Rattle.il_image.specs.declared.value.Value.{Value}
+use Rattle.il_image.specs.declared.value.Value.TheVariants.{Truth, Long}
+use Rattle.il_scan.specs.Places.{is_true}
+use Rattle.bay_process.specs.Values.{number_of_leaf, output_at, position_value, with_output}
+use Rattle.bay_process.specs.Layout.{Layout, field_rows, layout_of, name_in, switch_in}
+use Rattle.bay_process.specs.declared.meter.BoundMeter.{BoundMeter}
+use Rattle.bay_process.specs.declared.switch.BoundSwitch.{BoundSwitch}
+
+-- the value at a handle
+abbrev pub leaf_at : List Row → ℕ → Option Leaf
+leaf_at rows handle = leaf_of (name_in (layout_of rows) handle) rows
+
+abbrev pub switch_value : List Row → SwitchPoint → Option BoundSwitch → Value
+switch_value rows point None = position_value point None
+switch_value rows point (Some b) = position_value point (leaf_at rows b.rows.position.value)
+
+abbrev pub meter_value : List Row → MeterField → Option BoundMeter → Value
+meter_value rows field None = Long (number_of_leaf None)
+meter_value rows field (Some m) = Long (number_of_leaf (leaf_at rows (field_rows m.rows field).value))
+
+-- what the contacts, the inputs and the measures give a point
+abbrev pub bound_value : List Row → List BoundSwitch → List Bool → List BoundMeter → Source → Value
+bound_value rows switches inputs meters (source.Switch k point) = switch_value rows point (slice_get switches k)
+bound_value rows switches inputs meters (source.Input k) = Truth (unwrap_or (slice_get inputs k) false)
+bound_value rows switches inputs meters (source.Meter k field) = meter_value rows field (slice_get meters k)
+
+-- the interlocking values of the switches take their points' values
+abbrev pub outputs_put : Layout → List BoundSwitch → List Value → ℕ → List Row → List Row
+outputs_put layout [] outputs now rows = rows
+outputs_put layout (b ∷ bs) outputs now rows =
+    outputs_put layout bs outputs now
+    (with_output (switch_in layout b.rows) (is_true (output_at b.outputs.ena_opn outputs)) (is_true (output_at b.outputs.ena_cls outputs)) now rows)

@@ -1,0 +1,179 @@
+-- What contacts, inputs, measures and a scan's outputs make of the rows of a tree (IEC 61850-7-4: XCBR, XSWI, CSWI, CILO and MMXU;
+-- IEC 61850-7-3: status values and measured values).
+use Rattle.std.specs.Prelude.{ℕ, ℤ, ◌+◌, Bool, true, false, not, ◌&&◌, ◌==◌, pos, ◌+ℤ◌, int_lt, List, [], ◌∷◌, position, slice_get, Option, None, Some, if◌then◌else◌}
+use Rattle.std.specs.Ordering.{int_eq}
+use Rattle.bay_tree.specs.Rows.{leaf_of, with_leaf_of}
+use Rattle.bay_tree.specs.declared.row.Row.{Row}
+use Rattle.bay_tree.specs.declared.leaf.Leaf.{Leaf}
+use Rattle.bay_tree.specs.declared.leaf.Leaf.TheVariants as leaf
+use Rattle.bay_tree.specs.declared.leaf.Dbpos.{Dbpos}
+use Rattle.bay_tree.specs.declared.leaf.Dbpos.TheVariants.{Intermediate, Off, On, Bad}
+use Rattle.bay_tree.specs.declared.leaf.Quality.{Quality}
+use Rattle.bay_tree.specs.declared.leaf.Quality.TheVariants.{Good, Invalid}
+use Rattle.bay_nodes.specs.declared.switch.Switch.{Switch}
+use Rattle.bay_config.specs.declared.bay.MeterField.{MeterField}
+use Rattle.bay_config.specs.declared.bay.Source.{Source}
+use Rattle.bay_config.specs.declared.bay.Source.TheVariants as source
+use Rattle.bay_config.specs.declared.bay.SwitchPoint.{SwitchPoint}
+use Rattle.bay_config.specs.declared.bay.SwitchPoint.TheVariants.{Position, Open, Closed, EnableOpen, EnableClose}
+use Rattle.il_image.specs.declared.value.Value.{Value}
+use Rattle.il_image.specs.declared.value.Value.TheVariants.{Truth, Short}
+use Rattle.il_scan.specs.Places.{is_true}
+use Rattle.bay_process.specs.Names.{StatusNames, SwitchNames, switch_names, meter_names, field_names}
+
+-- a status value, its quality and its moment
+abbrev pub with_status : StatusNames → Leaf → Quality → ℕ → List Row → List Row
+with_status names value quality now rows =
+    with_leaf_of names.time (leaf.Utc now) (with_leaf_of names.quality (leaf.Quality quality) (with_leaf_of names.value value rows))
+
+abbrev pub position_quality : Dbpos → Quality
+position_quality Bad = Invalid
+position_quality Intermediate = Good
+position_quality Off = Good
+position_quality On = Good
+
+abbrev pub is_end_position : Dbpos → Bool
+is_end_position Off = true
+is_end_position On = true
+is_end_position Intermediate = false
+is_end_position Bad = false
+
+-- two positions are one
+abbrev pub same_position : Dbpos → Dbpos → Bool
+same_position Intermediate Intermediate = true
+same_position Off Off = true
+same_position On On = true
+same_position Bad Bad = true
+same_position p q = false
+
+abbrev pub same_quality : Quality → Quality → Bool
+same_quality Good Good = true
+same_quality Invalid Invalid = true
+same_quality p q = false
+
+abbrev pub is_position : Dbpos → Option Leaf → Bool
+is_position p (Some (leaf.Dbpos q)) = same_position p q
+is_position p other = false
+
+abbrev pub is_quality : Quality → Option Leaf → Bool
+is_quality q (Some (leaf.Quality r)) = same_quality q r
+is_quality q other = false
+
+abbrev pub is_truth : Bool → Option Leaf → Bool
+is_truth b (Some (leaf.Truth c)) = if b then c else not c
+is_truth b other = false
+
+-- one operation more, up to the greatest value
+abbrev pub counted : StatusNames → Option Leaf → ℕ → List Row → List Row
+counted names (Some (leaf.Int32 n)) now rows =
+    if int_lt n (pos 2147483647) then with_leaf_of names.time (leaf.Utc now) (with_leaf_of names.value (leaf.Int32 (n +ℤ pos 1)) rows) else rows
+counted names other now rows = rows
+
+-- a contact counts where it moves the switch to an end position
+abbrev pub is_operation : Dbpos → Option Leaf → Bool
+is_operation position before = is_end_position position && not (is_position position before)
+
+-- the count of a switch's operations with one more
+abbrev pub operation_counted : StatusNames → ℕ → List Row → List Row
+operation_counted names now rows = counted names (leaf_of names.value rows) now rows
+
+-- the rows tell this position already
+abbrev pub tells : StatusNames → Dbpos → List Row → Bool
+tells names position rows =
+    is_position position (leaf_of names.value rows) && is_quality (position_quality position) (leaf_of names.quality rows)
+
+-- the rows after a contact that changes the value or the quality of a position, which the control repeats
+abbrev pub rows_after_change : SwitchNames → Dbpos → ℕ → List Row → List Row
+rows_after_change names position now rows =
+    let told = with_status names.position (leaf.Dbpos position) (position_quality position) now rows in
+    let after = with_status names.control (leaf.Dbpos position) (position_quality position) now told in
+    if is_operation position (leaf_of names.position.value rows) then operation_counted names.operations now after else after
+
+-- the rows after a contact: one that leaves value and quality as they are changes nothing
+abbrev pub rows_after_contact : SwitchNames → Dbpos → ℕ → List Row → List Row
+rows_after_contact names position now rows = if tells names.position position rows then rows else rows_after_change names position now rows
+
+abbrev pub same_truth : Bool → Bool → Bool
+same_truth a b = if a then b else not b
+
+abbrev pub is_number : ℤ → Option Leaf → Bool
+is_number n (Some (leaf.Int32 m)) = int_eq n m
+is_number n other = false
+
+-- the rows tell this measured value already, with a good quality
+abbrev pub tells_measure : StatusNames → ℤ → List Row → Bool
+tells_measure names value rows = is_number value (leaf_of names.value rows) && is_quality Good (leaf_of names.quality rows)
+
+-- the rows after a measure: one that leaves value and quality as they are changes nothing
+abbrev pub rows_after_measure : StatusNames → ℤ → ℕ → List Row → List Row
+rows_after_measure names value now rows = if tells_measure names value rows then rows else with_status names (leaf.Int32 value) Good now rows
+
+-- the number of a position: 0 intermediate, 1 off, 2 on, 3 bad
+abbrev pub number_of_position : Option Leaf → ℤ
+number_of_position (Some (leaf.Dbpos Off)) = pos 1
+number_of_position (Some (leaf.Dbpos On)) = pos 2
+number_of_position (Some (leaf.Dbpos Bad)) = pos 3
+number_of_position other = pos 0
+
+-- what the points of a switch say of its position; those that the program writes say nothing
+abbrev pub position_value : SwitchPoint → Option Leaf → Value
+position_value Position position = Short (number_of_position position)
+position_value Open position = Truth (is_position Off position)
+position_value Closed position = Truth (is_position On position)
+position_value EnableOpen position = Truth false
+position_value EnableClose position = Truth false
+
+-- the position of the switch at a place, as the rows have it
+abbrev pub position_leaf : List Switch → List Row → ℕ → Option Switch → Option Leaf
+position_leaf switches rows k None = None
+position_leaf switches rows k (Some switch) = leaf_of (switch_names switches k switch).position.value rows
+
+-- a measured value, in whole units
+abbrev pub number_of_leaf : Option Leaf → ℤ
+number_of_leaf (Some (leaf.Int32 n)) = n
+number_of_leaf other = pos 0
+
+-- the value of a field of the meter at a place, as the rows have it
+abbrev pub measure_leaf : List Row → ℕ → MeterField → Option (List ℕ) → Option Leaf
+measure_leaf rows k field None = None
+measure_leaf rows k field (Some id) = leaf_of (field_names field (meter_names k)).value rows
+
+abbrev pub same_point : SwitchPoint → SwitchPoint → Bool
+same_point Position Position = true
+same_point Open Open = true
+same_point Closed Closed = true
+same_point EnableOpen EnableOpen = true
+same_point EnableClose EnableClose = true
+same_point p q = false
+
+-- this point of the switch at a place
+abbrev pub is_point : ℕ → SwitchPoint → Source → Bool
+is_point k point (source.Switch j which) = j == k && same_point which point
+is_point k point (source.Input j) = false
+is_point k point (source.Meter j field) = false
+
+-- the value at a place, if there is one
+abbrev pub output_at : Option ℕ → List Value → Option Value
+output_at None outputs = None
+output_at (Some n) outputs = slice_get outputs n
+
+-- what the program gave a point of the switch at a place; FALSE where it does not name it
+abbrev pub output_of : ℕ → SwitchPoint → List Source → List Value → Bool
+output_of k point writes outputs = is_true (output_at (position (is_point k point) writes) outputs)
+
+-- an interlocking value and its quality, with the moment where one of them changed
+abbrev pub with_enabled : StatusNames → Bool → ℕ → List Row → List Row
+with_enabled names value now rows =
+    if is_truth value (leaf_of names.value rows) && is_quality Good (leaf_of names.quality rows) then rows
+    else with_status names (leaf.Truth value) Good now rows
+
+-- both interlocking values of a switch: whether it may be opened, and closed
+abbrev pub with_output : SwitchNames → Bool → Bool → ℕ → List Row → List Row
+with_output names opens closes now rows = with_enabled names.ena_cls closes now (with_enabled names.ena_opn opens now rows)
+
+-- the interlocking values of all switches take their points' values, from place k on
+abbrev pub with_outputs : List Switch → List Source → List Value → ℕ → ℕ → List Switch → List Row → List Row
+with_outputs switches writes outputs now k [] rows = rows
+with_outputs switches writes outputs now k (s ∷ ss) rows =
+    with_outputs switches writes outputs now (k + 1) ss
+    (with_output (switch_names switches k s) (output_of k EnableOpen writes outputs) (output_of k EnableClose writes outputs) now rows)

@@ -1,0 +1,133 @@
+// The points of a verified image on those of a bay.
+ghost use Rattle.std.specs.Prelude.{◌≡◌, false, length, map, option_map, position, find, None, IfOk};
+ghost use Rattle.il_verify.specs.Binding.{is_point as is_image_point};
+ghost use Rattle.bay_process.specs.Values.{same_point, is_point};
+ghost use Rattle.bay_process.specs.Layout.{bound_from, outputs_at};
+ghost use Rattle.bay_process.specs.Sources.{source_of, sources_of};
+
+use crate::rows::SwitchRows;
+use crate::switch::{BoundSwitch, SwitchOutputs};
+use crate::values::{ToldValues, Truths};
+use bay_base::text::Text;
+use bay_config::bay::{Point, Source, Switch, SwitchPoint};
+use il_image::image::ImagePoint;
+use std::alloc::{AllocError, Global};
+
+/// Whether an image's point is this point of the bay.
+fn is_same(point: &ImagePoint, other: &Point) -> bool
+    ensures { result ≡ is_image_point point.now other.now }
+{
+    point.name.as_str() == other.name.as_str()
+        && point.elementary == other.kind
+        && point.writable == other.writable
+}
+
+/// What an image's point stands for in the bay, if it is one of the bay's.
+fn source_of(bay: &[Point], point: &ImagePoint) -> Option<Source>
+    ensures { result ≡ source_of bay.now point.now }
+{
+    let found = bay.iter().find(|other| is_same(point, other))?;
+    Some(found.source)
+}
+
+/// What those of an image's points stand for that may be written, or those that may not, in their order.
+pub fn sources_of(
+    alloc: Global,
+    writable: bool,
+    bay: &[Point],
+    points: &[ImagePoint],
+) -> Result<Vec<Source>, AllocError>
+    ensures { IfOk result (λ sources. sources.items ≡ sources_of writable bay.now points.now) }
+{
+    let mut sources = Vec::new(alloc);
+    for point in points {
+        if point.writable == writable {
+            if let Some(source) = source_of(bay, point) {
+                sources.push(source)?;
+            }
+        }
+    }
+    Ok(sources)
+}
+
+fn same_point(first: SwitchPoint, second: SwitchPoint) -> bool
+    ensures { result ≡ same_point first second }
+{
+    first == second
+}
+
+/// Whether this is a point of the switch at a place.
+fn is_point(source: Source, switch: usize, point: SwitchPoint) -> bool
+    ensures { result ≡ is_point switch point source }
+{
+    match source {
+        Source::Switch {
+            switch: at,
+            point: which,
+        } => at == switch && same_point(which, point),
+        Source::Input { .. } | Source::Meter { .. } => false,
+    }
+}
+
+/// The place of a point of the switch at a place, if it is among these.
+fn output_place(writes: &[Source], switch: usize, point: SwitchPoint) -> Option<usize>
+    ensures { result ≡ position (is_point switch point) writes.now }
+{
+    writes
+        .iter()
+        .position(|source| is_point(*source, switch, point))
+}
+
+/// The places of the interlocking values of the switch at a place, among the points that may be written.
+fn outputs_at(writes: &[Source], switch: usize) -> SwitchOutputs
+    ensures { result ≡ outputs_at writes.now switch }
+{
+    SwitchOutputs {
+        ena_opn: output_place(writes, switch, SwitchPoint::EnableOpen),
+        ena_cls: output_place(writes, switch, SwitchPoint::EnableClose),
+    }
+}
+
+/// The switches of a bay with their rows, and the places of their interlocking values.
+pub fn bind_switches(
+    alloc: Global,
+    switches: Vec<Switch>,
+    rows: &[SwitchRows],
+    writes: &[Source],
+) -> Result<Vec<BoundSwitch>, AllocError>
+    requires { length rows.now ≡ length switches.items }
+    ensures { IfOk result (λ bound. bound.items ≡ bound_from writes.now 0 switches.items rows.now) }
+{
+    let mut bound = Vec::new(alloc);
+    for switch in switches {
+        let k = bound.len();
+        bound.push(BoundSwitch {
+            switch,
+            rows: rows[k],
+            outputs: outputs_at(writes, k),
+        })?;
+    }
+    Ok(bound)
+}
+
+/// The value FALSE for each input.
+pub fn falses(alloc: Global, inputs: &[Text]) -> Result<Truths, AllocError>
+    ensures { IfOk result (λ values. values ≡ map (λ _. false) inputs.now) }
+{
+    let mut values = Vec::new(alloc);
+    for _input in inputs {
+        values.push(false)?;
+    }
+    Ok(Truths::new(values))
+}
+
+/// That no interlocking value was written yet, for each switch.
+pub fn nothing_told(alloc: Global, switches: &[BoundSwitch]) -> Result<ToldValues, AllocError>
+    ensures { IfOk result (λ told. told ≡ map (λ _. None) switches.now) }
+{
+    let mut values = Vec::new(alloc);
+    for _switch in switches {
+        values.push(None)?;
+    }
+    Ok(ToldValues::new(values))
+}

@@ -1,0 +1,78 @@
+// The measured values of a meter (IEC 61850-7-4, MMXU; IEC 61850-7-3, MV and CMV).
+ghost use Rattle.std.specs.Prelude.{◌≡◌, not};
+ghost use Rattle.std.specs.Ordering.{int_eq};
+ghost use Rattle.bay_tree.specs.declared.leaf.Kind.TheVariants as kind;
+ghost use Rattle.bay_tree.specs.Rows.{leaf_of};
+ghost use Rattle.bay_process.specs.Values.{is_number, tells_measure, rows_after_measure};
+ghost use Rattle.bay_process.specs.Layout.{layout_of, name_in, status_in, field_rows, HasKind, AreStatusRows};
+
+use crate::rows::{StatusRows, count_at, is_quality, put_status};
+use bay_base::text::Text;
+use bay_config::bay::MeterField;
+use bay_tree::leaf::{Leaf, Quality};
+use bay_tree::tree::{Handle, Tree};
+
+/// Where the measured values of a meter stand.
+#[derive(Clone, Copy, Debug)]
+pub struct MeterRows {
+    pub tot_w: StatusRows,
+    pub tot_var: StatusRows,
+    pub hz: StatusRows,
+    pub phase_a: StatusRows,
+    pub phase_b: StatusRows,
+    pub phase_c: StatusRows,
+}
+
+/// A meter of the bay, and where its values stand in the tree.
+#[derive(Drop)]
+pub struct BoundMeter {
+    /// Its id as the bay file spells it.
+    pub id: Text,
+    pub rows: MeterRows,
+}
+
+impl MeterRows {
+    /// Where the value of a field stands.
+    pub fn field(self, field: MeterField) -> StatusRows
+        ensures { result ≡ field_rows self field }
+    {
+        match field {
+            MeterField::TotW => self.tot_w,
+            MeterField::TotVAr => self.tot_var,
+            MeterField::Hz => self.hz,
+            MeterField::PhaseA => self.phase_a,
+            MeterField::PhaseB => self.phase_b,
+            MeterField::PhaseC => self.phase_c,
+        }
+    }
+}
+
+fn same_number(first: i32, second: i32) -> bool
+    ensures { result ≡ int_eq first second }
+{
+    first == second
+}
+
+/// Whether a number stands there.
+fn is_number(tree: &Tree, handle: Handle, number: i32) -> bool
+    requires { HasKind (layout_of tree.now) handle kind.Int32 }
+    ensures { result ≡ is_number number (leaf_of (name_in (layout_of tree.now) handle) tree.now) }
+{
+    same_number(number, count_at(tree, handle))
+}
+
+/// Takes a measured value, and answers whether that changed it or its quality.
+pub fn take_measure(tree: &mut Tree, rows: StatusRows, value: i32, now: u64) -> bool
+    requires { AreStatusRows (layout_of tree.old) kind.Int32 rows }
+    ensures changed { result ≡ not (tells_measure (status_in (layout_of tree.old) rows) value tree.old) }
+    ensures rows { tree.new ≡ rows_after_measure (status_in (layout_of tree.old) rows) value now tree.old }
+    ensures layout { layout_of tree.new ≡ layout_of tree.old }
+{
+    let is_same = is_number(tree, rows.value, value);
+    let is_good = is_quality(tree, rows.quality, Quality::Good);
+    if is_same && is_good {
+        return false;
+    }
+    put_status(tree, rows, Leaf::Int32(value), Quality::Good, now);
+    true
+}

@@ -1,0 +1,126 @@
+// Where the values of a bay's switches stand in its tree.
+ghost use Rattle.std.specs.Prelude.{◌≡◌, ◌≢◌, ◌<◌, length, None, IfOk};
+ghost use Rattle.bay_tree.specs.Rows.{leaf_of};
+ghost use Rattle.bay_process.specs.Layout.{layout_of};
+ghost use Rattle.bay_process.specs.Names.{status_names};
+ghost use Rattle.bay_process.specs.Nodes.{AreNodesOf, AreAllNodes, nodes_names, HasSwitch, HasSwitches, AreThere, IsFound, AreFound, AreRowsOf, AreAllRows};
+
+use crate::rows::{StatusRows, SwitchRows};
+use bay_base::text::Text;
+use bay_config::bay::Bay;
+use bay_config::nodes::{control_name, interlocking_name, node_name};
+use bay_tree::tree::{Handle, Tree};
+use std::alloc::{AllocError, Global};
+
+/// The names of the logical nodes of a switch (IEC 61850-7-4).
+#[derive(Drop)]
+pub struct Nodes {
+    /// XCBR or XSWI.
+    pub position: Text,
+    /// CSWI.
+    pub control: Text,
+    /// CILO.
+    pub interlocking: Text,
+}
+
+/// The names of the nodes of the switch at a place.
+fn nodes_at(alloc: Global, bay: &Bay, place: usize) -> Result<Nodes, AllocError>
+    requires { place < length bay.now.switches }
+    ensures { IfOk result (AreNodesOf bay.now place) }
+{
+    let position = node_name(alloc, bay, place)?;
+    let control = control_name(alloc, bay, place)?;
+    let interlocking = interlocking_name(alloc, bay, place)?;
+    Ok(Nodes {
+        position,
+        control,
+        interlocking,
+    })
+}
+
+/// The names of the nodes of each switch, in the order of the switches.
+pub fn all_nodes(alloc: Global, bay: &Bay) -> Result<Vec<Nodes>, AllocError>
+    ensures sized { IfOk result (λ nodes. length nodes.items ≡ length bay.now.switches) }
+    ensures named { IfOk result (λ nodes. AreAllNodes bay.now nodes.items) }
+{
+    let mut all = Vec::new(alloc);
+    for place in 0..bay.switches.as_slice().len() {
+        let nodes = nodes_at(alloc, bay, place)?;
+        all.push(nodes)?;
+    }
+    Ok(all)
+}
+
+/// The handle of the row with this name, which has a value.
+pub fn handle_of(tree: &Tree, name: &str) -> Handle
+    requires { leaf_of name.now tree.now ≢ None }
+    ensures { IsFound tree.now name.now result }
+{
+    match tree.find(name) {
+        Ok(handle) => handle,
+        Err(_) => unreachable!(),
+    }
+}
+
+/// The rows of a status value: its value, its quality and its moment.
+fn status_rows(
+    alloc: Global,
+    tree: &Tree,
+    node: &str,
+    object: &str,
+) -> Result<StatusRows, AllocError>
+    requires { AreThere tree.now (status_names node.now object.now) }
+    ensures { IfOk result (AreFound tree.now (status_names node.now object.now)) }
+{
+    let name = format!(in alloc; "{node}{object}$stVal")?;
+    let value = handle_of(tree, name.as_str());
+    let name = format!(in alloc; "{node}{object}$q")?;
+    let quality = handle_of(tree, name.as_str());
+    let name = format!(in alloc; "{node}{object}$t")?;
+    let time = handle_of(tree, name.as_str());
+    Ok(StatusRows {
+        value,
+        quality,
+        time,
+    })
+}
+
+/// The rows of a switch: those of its node, of its control and of its interlocking.
+fn switch_rows(alloc: Global, tree: &Tree, nodes: &Nodes) -> Result<SwitchRows, AllocError>
+    requires { HasSwitch tree.now (nodes_names nodes.now) }
+    ensures { IfOk result (AreRowsOf (layout_of tree.now) (nodes_names nodes.now)) }
+{
+    let node = nodes.position.as_str();
+    let control = nodes.control.as_str();
+    let interlocking = nodes.interlocking.as_str();
+    let position = status_rows(alloc, tree, node, "$ST$Pos")?;
+    let repeated = status_rows(alloc, tree, control, "$ST$Pos")?;
+    let operations = status_rows(alloc, tree, node, "$ST$OpCnt")?;
+    let ena_opn = status_rows(alloc, tree, interlocking, "$ST$EnaOpn")?;
+    let ena_cls = status_rows(alloc, tree, interlocking, "$ST$EnaCls")?;
+    Ok(SwitchRows {
+        position,
+        control: repeated,
+        operations,
+        ena_opn,
+        ena_cls,
+    })
+}
+
+/// The rows of each switch, in the order of the switches.
+pub fn all_switch_rows(
+    alloc: Global,
+    tree: &Tree,
+    nodes: &[Nodes],
+) -> Result<Vec<SwitchRows>, AllocError>
+    requires { HasSwitches tree.now nodes.now }
+    ensures sized { IfOk result (λ rows. length rows.items ≡ length nodes.now) }
+    ensures named { IfOk result (λ rows. AreAllRows (layout_of tree.now) nodes.now rows.items) }
+{
+    let mut rows = Vec::new(alloc);
+    for i in 0..nodes.len() {
+        let one = switch_rows(alloc, tree, &nodes[i])?;
+        rows.push(one)?;
+    }
+    Ok(rows)
+}

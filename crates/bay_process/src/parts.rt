@@ -1,0 +1,133 @@
+// The parts that the state of a device is made of.
+ghost use Rattle.std.specs.Prelude.{◌≡◌, length, IfOk};
+ghost use Rattle.bay_tree.specs.Rows.{IsTree};
+ghost use Rattle.il_scan.specs.Scans.{held_first};
+ghost use Rattle.bay_process.specs.Layout.{layout_of};
+ghost use Rattle.bay_process.specs.Nodes.{AreAllMeters, AreAllNodes, HasSwitches, HaveMeters};
+ghost use Rattle.bay_process.specs.Parts.{AreBoundRows, AreBoundSwitches, IsWired};
+
+use crate::bind::{bind_switches, nothing_told, sources_of};
+use crate::meter::BoundMeter;
+use crate::meters::{all_meter_nodes, bind_meters};
+use crate::nodes::{Nodes, all_nodes, all_switch_rows};
+use crate::switch::BoundSwitch;
+use crate::values::ToldValues;
+use bay_base::text::Text;
+use bay_config::bay::{Bay, Point, Source, Switch};
+use bay_tree::row::Row;
+use bay_tree::tree::Tree;
+use il_scan::machine::Machine;
+use il_verify::verify::Verified;
+use std::alloc::{AllocError, Global};
+
+/// A machine, and what the points of its program stand for in the bay.
+#[derive(Drop)]
+pub struct WiredMachine {
+    pub machine: Machine,
+    /// What the points stand for that the program only reads, and those that it may write, in the order of its points.
+    pub reads: Vec<Source>,
+    pub writes: Vec<Source>,
+}
+
+/// A machine with a verified image, before its first scan.
+fn machine_of(alloc: Global, verified: Verified) -> Result<Machine, AllocError>
+    ensures { IfOk result (λ machine. machine ≡ held_first verified) }
+{
+    match Machine::new(alloc, verified) {
+        Ok(machine) => Ok(machine),
+        Err(_) => Err(AllocError),
+    }
+}
+
+/// A machine with a verified image, before its first scan, on the points of a bay.
+pub fn wired_machine(
+    alloc: Global,
+    bay: &[Point],
+    verified: Verified,
+) -> Result<WiredMachine, AllocError>
+    ensures { IfOk result (IsWired bay.now verified) }
+{
+    let points = verified.image().points();
+    let reads = sources_of(alloc, false, bay, points)?;
+    let writes = sources_of(alloc, true, bay, points)?;
+    let machine = machine_of(alloc, verified)?;
+    Ok(WiredMachine {
+        machine,
+        reads,
+        writes,
+    })
+}
+
+/// The names of the nodes of a bay's switches and meters, in their orders.
+#[derive(Drop)]
+pub struct NodeNames {
+    pub switches: Vec<Nodes>,
+    pub meters: Vec<Text>,
+}
+
+/// The names of the nodes of a bay's switches and meters.
+pub fn node_names(alloc: Global, bay: &Bay) -> Result<NodeNames, AllocError>
+    ensures switches_sized { IfOk result (λ nodes. length nodes.switches.items ≡ length bay.now.switches) }
+    ensures switches_named { IfOk result (λ nodes. AreAllNodes bay.now nodes.switches.items) }
+    ensures meters_sized { IfOk result (λ nodes. length nodes.meters.items ≡ length bay.now.meters) }
+    ensures meters_named { IfOk result (λ nodes. AreAllMeters bay.now nodes.meters.items) }
+{
+    let switches = all_nodes(alloc, bay)?;
+    let meters = all_meter_nodes(alloc, bay)?;
+    Ok(NodeNames { switches, meters })
+}
+
+/// The tree of a bay's rows, and where its switches and meters stand in it.
+#[derive(Drop)]
+pub struct BoundRows {
+    pub tree: Tree,
+    pub switches: Vec<BoundSwitch>,
+    pub meters: Vec<BoundMeter>,
+    /// That no interlocking value was written yet.
+    pub told: ToldValues,
+}
+
+/// The switches of a bay with their rows, which their nodes name, and the places of their interlocking values.
+fn bound_switches(
+    alloc: Global,
+    tree: &Tree,
+    switches: Vec<Switch>,
+    nodes: &[Nodes],
+    writes: &[Source],
+) -> Result<Vec<BoundSwitch>, AllocError>
+    requires sized { length nodes.now ≡ length switches.items }
+    requires there { HasSwitches tree.now nodes.now }
+    ensures { IfOk result (λ bound. AreBoundSwitches (layout_of tree.now) writes.now switches.items nodes.now bound.items) }
+{
+    let rows = all_switch_rows(alloc, tree, nodes)?;
+    let bound = bind_switches(alloc, switches, rows.as_slice(), writes)?;
+    Ok(bound)
+}
+
+/// The tree of a bay's rows, and its switches and meters with the rows that their nodes name.
+pub fn bound_rows(
+    alloc: Global,
+    rows: Vec<Row>,
+    switches: Vec<Switch>,
+    meters: &[Text],
+    nodes: &NodeNames,
+    writes: &[Source],
+) -> Result<BoundRows, AllocError>
+    requires tree { IsTree rows.items }
+    requires switches_sized { length nodes.now.switches.items ≡ length switches.items }
+    requires switches_there { HasSwitches rows.items nodes.now.switches.items }
+    requires meters_sized { length nodes.now.meters.items ≡ length meters.now }
+    requires meters_there { HaveMeters rows.items nodes.now.meters.items }
+    ensures { IfOk result (AreBoundRows rows.items switches.items meters.now nodes.now.switches.items writes.now) }
+{
+    let tree = Tree::build(alloc, rows)?;
+    let switches = bound_switches(alloc, &tree, switches, nodes.switches.as_slice(), writes)?;
+    let meters = bind_meters(alloc, &tree, meters, nodes.meters.as_slice())?;
+    let told = nothing_told(alloc, switches.as_slice())?;
+    Ok(BoundRows {
+        tree,
+        switches,
+        meters,
+        told,
+    })
+}

@@ -1,0 +1,140 @@
+// The rows of status values in the tree: a value, its quality and its moment (IEC 61850-7-3).
+ghost use Rattle.std.specs.Prelude.{◌≡◌, ◌≢◌, None, Some};
+ghost use Rattle.bay_tree.specs.declared.leaf.Kind.TheVariants as kind;
+ghost use Rattle.bay_tree.specs.declared.leaf.Leaf.TheVariants as leaves;
+ghost use Rattle.bay_tree.specs.Kinds.{kind_of};
+ghost use Rattle.bay_tree.specs.Rows.{leaf_of, with_leaf_of};
+ghost use Rattle.bay_process.specs.Values.{with_status, same_position, same_quality, is_position, is_quality, is_truth};
+ghost use Rattle.bay_process.specs.Layout.{layout_of, name_in, status_in, HasKind, AreStatusRows};
+
+use bay_tree::leaf::{Dbpos, Leaf, Quality};
+use bay_tree::tree::{Handle, Tree};
+
+/// Where a value, its quality and its moment stand.
+#[derive(Clone, Copy, Debug)]
+pub struct StatusRows {
+    pub value: Handle,
+    pub quality: Handle,
+    pub time: Handle,
+}
+
+/// Where the values of a switch stand that a step writes.
+#[derive(Clone, Copy, Debug)]
+pub struct SwitchRows {
+    /// Its position: `Pos` of its XCBR or XSWI.
+    pub position: StatusRows,
+    /// Its position as its control repeats it: `Pos` of its CSWI.
+    pub control: StatusRows,
+    /// How often it reached an end position: `OpCnt`.
+    pub operations: StatusRows,
+    /// Whether it may be opened: `EnaOpn` of its CILO.
+    pub ena_opn: StatusRows,
+    /// Whether it may be closed: `EnaCls`.
+    pub ena_cls: StatusRows,
+}
+
+/// Writes a value of the kind that stands there.
+#[inline(always)]
+pub fn put(tree: &mut Tree, handle: Handle, leaf: Leaf)
+    requires { HasKind (layout_of tree.old) handle (kind_of leaf) }
+    ensures rows { tree.new ≡ with_leaf_of (name_in (layout_of tree.old) handle) leaf tree.old }
+    ensures layout { layout_of tree.new ≡ layout_of tree.old }
+{
+    match tree.set(handle, leaf) {
+        Ok(()) => {}
+        Err(_) => unreachable!(),
+    }
+}
+
+/// Writes a value, its quality and its moment.
+#[inline(always)]
+pub fn put_status(tree: &mut Tree, rows: StatusRows, value: Leaf, quality: Quality, now: u64)
+    requires { AreStatusRows (layout_of tree.old) (kind_of value) rows }
+    ensures rows { tree.new ≡ with_status (status_in (layout_of tree.old) rows) value quality now tree.old }
+    ensures layout { layout_of tree.new ≡ layout_of tree.old }
+{
+    put(tree, rows.value, value);
+    put(tree, rows.quality, Leaf::Quality(quality));
+    put(tree, rows.time, Leaf::Utc(now));
+}
+
+/// Whether two positions are one.
+pub fn same_position(first: Dbpos, second: Dbpos) -> bool
+    ensures { result ≡ same_position first second }
+{
+    first == second
+}
+
+fn same_quality(first: Quality, second: Quality) -> bool
+    ensures { result ≡ same_quality first second }
+{
+    first == second
+}
+
+/// The position that stands there.
+pub fn position_at(tree: &Tree, handle: Handle) -> Dbpos
+    requires { HasKind (layout_of tree.now) handle kind.Dbpos }
+    ensures { leaf_of (name_in (layout_of tree.now) handle) tree.now ≡ Some (leaves.Dbpos result) }
+{
+    match tree.get(handle) {
+        Some(Leaf::Dbpos(position)) => *position,
+        _ => unreachable!(),
+    }
+}
+
+fn quality_at(tree: &Tree, handle: Handle) -> Quality
+    requires { HasKind (layout_of tree.now) handle kind.Quality }
+    ensures { leaf_of (name_in (layout_of tree.now) handle) tree.now ≡ Some (leaves.Quality result) }
+{
+    match tree.get(handle) {
+        Some(Leaf::Quality(quality)) => *quality,
+        _ => unreachable!(),
+    }
+}
+
+fn truth_at(tree: &Tree, handle: Handle) -> bool
+    requires { HasKind (layout_of tree.now) handle kind.Truth }
+    ensures { leaf_of (name_in (layout_of tree.now) handle) tree.now ≡ Some (leaves.Truth result) }
+{
+    match tree.get(handle) {
+        Some(Leaf::Truth(truth)) => *truth,
+        _ => unreachable!(),
+    }
+}
+
+/// The number that stands there.
+pub fn count_at(tree: &Tree, handle: Handle) -> i32
+    requires { HasKind (layout_of tree.now) handle kind.Int32 }
+    ensures { leaf_of (name_in (layout_of tree.now) handle) tree.now ≡ Some (leaves.Int32 result) }
+{
+    match tree.get(handle) {
+        Some(Leaf::Int32(count)) => *count,
+        _ => unreachable!(),
+    }
+}
+
+/// Whether a position stands there.
+pub fn is_position(tree: &Tree, handle: Handle, position: Dbpos) -> bool
+    requires { HasKind (layout_of tree.now) handle kind.Dbpos }
+    ensures { result ≡ is_position position (leaf_of (name_in (layout_of tree.now) handle) tree.now) }
+{
+    same_position(position, position_at(tree, handle))
+}
+
+/// Whether a quality stands there.
+pub fn is_quality(tree: &Tree, handle: Handle, quality: Quality) -> bool
+    requires { HasKind (layout_of tree.now) handle kind.Quality }
+    ensures value { result ≡ is_quality quality (leaf_of (name_in (layout_of tree.now) handle) tree.now) }
+    ensures there { leaf_of (name_in (layout_of tree.now) handle) tree.now ≢ None }
+{
+    same_quality(quality, quality_at(tree, handle))
+}
+
+/// Whether a truth value stands there.
+pub fn is_truth(tree: &Tree, handle: Handle, value: bool) -> bool
+    requires { HasKind (layout_of tree.now) handle kind.Truth }
+    ensures value { result ≡ is_truth value (leaf_of (name_in (layout_of tree.now) handle) tree.now) }
+    ensures there { leaf_of (name_in (layout_of tree.now) handle) tree.now ≢ None }
+{
+    truth_at(tree, handle) == value
+}

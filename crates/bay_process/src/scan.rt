@@ -1,0 +1,269 @@
+// What a scan reads, and what it writes (IEC 61850-7-4, CILO: EnaOpn and EnaCls).
+ghost use Rattle.std.specs.Prelude.{◌≡◌, ◌<◌, ◌^◌, ℕ, [], length, slice_get, Some, None};
+ghost use Rattle.bay_tree.specs.declared.leaf.Kind.TheVariants as kind;
+ghost use Rattle.bay_tree.specs.declared.leaf.Leaf.TheVariants as leaves;
+ghost use Rattle.il_image.specs.Images.{IsValue};
+ghost use Rattle.il_image.specs.Values.{type_of};
+ghost use Rattle.bay_base.specs.declared.types.ElementaryType.TheVariants as elementary;
+ghost use Rattle.il_scan.specs.Places.{is_true};
+ghost use Rattle.bay_process.specs.Values.{number_of_position, output_at, position_value, with_enabled, with_output};
+ghost use Rattle.bay_process.specs.Layout.{layout_of, status_in, switch_in, AreStatusRows, AreSwitchRows, AreKinded, AreMeterKinded};
+ghost use Rattle.bay_process.specs.Sources.{type_of_source, type_of_switch_point};
+ghost use Rattle.bay_process.specs.Told.{AreEnabling, AreInterlocked, AreTold, AreValued, IsInterlocked, IsTold, Stands};
+ghost use Rattle.bay_process.specs.Scans.{bound_value, leaf_at, meter_value, outputs_put, switch_value};
+
+use crate::meter::BoundMeter;
+use crate::rows::{
+    StatusRows, SwitchRows, count_at, is_quality, is_truth, position_at, put_status, same_position,
+};
+use crate::switch::{BoundSwitch, Enabled};
+use crate::values::{ToldValues, Truths, same_truth};
+use bay_config::bay::{MeterField, Source, SwitchPoint};
+use bay_tree::leaf::{Dbpos, Leaf, Quality};
+use bay_tree::tree::Tree;
+use il_image::value::Value;
+use il_scan::points::{Inputs, Outputs};
+
+/// The number of a position (IEC 61850-8-1, Dbpos): 0 intermediate, 1 off, 2 on, 3 bad.
+fn number_of_position(position: Dbpos) -> i16
+    ensures { result ≡ number_of_position (Some (leaves.Dbpos position)) }
+{
+    match position {
+        Dbpos::Intermediate => 0,
+        Dbpos::Off => 1,
+        Dbpos::On => 2,
+        Dbpos::Bad => 3,
+    }
+}
+
+/// What a point of a switch says of its position.
+fn position_value(tree: &Tree, rows: StatusRows, point: SwitchPoint) -> Value
+    requires { AreStatusRows (layout_of tree.now) kind.Dbpos rows }
+    ensures value { result ≡ position_value point (leaf_at tree.now rows.value) }
+    ensures typed { type_of result ≡ type_of_switch_point point }
+    ensures is_value { IsValue result }
+{
+    let position = position_at(tree, rows.value);
+    match point {
+        SwitchPoint::Position => Value::Short(number_of_position(position)),
+        SwitchPoint::Open => Value::Truth(same_position(Dbpos::Off, position)),
+        SwitchPoint::Closed => Value::Truth(same_position(Dbpos::On, position)),
+        SwitchPoint::EnableOpen | SwitchPoint::EnableClose => Value::Truth(false),
+    }
+}
+
+/// What a point says of a switch that is not there.
+fn no_position(point: SwitchPoint) -> Value
+    ensures value { result ≡ switch_value [] point None }
+    ensures typed { type_of result ≡ type_of_switch_point point }
+    ensures is_value { IsValue result }
+{
+    match point {
+        SwitchPoint::Position => Value::Short(0),
+        _ => Value::Truth(false),
+    }
+}
+
+/// The value that the contacts give a point of the switch at a place.
+fn switch_value(tree: &Tree, switches: &[BoundSwitch], switch: usize, point: SwitchPoint) -> Value
+    requires { AreKinded (layout_of tree.now) switches.now }
+    ensures value { result ≡ switch_value tree.now point (slice_get switches.now switch) }
+    ensures typed { type_of result ≡ type_of_switch_point point }
+    ensures is_value { IsValue result }
+{
+    match switches.get(switch) {
+        Some(bound) => position_value(tree, bound.rows.position, point),
+        None => no_position(point),
+    }
+}
+
+/// The measured value of a field of the meter at a place.
+fn meter_value(tree: &Tree, meters: &[BoundMeter], meter: usize, field: MeterField) -> Value
+    requires { AreMeterKinded (layout_of tree.now) meters.now }
+    ensures value { result ≡ meter_value tree.now field (slice_get meters.now meter) }
+    ensures typed { type_of result ≡ elementary.Dint }
+    ensures is_value { IsValue result }
+{
+    match meters.get(meter) {
+        Some(bound) => Value::Long(count_at(tree, bound.rows.field(field).value)),
+        None => Value::Long(0),
+    }
+}
+
+/// The value that the contacts, the inputs and the measures give a point.
+fn point_value(
+    tree: &Tree,
+    switches: &[BoundSwitch],
+    inputs: &Truths,
+    meters: &[BoundMeter],
+    source: Source,
+) -> Value
+    requires switches { AreKinded (layout_of tree.now) switches.now }
+    requires meters { AreMeterKinded (layout_of tree.now) meters.now }
+    ensures value { result ≡ bound_value tree.now switches.now inputs.now meters.now source }
+    ensures typed { type_of result ≡ type_of_source source }
+    ensures is_value { IsValue result }
+{
+    match source {
+        Source::Switch { switch, point } => switch_value(tree, switches, switch, point),
+        Source::Input { input } => Value::Truth(inputs.get(input).unwrap_or(false)),
+        Source::Meter { meter, field } => meter_value(tree, meters, meter, field),
+    }
+}
+
+/// The points that are read, with what gives them their values.
+#[derive(Drop)]
+pub struct ReadPoints<'a> {
+    pub tree: &'a Tree,
+    pub switches: &'a [BoundSwitch],
+    pub inputs: &'a Truths,
+    pub meters: &'a [BoundMeter],
+    pub reads: &'a [Source],
+    ghost kinded: { AreKinded (layout_of tree.now) switches.now },
+    ghost metered: { AreMeterKinded (layout_of tree.now) meters.now },
+}
+
+impl<'a> Inputs for ReadPoints<'a> {
+    ghost use Rattle.std.specs.Prelude.{map};
+    ghost use Rattle.std.proofs.Common.{sym, ◌∙◌};
+    ghost use Rattle.std.proofs.lemmas.List.{length-map};
+    ghost use Rattle.bay_process.specs.Sources.{type_of_source};
+    ghost use Rattle.bay_process.specs.Scans.{bound_value};
+
+    ghost types = { λ points. map type_of_source points.reads.now };
+
+    ghost values = { λ points. map (bound_value points.tree.now points.switches.now points.inputs.now points.meters.now) points.reads.now };
+
+    #[inline(always)]
+    fn input(&self, place: usize) -> Value {
+        point_value(
+            self.tree,
+            self.switches,
+            self.inputs,
+            self.meters,
+            self.reads[place],
+        )
+    }
+
+    ghost sized = { λ points. length-map points.reads.now (bound_value points.tree.now points.switches.now points.inputs.now points.meters.now) ∙ sym (length-map points.reads.now type_of_source) };
+}
+
+/// Gives an interlocking value the value of its point.
+fn set_enabled(tree: &mut Tree, rows: StatusRows, value: bool, now: u64)
+    requires { AreStatusRows (layout_of tree.old) kind.Truth rows }
+    ensures rows { tree.new ≡ with_enabled (status_in (layout_of tree.old) rows) value now tree.old }
+    ensures layout { layout_of tree.new ≡ layout_of tree.old }
+    ensures valued { AreValued tree.old (status_in (layout_of tree.old) rows) }
+{
+    let is_same = is_truth(tree, rows.value, value);
+    let is_good = is_quality(tree, rows.quality, Quality::Good);
+    if is_same && is_good {
+        return;
+    }
+    put_status(tree, rows, Leaf::Truth(value), Quality::Good, now)
+}
+
+/// The value of an output: FALSE where the program does not name its point.
+fn output(outputs: &Outputs<'_>, place: Option<usize>) -> bool
+    ensures { result ≡ is_true (output_at place outputs.now) }
+{
+    match place {
+        Some(place) => outputs.is_true(place),
+        None => false,
+    }
+}
+
+/// Gives the interlocking values of the switch at a place new values.
+fn write_output(tree: &mut Tree, rows: &SwitchRows, enabled: Enabled, now: u64)
+    requires { AreSwitchRows (layout_of tree.old) rows.now }
+    ensures rows { tree.new ≡ with_output (switch_in (layout_of tree.old) rows.now) enabled.may_open enabled.may_close now tree.old }
+    ensures layout { layout_of tree.new ≡ layout_of tree.old }
+    ensures told { (k : ℕ) → AreEnabling (layout_of tree.old) k rows.now → IsTold tree.new k enabled }
+{
+    set_enabled(tree, rows.ena_opn, enabled.may_open, now);
+    set_enabled(tree, rows.ena_cls, enabled.may_close, now);
+}
+
+/// Gives an interlocking value a new value, where one stands there with a good quality.
+fn change_enabled(tree: &mut Tree, rows: StatusRows, stood: bool, value: bool, now: u64)
+    requires rows { AreStatusRows (layout_of tree.old) kind.Truth rows }
+    requires stands { Stands tree.old (status_in (layout_of tree.old) rows) stood }
+    ensures rows { tree.new ≡ with_enabled (status_in (layout_of tree.old) rows) value now tree.old }
+    ensures layout { layout_of tree.new ≡ layout_of tree.old }
+{
+    if same_truth(value, stood) {
+        return;
+    }
+    put_status(tree, rows, Leaf::Truth(value), Quality::Good, now)
+}
+
+/// Gives the interlocking values of the switch at a place new values, where the last scan wrote these.
+fn change_output(
+    tree: &mut Tree,
+    _place: usize,
+    rows: &SwitchRows,
+    stood: Enabled,
+    enabled: Enabled,
+    now: u64,
+)
+    requires rows { IsInterlocked (layout_of tree.old) _place rows.now }
+    requires stands { IsTold tree.old _place stood }
+    ensures rows { tree.new ≡ with_output (switch_in (layout_of tree.old) rows.now) enabled.may_open enabled.may_close now tree.old }
+    ensures layout { layout_of tree.new ≡ layout_of tree.old }
+    ensures told { IsTold tree.new _place enabled }
+{
+    change_enabled(tree, rows.ena_opn, stood.may_open, enabled.may_open, now);
+    change_enabled(tree, rows.ena_cls, stood.may_close, enabled.may_close, now);
+}
+
+/// Gives the interlocking values of the switch at a place new values. What the last scan wrote is not read again.
+fn tell(
+    tree: &mut Tree,
+    told: &mut ToldValues,
+    place: usize,
+    rows: &SwitchRows,
+    enabled: Enabled,
+    now: u64,
+)
+    requires rows { IsInterlocked (layout_of tree.old) place rows.now }
+    requires told { AreTold tree.old told.old }
+    requires within { place < length told.old }
+    requires few { length told.old < 2 ^ 64 }
+    ensures rows { tree.new ≡ with_output (switch_in (layout_of tree.old) rows.now) enabled.may_open enabled.may_close now tree.old }
+    ensures layout { layout_of tree.new ≡ layout_of tree.old }
+    ensures told { AreTold tree.new told.new }
+    ensures sized { length told.new ≡ length told.old }
+{
+    let stood = told.get(place);
+    told.set(place, enabled);
+    match stood {
+        Some(stood) => change_output(tree, place, rows, stood, enabled, now),
+        None => write_output(tree, rows, enabled, now),
+    }
+}
+
+/// Gives each switch's interlocking values the values of their points.
+pub fn write_outputs(
+    tree: &mut Tree,
+    told: &mut ToldValues,
+    switches: &[BoundSwitch],
+    outputs: &Outputs<'_>,
+    now: u64,
+)
+    requires interlocked { AreInterlocked (layout_of tree.old) switches.now }
+    requires told { AreTold tree.old told.old }
+    requires sized { length told.old ≡ length switches.now }
+    ensures rows { tree.new ≡ outputs_put (layout_of tree.old) switches.now outputs.now now tree.old }
+    ensures layout { layout_of tree.new ≡ layout_of tree.old }
+    ensures told { AreTold tree.new told.new }
+    ensures sized { length told.new ≡ length switches.now }
+{
+    for place in 0..switches.len() {
+        let bound = &switches[place];
+        let enabled = Enabled {
+            may_open: output(outputs, bound.outputs.ena_opn),
+            may_close: output(outputs, bound.outputs.ena_cls),
+        };
+        tell(tree, told, place, &bound.rows, enabled, now);
+    }
+}

@@ -1,0 +1,99 @@
+// Values that are never more or fewer than there were at first.
+ghost use Rattle.std.specs.Prelude.{◌≡◌, ◌<◌, length, slice_get, slice_set, Some};
+ghost use Rattle.bay_process.specs.Values.{same_truth};
+ghost use Rattle.bay_process.specs.Told.{told_at};
+
+use crate::switch::Enabled;
+use std::marker::Model;
+
+/// The values of the inputs.
+#[derive(Drop)]
+pub struct Truths {
+    values: Vec<bool>,
+}
+
+impl Model for Truths {
+    ghost use Rattle.std.specs.Prelude.{List, Bool};
+
+    ghost Value = { List Bool };
+
+    ghost view = { λ v. v.values.items };
+}
+
+impl Truths {
+    /// These values. It takes no memory.
+    pub fn new(values: Vec<bool>) -> Self
+        ensures { result ≡ values.items }
+    {
+        Truths { values }
+    }
+
+    /// How many there are.
+    pub fn count(&self) -> usize
+        ensures { result ≡ length self.now }
+    {
+        self.values.len()
+    }
+
+    /// The value at a place, if there is one.
+    pub fn get(&self, place: usize) -> Option<bool>
+        ensures { result ≡ slice_get self.now place }
+    {
+        self.values.as_slice().get(place).copied()
+    }
+
+    /// Gives a place a new value.
+    pub fn set(&mut self, place: usize, value: bool)
+        requires { place < length self.old }
+        ensures { self.new ≡ slice_set self.old place value }
+    {
+        self.values[place] = value;
+    }
+}
+
+/// The interlocking values of the switches as the last scan wrote them; nothing before the first scan.
+#[derive(Drop)]
+pub struct ToldValues {
+    values: Vec<Option<Enabled>>,
+}
+
+impl Model for ToldValues {
+    ghost use Rattle.std.specs.Prelude.{List, Option};
+    ghost use Rattle.bay_process.specs.declared.switch.Enabled.{Enabled};
+
+    ghost Value = { List (Option Enabled) };
+
+    ghost view = { λ v. v.values.items };
+}
+
+impl ToldValues {
+    /// These values. It takes no memory.
+    pub fn new(values: Vec<Option<Enabled>>) -> Self
+        ensures { result ≡ values.items }
+    {
+        ToldValues { values }
+    }
+
+    /// What was written of the switch at a place, if anything was.
+    pub fn get(&self, place: usize) -> Option<Enabled>
+        requires { place < length self.now }
+        ensures { result ≡ told_at self.now place }
+    {
+        self.values[place]
+    }
+
+    /// Keeps what was written of the switch at a place.
+    pub fn set(&mut self, place: usize, enabled: Enabled)
+        requires { place < length self.old }
+        ensures { self.new ≡ slice_set self.old place (Some enabled) }
+    {
+        self.values[place] = Some(enabled);
+    }
+}
+
+/// Whether two truth values are one.
+pub fn same_truth(first: bool, second: bool) -> bool
+    ensures { result ≡ same_truth first second }
+{
+    first == second
+}
