@@ -16,17 +16,12 @@ END_VAR
 
 VAR
     coupled : BOOL;         (* the coupler joins the busbars *)
-    off_load : BOOL;        (* breaker and earthing switch are open *)
 END_VAR
 
     LD CA1_CLOSED
     AND CB1_CLOSED
     AND CB2_CLOSED
     ST coupled
-
-    LD QA1_OPEN
-    AND QC1_OPEN
-    ST off_load
 
     (* The earthing switch is moved with all disconnectors open. *)
     LD QB1_OPEN
@@ -60,24 +55,29 @@ END_VAR
     ST QA1_ENA_CLS
 
     (* A busbar disconnector is moved off load while the other is open; or, for a change under load, while the *)
-    (* other is closed and the busbars are coupled. *)
-    LD off_load
+    (* other is closed and the busbars are coupled. In both cases the earthing switch is open: with it closed the *)
+    (* disconnector would put a busbar to earth. *)
+    LD QA1_OPEN
     AND QB2_OPEN
     OR( coupled
         AND QB2_CLOSED
     )
+    AND QC1_OPEN
     ST QB1_ENA_OPN
     ST QB1_ENA_CLS
 
-    LD off_load
+    LD QA1_OPEN
     AND QB1_OPEN
     OR( coupled
         AND QB1_CLOSED
     )
+    AND QC1_OPEN
     ST QB2_ENA_OPN
     ST QB2_ENA_CLS
 
-    LD off_load
+    (* The feeder disconnector is moved off load. *)
+    LD QA1_OPEN
+    AND QC1_OPEN
     ST QB9_ENA_OPN
     ST QB9_ENA_CLS
     RET

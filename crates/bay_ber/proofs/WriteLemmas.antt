@@ -195,3 +195,8 @@ nested_in_place tag count start written old middle new within size counted added
     let behind : drop written (old ++ header tag count) ≡ header tag count = drop_at old (header tag count) written (sym size) in
     let last : take (written - start) (drop start (old ++ header tag count)) ≡ drop start old = ap (λ (ys : List ℕ). take (written - start) ys) (drop-append-le start old (header tag count) within) ∙ take_at (drop start old) (header tag count) (written - start) (omega arith) in
     moved ∙ rw (added, front, behind, last, n) refl
+
+-- a value is a head and the content behind it
+pub element-header : (tag : Tag) (content : List ℕ) → element tag content ≡ header tag (length content) ++ content
+unfolding header element
+element-header tag content = refl

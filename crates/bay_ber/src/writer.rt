@@ -253,6 +253,23 @@ impl Writer {
         self.value(tag, inner)
     }
 
+    /// Writes the head of a value, whose content of so many octets is to be written behind it (X.690 8.1.2, 8.1.3).
+    pub fn head(&mut self, tag: Tag, count: u32) -> Result<(), AllocError>
+        requires { tag.number < 31 }
+        ensures ok { OnOk result (self.new ≡ self.old ++ header tag count) }
+        ensures few { OnOk result (length self.new ≤ length self.old + 6) }
+        ensures err { OnErr result (self.new ≡ self.old) }
+    {
+        let written = self.octets.len();
+        match append_header(&mut self.octets, tag, count) {
+            Ok(()) => Ok(()),
+            Err(error) => {
+                self.octets.truncate(written);
+                Err(error)
+            }
+        }
+    }
+
     /// Makes all that was written since a place the content of one value (X.690 8.9), in place. The place is what `len` was
     /// there.
     pub fn nest_from(&mut self, start: usize, tag: Tag) -> Result<(), AllocError>

@@ -1,9 +1,10 @@
 -- The node of each switch is among the nodes of its bay.
-use Rattle.std.proofs.Common.{◌≡◌, ℕ, zero, suc, ◌+◌, ◌<◌, Bool, true, false, List, [], ◌∷◌, ◌++◌, length, map, filter, take, get_or, slice_get, None, Some, codes, All, Contains, refl, sym, ap, subst, ◌∙◌, arith}
+use Rattle.std.proofs.Common.{◌≡◌, ℕ, zero, suc, ◌+◌, ◌<◌, Bool, true, false, List, [], ◌∷◌, ◌++◌, length, map, filter, take, get_or, slice_get, Option, None, Some, codes, All, Contains, append_assoc, refl, sym, ap, subst, ◌∙◌, arith}
 use Rattle.std.proofs.lemmas.List.{get_or-map, length-map}
 use Rattle.std.proofs.lemmas.List.Elements.{Contains-append_left, Contains-append_right, Contains-get_or}
 use Rattle.std.specs.List.{enumerate_from, flat_map}
 use Rattle.bay_tree.specs.declared.row.Row.{Row}
+use Rattle.bay_tree.specs.declared.leaf.Leaf.{Leaf}
 use Rattle.bay_config.specs.declared.bay.Bay.{Bay}
 use Rattle.bay_nodes.specs.declared.switch.Control.{Control}
 use Rattle.bay_nodes.specs.declared.switch.Control.TheVariants.{Status, Direct, Sbo, SboEnhanced}
@@ -11,7 +12,8 @@ use Rattle.bay_nodes.specs.declared.switch.Switch.{Switch}
 use Rattle.bay_nodes.specs.declared.nameplate.Nameplate.{Nameplate}
 use Rattle.bay_nodes.specs.declared.switch.SwitchKind.{SwitchKind}
 use Rattle.bay_nodes.specs.declared.switch.SwitchKind.TheVariants.{Breaker, Disconnector, Earthing}
-use Rattle.bay_config.specs.Laws.{nameplate_of, IsBay, HasNode, HasPosition, HasControl, HasEnable, HasMeter, NamesPosition, NamesControl, NamesInterlocking, NamesMeter}
+use Rattle.bay_config.specs.Laws.{nameplate_of, IsBay, HasNode, HasPosition, HasControl, HasCommands, HasEnable, HasMeter, NamesPosition, NamesControl, NamesInterlocking, NamesMeter}
+use Rattle.bay_nodes.specs.Names.{opening_names, closing_names, control_names_of, meter_names_of}
 use Rattle.bay_nodes.specs.Node.{Parts, Node, row, node_rows, node_name, class_of, is_breaker, is_of, node_number, device_node, physical_node, position_node, position_nodes, position_parts, control_node, control_nodes, control_parts, interlocking_node, interlocking_nodes, interlocking_parts, meter_node, meter_nodes, meter_parts, nodes_of}
 
 Contains-cons : {X : Type 0} (y : X) (xs : List X) (x : X) → Contains xs x → Contains (y ∷ xs) x
@@ -112,32 +114,42 @@ position-among : (b : Bool) (n : Nameplate) (ss : List Switch) (ms : List (List 
 position-among true n ss ms place s here e = breakers-within n ss ms _ (among-class true ss place s here e)
 position-among false n ss ms place s here e = others-within n ss ms _ (among-class false ss place s here e)
 
--- the rows of a position and of an interlocking, by their places in their nodes
+-- the rows of nodes, by their places in them
 has-position : (bay : Bay) (name : List ℕ) (kind : SwitchKind) → HasNode bay (record { name = name; parts = position_parts kind }) → HasPosition bay.rows name
-has-position bay name Breaker h = record { position = h 3 (row name None) (omega arith); quality = h 4 (row name None) (omega arith); moment = h 5 (row name None) (omega arith); count = h 15 (row name None) (omega arith); count_moment = h 17 (row name None) (omega arith) }
-has-position bay name Disconnector h = record { position = h 3 (row name None) (omega arith); quality = h 4 (row name None) (omega arith); moment = h 5 (row name None) (omega arith); count = h 15 (row name None) (omega arith); count_moment = h 17 (row name None) (omega arith) }
-has-position bay name Earthing h = record { position = h 3 (row name None) (omega arith); quality = h 4 (row name None) (omega arith); moment = h 5 (row name None) (omega arith); count = h 15 (row name None) (omega arith); count_moment = h 17 (row name None) (omega arith) }
+has-position bay name Breaker h = record { position = record { value_there = h 3 (row name None) (omega arith); quality_there = h 4 (row name None) (omega arith); moment_there = h 5 (row name None) (omega arith) }; operations = record { value_there = h 15 (row name None) (omega arith); quality_there = h 16 (row name None) (omega arith); moment_there = h 17 (row name None) (omega arith) } }
+has-position bay name Disconnector h = record { position = record { value_there = h 3 (row name None) (omega arith); quality_there = h 4 (row name None) (omega arith); moment_there = h 5 (row name None) (omega arith) }; operations = record { value_there = h 15 (row name None) (omega arith); quality_there = h 16 (row name None) (omega arith); moment_there = h 17 (row name None) (omega arith) } }
+has-position bay name Earthing h = record { position = record { value_there = h 3 (row name None) (omega arith); quality_there = h 4 (row name None) (omega arith); moment_there = h 5 (row name None) (omega arith) }; operations = record { value_there = h 15 (row name None) (omega arith); quality_there = h 16 (row name None) (omega arith); moment_there = h 17 (row name None) (omega arith) } }
 
-has-open : (bay : Bay) (name : List ℕ) → HasNode bay (record { name = name; parts = interlocking_parts }) → HasEnable bay.rows name (codes "$ST$EnaOpn")
-has-open bay name h = record { value = h 3 (row name None) (omega arith); quality = h 4 (row name None) (omega arith); moment = h 5 (row name None) (omega arith) }
+has-open : (bay : Bay) (name : List ℕ) → HasNode bay (record { name = name; parts = interlocking_parts }) → HasEnable bay.rows (opening_names name)
+has-open bay name h = record { value_there = h 3 (row name None) (omega arith); quality_there = h 4 (row name None) (omega arith); moment_there = h 5 (row name None) (omega arith) }
 
-has-close : (bay : Bay) (name : List ℕ) → HasNode bay (record { name = name; parts = interlocking_parts }) → HasEnable bay.rows name (codes "$ST$EnaCls")
-has-close bay name h = record { value = h 7 (row name None) (omega arith); quality = h 8 (row name None) (omega arith); moment = h 9 (row name None) (omega arith) }
+has-close : (bay : Bay) (name : List ℕ) → HasNode bay (record { name = name; parts = interlocking_parts }) → HasEnable bay.rows (closing_names name)
+has-close bay name h = record { value_there = h 7 (row name None) (omega arith); quality_there = h 8 (row name None) (omega arith); moment_there = h 9 (row name None) (omega arith) }
 
 has-control : (bay : Bay) (name : List ℕ) (control : Control) (timeout : ℕ) → HasNode bay (record { name = name; parts = control_parts control timeout }) → HasControl bay.rows name
-has-control bay name Status timeout h = record { position = h 3 (row name None) (omega arith); quality = h 4 (row name None) (omega arith); moment = h 5 (row name None) (omega arith); selected = h 6 (row name None) (omega arith) }
-has-control bay name Direct timeout h = record { position = h 3 (row name None) (omega arith); quality = h 4 (row name None) (omega arith); moment = h 5 (row name None) (omega arith); selected = h 6 (row name None) (omega arith) }
-has-control bay name Sbo timeout h = record { position = h 3 (row name None) (omega arith); quality = h 4 (row name None) (omega arith); moment = h 5 (row name None) (omega arith); selected = h 6 (row name None) (omega arith) }
-has-control bay name SboEnhanced timeout h = record { position = h 3 (row name None) (omega arith); quality = h 4 (row name None) (omega arith); moment = h 5 (row name None) (omega arith); selected = h 6 (row name None) (omega arith) }
+has-control bay name Status timeout h = record { position = record { value_there = h 3 (row name None) (omega arith); quality_there = h 4 (row name None) (omega arith); moment_there = h 5 (row name None) (omega arith) }; selected = h 6 (row name None) (omega arith) }
+has-control bay name Direct timeout h = record { position = record { value_there = h 3 (row name None) (omega arith); quality_there = h 4 (row name None) (omega arith); moment_there = h 5 (row name None) (omega arith) }; selected = h 6 (row name None) (omega arith) }
+has-control bay name Sbo timeout h = record { position = record { value_there = h 3 (row name None) (omega arith); quality_there = h 4 (row name None) (omega arith); moment_there = h 5 (row name None) (omega arith) }; selected = h 6 (row name None) (omega arith) }
+has-control bay name SboEnhanced timeout h = record { position = record { value_there = h 3 (row name None) (omega arith); quality_there = h 4 (row name None) (omega arith); moment_there = h 5 (row name None) (omega arith) }; selected = h 6 (row name None) (omega arith) }
 
-has-meter : (bay : Bay) (name : List ℕ) → HasNode bay (record { name = name; parts = meter_parts }) → HasMeter bay.rows name
+-- the names of a node's rows are its name and their paths
+inside-name : (rows : List Row) (name path word : List ℕ) (leaf : Option Leaf) → Contains rows (row (name ++ (path ++ word)) leaf) → Contains rows (row ((name ++ path) ++ word) leaf)
+inside-name rows name path word leaf h = subst (λ n. Contains rows (row n leaf)) (sym (append_assoc name path word)) h
+
+has-commands : (bay : Bay) (name : List ℕ) (control : Control) (timeout : ℕ) → HasNode bay (record { name = name; parts = control_parts control timeout }) → HasCommands bay.rows (control_names_of name) control
+has-commands bay name Status timeout h = tt
+has-commands bay name Direct timeout h = record { parts = record { structure = h 9 (row name None) (omega arith); value = inside-name bay.rows name (codes "$CO$Pos$Oper") (codes "$ctlVal") _ (h 10 (row name None) (omega arith)); origin = inside-name bay.rows name (codes "$CO$Pos$Oper") (codes "$origin") _ (h 11 (row name None) (omega arith)); category = inside-name bay.rows name (codes "$CO$Pos$Oper") (codes "$origin$orCat") _ (h 12 (row name None) (omega arith)); identity = inside-name bay.rows name (codes "$CO$Pos$Oper") (codes "$origin$orIdent") _ (h 13 (row name None) (omega arith)); number = inside-name bay.rows name (codes "$CO$Pos$Oper") (codes "$ctlNum") _ (h 14 (row name None) (omega arith)); moment = inside-name bay.rows name (codes "$CO$Pos$Oper") (codes "$T") _ (h 15 (row name None) (omega arith)); test = inside-name bay.rows name (codes "$CO$Pos$Oper") (codes "$Test") _ (h 16 (row name None) (omega arith)) }; checks = inside-name bay.rows name (codes "$CO$Pos$Oper") (codes "$Check") _ (h 17 (row name None) (omega arith)) }
+has-commands bay name Sbo timeout h = record { select = h 9 (row name None) (omega arith); operate = record { parts = record { structure = h 10 (row name None) (omega arith); value = inside-name bay.rows name (codes "$CO$Pos$Oper") (codes "$ctlVal") _ (h 11 (row name None) (omega arith)); origin = inside-name bay.rows name (codes "$CO$Pos$Oper") (codes "$origin") _ (h 12 (row name None) (omega arith)); category = inside-name bay.rows name (codes "$CO$Pos$Oper") (codes "$origin$orCat") _ (h 13 (row name None) (omega arith)); identity = inside-name bay.rows name (codes "$CO$Pos$Oper") (codes "$origin$orIdent") _ (h 14 (row name None) (omega arith)); number = inside-name bay.rows name (codes "$CO$Pos$Oper") (codes "$ctlNum") _ (h 15 (row name None) (omega arith)); moment = inside-name bay.rows name (codes "$CO$Pos$Oper") (codes "$T") _ (h 16 (row name None) (omega arith)); test = inside-name bay.rows name (codes "$CO$Pos$Oper") (codes "$Test") _ (h 17 (row name None) (omega arith)) }; checks = inside-name bay.rows name (codes "$CO$Pos$Oper") (codes "$Check") _ (h 18 (row name None) (omega arith)) }; cancel = record { structure = h 19 (row name None) (omega arith); value = inside-name bay.rows name (codes "$CO$Pos$Cancel") (codes "$ctlVal") _ (h 20 (row name None) (omega arith)); origin = inside-name bay.rows name (codes "$CO$Pos$Cancel") (codes "$origin") _ (h 21 (row name None) (omega arith)); category = inside-name bay.rows name (codes "$CO$Pos$Cancel") (codes "$origin$orCat") _ (h 22 (row name None) (omega arith)); identity = inside-name bay.rows name (codes "$CO$Pos$Cancel") (codes "$origin$orIdent") _ (h 23 (row name None) (omega arith)); number = inside-name bay.rows name (codes "$CO$Pos$Cancel") (codes "$ctlNum") _ (h 24 (row name None) (omega arith)); moment = inside-name bay.rows name (codes "$CO$Pos$Cancel") (codes "$T") _ (h 25 (row name None) (omega arith)); test = inside-name bay.rows name (codes "$CO$Pos$Cancel") (codes "$Test") _ (h 26 (row name None) (omega arith)) } }
+has-commands bay name SboEnhanced timeout h = record { select = record { parts = record { structure = h 9 (row name None) (omega arith); value = inside-name bay.rows name (codes "$CO$Pos$SBOw") (codes "$ctlVal") _ (h 10 (row name None) (omega arith)); origin = inside-name bay.rows name (codes "$CO$Pos$SBOw") (codes "$origin") _ (h 11 (row name None) (omega arith)); category = inside-name bay.rows name (codes "$CO$Pos$SBOw") (codes "$origin$orCat") _ (h 12 (row name None) (omega arith)); identity = inside-name bay.rows name (codes "$CO$Pos$SBOw") (codes "$origin$orIdent") _ (h 13 (row name None) (omega arith)); number = inside-name bay.rows name (codes "$CO$Pos$SBOw") (codes "$ctlNum") _ (h 14 (row name None) (omega arith)); moment = inside-name bay.rows name (codes "$CO$Pos$SBOw") (codes "$T") _ (h 15 (row name None) (omega arith)); test = inside-name bay.rows name (codes "$CO$Pos$SBOw") (codes "$Test") _ (h 16 (row name None) (omega arith)) }; checks = inside-name bay.rows name (codes "$CO$Pos$SBOw") (codes "$Check") _ (h 17 (row name None) (omega arith)) }; operate = record { parts = record { structure = h 18 (row name None) (omega arith); value = inside-name bay.rows name (codes "$CO$Pos$Oper") (codes "$ctlVal") _ (h 19 (row name None) (omega arith)); origin = inside-name bay.rows name (codes "$CO$Pos$Oper") (codes "$origin") _ (h 20 (row name None) (omega arith)); category = inside-name bay.rows name (codes "$CO$Pos$Oper") (codes "$origin$orCat") _ (h 21 (row name None) (omega arith)); identity = inside-name bay.rows name (codes "$CO$Pos$Oper") (codes "$origin$orIdent") _ (h 22 (row name None) (omega arith)); number = inside-name bay.rows name (codes "$CO$Pos$Oper") (codes "$ctlNum") _ (h 23 (row name None) (omega arith)); moment = inside-name bay.rows name (codes "$CO$Pos$Oper") (codes "$T") _ (h 24 (row name None) (omega arith)); test = inside-name bay.rows name (codes "$CO$Pos$Oper") (codes "$Test") _ (h 25 (row name None) (omega arith)) }; checks = inside-name bay.rows name (codes "$CO$Pos$Oper") (codes "$Check") _ (h 26 (row name None) (omega arith)) }; cancel = record { structure = h 27 (row name None) (omega arith); value = inside-name bay.rows name (codes "$CO$Pos$Cancel") (codes "$ctlVal") _ (h 28 (row name None) (omega arith)); origin = inside-name bay.rows name (codes "$CO$Pos$Cancel") (codes "$origin") _ (h 29 (row name None) (omega arith)); category = inside-name bay.rows name (codes "$CO$Pos$Cancel") (codes "$origin$orCat") _ (h 30 (row name None) (omega arith)); identity = inside-name bay.rows name (codes "$CO$Pos$Cancel") (codes "$origin$orIdent") _ (h 31 (row name None) (omega arith)); number = inside-name bay.rows name (codes "$CO$Pos$Cancel") (codes "$ctlNum") _ (h 32 (row name None) (omega arith)); moment = inside-name bay.rows name (codes "$CO$Pos$Cancel") (codes "$T") _ (h 33 (row name None) (omega arith)); test = inside-name bay.rows name (codes "$CO$Pos$Cancel") (codes "$Test") _ (h 34 (row name None) (omega arith)) } }
+
+has-meter : (bay : Bay) (name : List ℕ) → HasNode bay (record { name = name; parts = meter_parts }) → HasMeter bay.rows (meter_names_of name)
 has-meter bay name h = record {
-  tot_w = record { value = h 4 (row name None) (omega arith); quality = h 5 (row name None) (omega arith); moment = h 6 (row name None) (omega arith) };
-  tot_var = record { value = h 9 (row name None) (omega arith); quality = h 10 (row name None) (omega arith); moment = h 11 (row name None) (omega arith) };
-  hz = record { value = h 14 (row name None) (omega arith); quality = h 15 (row name None) (omega arith); moment = h 16 (row name None) (omega arith) };
-  phase_a = record { value = h 21 (row name None) (omega arith); quality = h 22 (row name None) (omega arith); moment = h 23 (row name None) (omega arith) };
-  phase_b = record { value = h 27 (row name None) (omega arith); quality = h 28 (row name None) (omega arith); moment = h 29 (row name None) (omega arith) };
-  phase_c = record { value = h 33 (row name None) (omega arith); quality = h 34 (row name None) (omega arith); moment = h 35 (row name None) (omega arith) };
+  tot_w = record { value_there = h 4 (row name None) (omega arith); quality_there = h 5 (row name None) (omega arith); moment_there = h 6 (row name None) (omega arith) };
+  tot_var = record { value_there = h 9 (row name None) (omega arith); quality_there = h 10 (row name None) (omega arith); moment_there = h 11 (row name None) (omega arith) };
+  hz = record { value_there = h 14 (row name None) (omega arith); quality_there = h 15 (row name None) (omega arith); moment_there = h 16 (row name None) (omega arith) };
+  phase_a = record { value_there = h 21 (row name None) (omega arith); quality_there = h 22 (row name None) (omega arith); moment_there = h 23 (row name None) (omega arith) };
+  phase_b = record { value_there = h 27 (row name None) (omega arith); quality_there = h 28 (row name None) (omega arith); moment_there = h 29 (row name None) (omega arith) };
+  phase_c = record { value_there = h 33 (row name None) (omega arith); quality_there = h 34 (row name None) (omega arith); moment_there = h 35 (row name None) (omega arith) };
 }
 
 -- a node of a bay has its rows there
@@ -171,7 +183,7 @@ pub names_control : (bay : Bay) (place : ℕ) (name : List ℕ) → place < leng
 names_control bay place name lt named =
     let w = numbered-among control_node (codes "CSWI") (λ s. control_parts s.control s.sbo_timeout_ms) (λ n t. refl) bay.switches place name lt named in
     let node : IsBay bay → HasNode bay (record { name = name; parts = control_parts w.0.control w.0.sbo_timeout_ms }) = λ is_bay. node-there bay _ is_bay (controls-within (nameplate_of bay) bay.switches bay.meters _ w.1) in
-    record { switch = w.0; here = w.2; named = named; node = node; rows = λ is_bay. has-control bay name w.0.control w.0.sbo_timeout_ms (node is_bay) }
+    record { switch = w.0; here = w.2; named = named; node = node; rows = λ is_bay. has-control bay name w.0.control w.0.sbo_timeout_ms (node is_bay); commands = λ is_bay. has-commands bay name w.0.control w.0.sbo_timeout_ms (node is_bay) }
 
 pub names_interlocking : (bay : Bay) (place : ℕ) (name : List ℕ) → place < length bay.switches → name ≡ node_name (codes "CILO") (place + 1) → NamesInterlocking bay place name
 names_interlocking bay place name lt named =

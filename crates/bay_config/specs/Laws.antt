@@ -1,17 +1,22 @@
 -- What holds of every bay that is read, beside what its file says.
-use Rattle.std.specs.Prelude.{◌≡◌, ◌≢◌, ℕ, ◌+◌, ◌≤◌, ◌++◌, pos, false, codes, Some, List, length, slice_get, All, AllPairs, Contains}
+use Rattle.std.specs.Prelude.{◌≡◌, ◌≢◌, ℕ, ◌+◌, ◌≤◌, ◌++◌, pos, false, codes, Some, None, List, [], length, slice_get, All, AllPairs, Contains}
 use Rattle.bay_tree.specs.declared.row.Row.{Row}
-use Rattle.bay_tree.specs.declared.leaf.Leaf.TheVariants.{Truth, Dbpos, Quality, Int32, Utc}
+use Rattle.bay_tree.specs.declared.leaf.Leaf.{Leaf}
+use Rattle.bay_tree.specs.declared.leaf.Leaf.TheVariants.{Truth, Dbpos, Quality, Int8, Int32, Unsigned8, Octets, Reference, Utc}
 use Rattle.bay_tree.specs.declared.leaf.Dbpos.TheVariants.{Intermediate}
-use Rattle.bay_tree.specs.declared.leaf.Quality.TheVariants.{Invalid}
+use Rattle.bay_tree.specs.declared.leaf.Quality.{Quality as Validity}
+use Rattle.bay_tree.specs.declared.leaf.Quality.TheVariants.{Good, Invalid}
 use Rattle.bay_tree.specs.Rows.{IsTree}
 use Rattle.bay_config.specs.declared.bay.Bay.{Bay}
 use Rattle.bay_config.specs.declared.bay.Source.{Source}
 use Rattle.bay_config.specs.declared.bay.Source.TheVariants as sources
 use Rattle.bay_config.specs.declared.bay.Point.{Point}
+use Rattle.bay_nodes.specs.declared.switch.Control.{Control}
+use Rattle.bay_nodes.specs.declared.switch.Control.TheVariants.{Status, Direct, Sbo, SboEnhanced}
 use Rattle.bay_nodes.specs.declared.switch.Switch.{Switch}
 use Rattle.bay_nodes.specs.declared.nameplate.Nameplate.{Nameplate}
 use Rattle.bay_nodes.specs.Node.{Node, row, node_rows, node_name, class_of, node_number, position_parts, control_parts, interlocking_parts, meter_parts, rows_of_all}
+use Rattle.bay_nodes.specs.Names.{StatusNames, position_names, operation_names, opening_names, closing_names, ControlNames, control_names_of, MeterNames, meter_names_of}
 use Rattle.bay_config.specs.Point.{points_of, input_point, meter_points, points_of_all}
 
 -- the switch at a place has the point
@@ -64,47 +69,70 @@ pub record IsBay (bay : Bay) : Type 0 where
 abbrev pub HasNode : Bay → Node → Type 0
 HasNode bay node = All (Contains bay.rows) (node_rows node)
 
--- the rows hold the position of a node XCBR or XSWI and the count of its operations, with the values of the start
+-- the rows hold a value with its quality and its moment, as they are at the start
+pub record HasValue (rows : List Row) (names : StatusNames) (value : Leaf) (quality : Validity) : Type 0 where
+  pub value_there : Contains rows (row names.value (Some value))
+  pub quality_there : Contains rows (row names.quality (Some (Quality quality)))
+  pub moment_there : Contains rows (row names.time (Some (Utc 0)))
+
+-- the rows hold the position of a node XCBR or XSWI and the count of its operations
 pub record HasPosition (rows : List Row) (node : List ℕ) : Type 0 where
-  pub position : Contains rows (row (node ++ codes "$ST$Pos$stVal") (Some (Dbpos Intermediate)))
-  pub quality : Contains rows (row (node ++ codes "$ST$Pos$q") (Some (Quality Invalid)))
-  pub moment : Contains rows (row (node ++ codes "$ST$Pos$t") (Some (Utc 0)))
-  pub count : Contains rows (row (node ++ codes "$ST$OpCnt$stVal") (Some (Int32 (pos 0))))
-  pub count_moment : Contains rows (row (node ++ codes "$ST$OpCnt$t") (Some (Utc 0)))
+  pub position : HasValue rows (position_names node) (Dbpos Intermediate) Invalid
+  pub operations : HasValue rows (operation_names node) (Int32 (pos 0)) Good
 
--- the rows hold the position of a node CSWI, and whether it is selected, with the values of the start
+-- the rows hold the position of a node CSWI, and whether its switch is selected
 pub record HasControl (rows : List Row) (node : List ℕ) : Type 0 where
-  pub position : Contains rows (row (node ++ codes "$ST$Pos$stVal") (Some (Dbpos Intermediate)))
-  pub quality : Contains rows (row (node ++ codes "$ST$Pos$q") (Some (Quality Invalid)))
-  pub moment : Contains rows (row (node ++ codes "$ST$Pos$t") (Some (Utc 0)))
-  pub selected : Contains rows (row (node ++ codes "$ST$Pos$stSeld") (Some (Truth false)))
+  pub position : HasValue rows (position_names node) (Dbpos Intermediate) Invalid
+  pub selected : Contains rows (row (control_names_of node).selected (Some (Truth false)))
 
--- the rows hold a value of a node CILO, with the values of the start
-pub record HasEnable (rows : List Row) (node object : List ℕ) : Type 0 where
-  pub value : Contains rows (row (node ++ (object ++ codes "$stVal")) (Some (Truth false)))
-  pub quality : Contains rows (row (node ++ (object ++ codes "$q")) (Some (Quality Invalid)))
-  pub moment : Contains rows (row (node ++ (object ++ codes "$t")) (Some (Utc 0)))
+-- the rows hold what is written to a control at a name, with the first value of each part (IEC 61850-8-1)
+pub record HasCancel (rows : List Row) (name : List ℕ) : Type 0 where
+  pub structure : Contains rows (row name None)
+  pub value : Contains rows (row (name ++ codes "$ctlVal") (Some (Truth false)))
+  pub origin : Contains rows (row (name ++ codes "$origin") None)
+  pub category : Contains rows (row (name ++ codes "$origin$orCat") (Some (Int8 (pos 0))))
+  pub identity : Contains rows (row (name ++ codes "$origin$orIdent") (Some (Octets [])))
+  pub number : Contains rows (row (name ++ codes "$ctlNum") (Some (Unsigned8 0)))
+  pub moment : Contains rows (row (name ++ codes "$T") (Some (Utc 0)))
+  pub test : Contains rows (row (name ++ codes "$Test") (Some (Truth false)))
 
--- the rows hold a measured value of a node MMXU, with the values of the start: where its number stands in it
-pub record HasMeasured (rows : List Row) (node object number : List ℕ) : Type 0 where
-  pub value : Contains rows (row (node ++ (object ++ number)) (Some (Int32 (pos 0))))
-  pub quality : Contains rows (row (node ++ (object ++ codes "$q")) (Some (Quality Invalid)))
-  pub moment : Contains rows (row (node ++ (object ++ codes "$t")) (Some (Utc 0)))
+-- Oper and SBOw have checks too
+pub record HasOperate (rows : List Row) (name : List ℕ) : Type 0 where
+  pub parts : HasCancel rows name
+  pub checks : Contains rows (row (name ++ codes "$Check") (Some (Dbpos Intermediate)))
 
-abbrev pub HasTotal : List Row → List ℕ → List ℕ → Type 0
-HasTotal rows node object = HasMeasured rows node object (codes "$mag$i")
+-- what may be written to a switch with each kind of control, or read to select it, by the names of its control
+pub record HasSelectByRead (rows : List Row) (names : ControlNames) : Type 0 where
+  pub select : Contains rows (row names.select (Some (Reference [])))
+  pub operate : HasOperate rows names.operate
+  pub cancel : HasCancel rows names.cancel
 
-abbrev pub HasPhase : List Row → List ℕ → List ℕ → Type 0
-HasPhase rows node object = HasMeasured rows node object (codes "$cVal$mag$i")
+pub record HasSelectWithValue (rows : List Row) (names : ControlNames) : Type 0 where
+  pub select : HasOperate rows names.select_with_value
+  pub operate : HasOperate rows names.operate
+  pub cancel : HasCancel rows names.cancel
+
+abbrev pub HasCommands : List Row → ControlNames → Control → Type 0
+HasCommands rows names Status = Unit
+HasCommands rows names Direct = HasOperate rows names.operate
+HasCommands rows names Sbo = HasSelectByRead rows names
+HasCommands rows names SboEnhanced = HasSelectWithValue rows names
+
+-- the rows hold an interlocking value of a node CILO
+abbrev pub HasEnable : List Row → StatusNames → Type 0
+HasEnable rows names = HasValue rows names (Truth false) Invalid
 
 -- the rows hold the measured values of a node MMXU
-pub record HasMeter (rows : List Row) (node : List ℕ) : Type 0 where
-  pub tot_w : HasTotal rows node (codes "$MX$TotW")
-  pub tot_var : HasTotal rows node (codes "$MX$TotVAr")
-  pub hz : HasTotal rows node (codes "$MX$Hz")
-  pub phase_a : HasPhase rows node (codes "$MX$A$phsA")
-  pub phase_b : HasPhase rows node (codes "$MX$A$phsB")
-  pub phase_c : HasPhase rows node (codes "$MX$A$phsC")
+abbrev pub HasMeasured : List Row → StatusNames → Type 0
+HasMeasured rows names = HasValue rows names (Int32 (pos 0)) Invalid
+
+pub record HasMeter (rows : List Row) (names : MeterNames) : Type 0 where
+  pub tot_w : HasMeasured rows names.tot_w
+  pub tot_var : HasMeasured rows names.tot_var
+  pub hz : HasMeasured rows names.hz
+  pub phase_a : HasMeasured rows names.phase_a
+  pub phase_b : HasMeasured rows names.phase_b
+  pub phase_c : HasMeasured rows names.phase_c
 
 -- the name is that of the node XCBR or XSWI of the switch at a place
 pub record NamesPosition (bay : Bay) (place : ℕ) (name : List ℕ) : Type 0 where
@@ -121,16 +149,17 @@ pub record NamesControl (bay : Bay) (place : ℕ) (name : List ℕ) : Type 0 whe
   pub named : name ≡ node_name (codes "CSWI") (place + 1)
   pub node : IsBay bay → HasNode bay (record { name = name; parts = control_parts switch.control switch.sbo_timeout_ms })
   pub rows : IsBay bay → HasControl bay.rows name
+  pub commands : IsBay bay → HasCommands bay.rows (control_names_of name) switch.control
 
 -- the name is that of the node CILO of the switch at a place
 pub record NamesInterlocking (bay : Bay) (place : ℕ) (name : List ℕ) : Type 0 where
   pub named : name ≡ node_name (codes "CILO") (place + 1)
   pub node : IsBay bay → HasNode bay (record { name = name; parts = interlocking_parts })
-  pub open_rows : IsBay bay → HasEnable bay.rows name (codes "$ST$EnaOpn")
-  pub close_rows : IsBay bay → HasEnable bay.rows name (codes "$ST$EnaCls")
+  pub open_rows : IsBay bay → HasEnable bay.rows (opening_names name)
+  pub close_rows : IsBay bay → HasEnable bay.rows (closing_names name)
 
 -- the name is that of the node MMXU of the meter at a place
 pub record NamesMeter (bay : Bay) (place : ℕ) (name : List ℕ) : Type 0 where
   pub named : name ≡ node_name (codes "MMXU") (place + 1)
   pub node : IsBay bay → HasNode bay (record { name = name; parts = meter_parts })
-  pub rows : IsBay bay → HasMeter bay.rows name
+  pub rows : IsBay bay → HasMeter bay.rows (meter_names_of name)

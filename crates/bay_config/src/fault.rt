@@ -4,25 +4,31 @@ ghost use Rattle.bay_config.specs.declared.fault.BayFault.TheVariants.{OutOfMemo
 ghost use Rattle.bay_config.specs.Code.{code_of};
 
 use std::alloc::{AllocError, AllocFailed};
-use std::fmt;
 use thiserror::Error;
 
 /// The first fault of a bay file. Nothing is left of a refused file.
 #[derive(Clone, Copy, Debug, PartialEq, Eq, Error)]
 pub enum BayFault {
     /// The text is no TOML document.
+    #[error("the text is not a TOML document")]
     BadToml,
     /// A section or a key that has to be there is missing.
+    #[error("a section or a key is missing")]
     MissingKey,
     /// A key is not one of its section, or the kind of control excludes it.
+    #[error("a key is unknown, or the kind of control excludes it")]
     UnknownKey,
     /// A value is of a wrong kind or out of its range, or a point has the name of a reserved word.
+    #[error("a value is of a wrong kind or out of its range")]
     BadValue,
     /// Two points have one name.
+    #[error("two points have one name")]
     DuplicateName,
     /// A section has too many entries.
+    #[error("a section has too many entries")]
     TooMany,
     /// There is no memory left.
+    #[error("out of memory")]
     OutOfMemory,
 }
 
@@ -40,20 +46,6 @@ impl BayFault {
             BayFault::TooMany => Some(55),
             BayFault::OutOfMemory => None,
         }
-    }
-}
-
-impl fmt::Display for BayFault {
-    fn fmt<W: fmt::Write>(&self, f: &mut fmt::Formatter<W>) -> fmt::Result {
-        f.write_str(match self {
-            BayFault::BadToml => "the text is not a TOML document",
-            BayFault::MissingKey => "a section or a key is missing",
-            BayFault::UnknownKey => "a key is unknown, or the kind of control excludes it",
-            BayFault::BadValue => "a value is of a wrong kind or out of its range",
-            BayFault::DuplicateName => "two points have one name",
-            BayFault::TooMany => "a section has too many entries",
-            BayFault::OutOfMemory => "out of memory",
-        })
     }
 }
 

@@ -5,7 +5,8 @@ ghost use Rattle.bay_config.specs.Laws.{NamesPosition, NamesControl, NamesInterl
 
 use crate::bay::{Bay, Switch};
 use bay_base::text::Text;
-use bay_nodes::names::{class_of, is_breaker, is_of};
+use bay_nodes::names as names;
+use bay_nodes::names::{CONTROL, INTERLOCKING, METER, class_of, is_breaker, is_of};
 use std::alloc::{AllocError, Global};
 
 /// How many of the switches are breakers, or are none.
@@ -27,9 +28,9 @@ pub fn node_name(alloc: Global, bay: &Bay, place: usize) -> Result<Text, AllocEr
 {
     let switches = bay.switches.as_slice();
     let kind = switches[place].kind;
-    let class = class_of(kind);
     let number = count_of(&switches[..place], is_breaker(kind)) + 1;
-    Ok(Text::new(format!(in alloc; "{class}{number}")?))
+    let name = names::node_name(alloc, class_of(kind), number)?;
+    Ok(name)
 }
 
 /// The name of the logical node of the interlocking of the switch at a place of the bay's switches, from
@@ -39,8 +40,8 @@ pub fn interlocking_name(alloc: Global, bay: &Bay, place: usize) -> Result<Text,
     ensures { IfOk result (NamesInterlocking bay.now place) }
 {
     let earlier = &bay.switches.as_slice()[..place];
-    let number = earlier.len() + 1;
-    Ok(Text::new(format!(in alloc; "CILO{number}")?))
+    let name = names::node_name(alloc, INTERLOCKING, earlier.len() + 1)?;
+    Ok(name)
 }
 
 /// The name of the logical node of the control of the switch at a place of the bay's switches, from 0: CSWI
@@ -50,8 +51,8 @@ pub fn control_name(alloc: Global, bay: &Bay, place: usize) -> Result<Text, Allo
     ensures { IfOk result (NamesControl bay.now place) }
 {
     let earlier = &bay.switches.as_slice()[..place];
-    let number = earlier.len() + 1;
-    Ok(Text::new(format!(in alloc; "CSWI{number}")?))
+    let name = names::node_name(alloc, CONTROL, earlier.len() + 1)?;
+    Ok(name)
 }
 
 /// The name of the logical node of the meter at a place of the bay's meters, from 0: MMXU and the place's
@@ -61,6 +62,6 @@ pub fn meter_name(alloc: Global, bay: &Bay, place: usize) -> Result<Text, AllocE
     ensures { IfOk result (NamesMeter bay.now place) }
 {
     let earlier = &bay.meters.as_slice()[..place];
-    let number = earlier.len() + 1;
-    Ok(Text::new(format!(in alloc; "MMXU{number}")?))
+    let name = names::node_name(alloc, METER, earlier.len() + 1)?;
+    Ok(name)
 }

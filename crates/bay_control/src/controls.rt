@@ -1,7 +1,7 @@
 // The controls of one bay.
 ghost use Rattle.std.specs.Prelude.{◌≡◌, ◌≤◌, [], if◌then◌else◌, None, length};
 ghost use Rattle.bay_control.specs.Decisions.{advanced, answer_of, cancel_outcome, contacted, controls_of, dropped, execution_at, initial, is_done, operate_outcome, restored, rows_of_operate, run_out, select_outcome, select_rows, select_with_outcome, selected_switch, selection_at, standing_of};
-ghost use Rattle.bay_control.specs.Requests.{control_of};
+ghost use Rattle.bay_control.specs.Requests.{control_of, is_enhanced};
 
 use crate::cause::AddCause;
 use crate::control::{SwitchControl, is_over};
@@ -313,6 +313,13 @@ impl Controls {
         ensures { result ≡ selected_switch self.now.selection }
     {
         self.selection.as_ref().map(|s| s.switch)
+    }
+
+    /// Whether a switch is selected with enhanced security, so that its client is told of what becomes of its requests.
+    pub fn is_enhanced(&self, switch: usize) -> bool
+        ensures { result ≡ is_enhanced (control_of self.now.controls switch).model }
+    {
+        matches!(self.control(switch).model, Control::SboEnhanced)
     }
 
     /// What is selected and what is operating, to be put back where a request is to have had no effect.

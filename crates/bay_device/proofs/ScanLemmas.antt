@@ -17,7 +17,8 @@ use Rattle.bay_device.specs.Device.{Ran, after_run, ending_at, inputs_of, point_
 use Rattle.bay_process.specs.Values.{measure_leaf, number_of_leaf, output_at, position_leaf, position_value, with_output, with_outputs}
 use Rattle.bay_process.specs.Layout.{Layout, layout_of, switches_of, IsBound, AreBound, AreKinded, AreMetersBound, AreMeterKinded}
 use Rattle.bay_device.specs.Meaning.{Halts}
-use Rattle.bay_process.specs.Names.{StatusNames, SwitchNames, field_names, switch_names}
+use Rattle.bay_nodes.specs.Names.{StatusNames, SwitchNames, switch_names}
+use Rattle.bay_process.specs.Names.{field_names}
 use Rattle.bay_process.specs.Scans.{bound_value, meter_value, outputs_put, switch_value}
 use Rattle.bay_device.specs.StateView.{state_view}
 use Rattle.bay_process.specs.Told.{AreInterlocked}

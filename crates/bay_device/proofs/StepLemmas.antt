@@ -6,7 +6,8 @@ use Rattle.bay_config.specs.declared.bay.MeterField.{MeterField}
 use Rattle.bay_nodes.specs.declared.switch.Switch.{Switch}
 use Rattle.bay_device.specs.Device.{State, contact_taken, measure_taken}
 use Rattle.bay_process.specs.Values.{tells, rows_after_contact, tells_measure, rows_after_measure}
-use Rattle.bay_process.specs.Names.{StatusNames, SwitchNames, switch_names, meter_names, field_names}
+use Rattle.bay_nodes.specs.Names.{StatusNames, SwitchNames, switch_names, meter_names}
+use Rattle.bay_process.specs.Names.{field_names}
 
 pub contact-done : (s : State) (k : ℕ) (switch : Switch) (names : SwitchNames) (position : Dbpos) (now : ℕ) (rows : List Row) (changed : Bool)
     → names ≡ switch_names s.switches k switch → changed ≡ not (tells names.position position s.rows) → rows ≡ rows_after_contact names position now s.rows

@@ -12,7 +12,8 @@ use Rattle.il_image.specs.declared.timer.Timer.{Timer}
 use Rattle.il_image.specs.declared.value.Value.{Value}
 use Rattle.il_image.specs.declared.value.Value.TheVariants.{Truth, Long}
 use Rattle.il_scan.specs.Scans.{Held, outputs_of, started}
-use Rattle.bay_process.specs.Names.{switch_names, meter_names, field_names}
+use Rattle.bay_nodes.specs.Names.{switch_names, meter_names}
+use Rattle.bay_process.specs.Names.{field_names}
 use Rattle.bay_device.specs.declared.event.Event.{Event}
 use Rattle.bay_device.specs.declared.event.Event.TheVariants.{Contact, Input, Measure, Scan}
 use Rattle.bay_device.specs.declared.event.Step.{Step}

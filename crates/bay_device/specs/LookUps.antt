@@ -1,10 +1,10 @@
 -- What the look-ups of a device answer.
-use Rattle.std.specs.Prelude.{ℕ, Bool, true, nat_lt, List, length, position, Option, None, Some, codes, if◌then◌else◌}
+use Rattle.std.specs.Prelude.{ℕ, Bool, true, nat_lt, List, length, position, Option, None, Some, if◌then◌else◌}
 use Rattle.bay_tree.specs.Rows.{leaf_of}
 use Rattle.bay_base.specs.Names.{same_name}
 use Rattle.bay_device.specs.Device.{State}
 use Rattle.bay_process.specs.Values.{is_truth}
-use Rattle.bay_process.specs.Names.{status_names, interlocking_of}
+use Rattle.bay_nodes.specs.Names.{StatusNames, opening_of, closing_of}
 
 -- the place of the switch with an id, whatever the case of its letters
 abbrev pub switch_place : State → List ℕ → Option ℕ
@@ -17,16 +17,16 @@ input_place s name = position (λ n. same_name n name) s.inputs
 abbrev pub meter_place : State → List ℕ → Option ℕ
 meter_place s id = position (λ m. same_name m id) s.meters
 
--- an interlocking value of the switch at a place
-abbrev pub enabled : State → ℕ → List ℕ → Bool
-enabled s k object = is_truth true (leaf_of (status_names (interlocking_of k) object).value s.rows)
+-- an interlocking value, by its names
+abbrev pub enabled : State → StatusNames → Bool
+enabled s names = is_truth true (leaf_of names.value s.rows)
 
 -- whether the switch at a place may be opened, and closed
 abbrev pub may_open : State → ℕ → Bool
-may_open s k = enabled s k (codes "$ST$EnaOpn")
+may_open s k = enabled s (opening_of k)
 
 abbrev pub may_close : State → ℕ → Bool
-may_close s k = enabled s k (codes "$ST$EnaCls")
+may_close s k = enabled s (closing_of k)
 
 -- both of them, of a switch that is there
 abbrev pub enabled_of : State → ℕ → Option (Bool × Bool)

@@ -16,3 +16,4 @@ pub mod ReportLemmas
 pub mod RequestLemmas
 pub mod ResponseLemmas
 pub mod ServiceLemmas
+pub mod ShortLemmas

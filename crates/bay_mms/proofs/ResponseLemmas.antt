@@ -1,16 +1,18 @@
 -- Texts, one behind another.
-use Rattle.std.proofs.Common.{◌≡◌, ℕ, pos, Bool, true, false, ◌+◌, ◌≤◌, List, [], ◌++◌, length, take, drop, Result, Ok, Err, refl, sym, ap, ◌∙◌, arith, ◌⊎◌, inl, inr}
+use Rattle.std.proofs.Common.{◌≡◌, ℕ, pos, Bool, true, false, Option, ◌+◌, ◌<◌, ◌≤◌, List, [], ◌++◌, length, take, drop, Result, Ok, Err, refl, sym, ap, ◌∙◌, arith, ◌⊎◌, inl, inr}
 use Rattle.std.proofs.lemmas.List.{append-nil, append_assoc, length-append, take_at, drop_at}
 use Rattle.bay_mms.specs.declared.fault.WriteFault.{WriteFault}
 use Rattle.bay_mms.specs.declared.fault.WriteFault.TheVariants.{TooLong, OutOfMemory}
-use Rattle.std.proofs.lemmas.Bool.{le-ltb}
+use Rattle.std.proofs.lemmas.Bool.{cases_lt, le-ltb, lt-ltb}
 use Rattle.bay_mms.specs.Writing.{IsFaultOf, Adds, Appends, written}
 use Rattle.bay_ber.specs.declared.tag.Tag.{Tag}
-use Rattle.bay_ber.specs.Writing.{element, element_length, integer_octets, truth_octets}
+use Rattle.bay_ber.specs.Writing.{element, element_length, header, integer_octets, truth_octets}
 use Rattle.bay_ber.proofs.SizeLemmas.{length-element-is}
+use Rattle.bay_ber.proofs.WriteLemmas.{element-header}
 use Rattle.bay_mms.specs.Tags.{context, constructed, sequence, int_tag}
 use Rattle.bay_mms.specs.Reports.{variable_text}
-use Rattle.bay_mms.specs.Responses.{names_text, page_text}
+use Rattle.bay_mms.specs.Pages.{list_length}
+use Rattle.bay_mms.specs.Responses.{names_text, page_text, flag_text, list_text}
 use Rattle.bay_mms.proofs.PutLemmas.{part_fault, around_over}
 
 -- What was written since a front, and what remains to be written, are the whole.
@@ -127,6 +129,56 @@ page_is id texts more =
     let a : length service ≡ element_length (element_length (length (names_text texts)) + 3) = length-element-is (constructed 1) (list ++ flag) ∙ ap element_length whole in
     let b : length number ≡ element_length (length (integer_octets (pos id))) = length-element-is int_tag (integer_octets (pos id)) in
     length-element-is (constructed 1) (number ++ service) ∙ ap element_length (length-append number service ∙ ap (λ (n : ℕ). n + length service) b ∙ ap (λ (n : ℕ). element_length (length (integer_octets (pos id))) + n) a)
+
+-- ---- a response around a list
+
+pub list_is : (id number tag : ℕ) (list : List ℕ) (flag : Option Bool) → length (list_text id number tag list flag) ≡ list_length id (length list) (length (flag_text flag))
+list_is id number tag list flag =
+    let name : List ℕ = element int_tag (integer_octets (pos id)) in
+    let inside : List ℕ = element (constructed tag) list ++ flag_text flag in
+    let service : List ℕ = element (constructed number) inside in
+    let whole : length inside ≡ element_length (length list) + length (flag_text flag) = length-append (element (constructed tag) list) (flag_text flag) ∙ ap (λ (n : ℕ). n + length (flag_text flag)) (length-element-is (constructed tag) list) in
+    let a : length service ≡ element_length (element_length (length list) + length (flag_text flag)) = length-element-is (constructed number) inside ∙ ap element_length whole in
+    let b : length name ≡ element_length (length (integer_octets (pos id))) = length-element-is int_tag (integer_octets (pos id)) in
+    length-element-is (constructed 1) (name ++ service) ∙ ap element_length (length-append name service ∙ ap (λ (n : ℕ). n + length service) b ∙ ap (λ (n : ℕ). element_length (length (integer_octets (pos id))) + n) a)
+
+-- what is written forward, heads first
+pub listed : (id number tag service response : ℕ) (list : List ℕ) (flag : Option Bool) (heads listing whole : List ℕ) → service ≡ element_length (length list) + length (flag_text flag)
+    → response ≡ element_length (length (integer_octets (pos id))) + element_length service
+    → heads ≡ header (constructed 1) response ++ (element int_tag (integer_octets (pos id)) ++ header (constructed number) service) → listing ≡ heads ++ element (constructed tag) list → whole ≡ listing ++ flag_text flag → whole ≡ list_text id number tag list flag
+listed id number tag service response list flag heads listing whole s r h l w =
+    let name : List ℕ = element int_tag (integer_octets (pos id)) in
+    let inside : List ℕ = element (constructed tag) list ++ flag_text flag in
+    let within : length inside ≡ service = length-append (element (constructed tag) list) (flag_text flag) ∙ ap (λ (n : ℕ). n + length (flag_text flag)) (length-element-is (constructed tag) list) ∙ sym s in
+    let content : length (name ++ element (constructed number) inside) ≡ response =
+    length-append name (element (constructed number) inside) ∙ ap (λ (n : ℕ). n + length (element (constructed number) inside)) (length-element-is int_tag (integer_octets (pos id)))
+    ∙ ap (λ (n : ℕ). element_length (length (integer_octets (pos id))) + n) (length-element-is (constructed number) inside ∙ ap element_length within) ∙ sym r in
+    let first : element (constructed number) inside ≡ header (constructed number) service ++ inside = element-header (constructed number) inside ∙ ap (λ (n : ℕ). header (constructed number) n ++ inside) within in
+    let all : list_text id number tag list flag ≡ header (constructed 1) response ++ (name ++ (header (constructed number) service ++ inside)) =
+    element-header (constructed 1) (name ++ element (constructed number) inside) ∙ ap (λ (n : ℕ). header (constructed 1) n ++ (name ++ element (constructed number) inside)) content
+    ∙ ap (λ (xs : List ℕ). header (constructed 1) response ++ (name ++ xs)) first in
+    w ∙ ap (λ (xs : List ℕ). xs ++ flag_text flag) (l ∙ ap (λ (xs : List ℕ). xs ++ element (constructed tag) list) h)
+    ∙ append_assoc (header (constructed 1) response ++ (name ++ header (constructed number) service)) (element (constructed tag) list) (flag_text flag)
+    ∙ append_assoc (header (constructed 1) response) (name ++ header (constructed number) service) inside
+    ∙ ap (λ (xs : List ℕ). header (constructed 1) response ++ xs) (append_assoc name (header (constructed number) service) inside) ∙ sym all
+
+-- a text that is short enough is written
+pub gives_text : (text : List ℕ) → length text < 4294967296 → written text ≡ Ok text
+gives_text text short = rw (lt-ltb (length text) 4294967296 short) refl
+
+not_written : (text : List ℕ) → 4294967296 ≤ length text → written text ≡ Err TooLong
+not_written text long = rw (le-ltb (length text) 4294967296 long) refl
+
+pub text_given : (text octets : List ℕ) → written text ≡ Ok octets → octets ≡ text
+text_given text octets is =
+    elim (cases_lt (length text) 4294967296) [
+      | inl short ↦ let e : Ok text ≡ Ok octets = sym (gives_text text short) ∙ is in cc
+      | inr long ↦ let e : Err TooLong ≡ Ok octets = sym (not_written text long) ∙ is in cc
+    ]
+
+pub never_long : (text : List ℕ) → length text < 4294967296 → (TooLong ≡ OutOfMemory) ⊎ (written text ≡ Err TooLong) → ⊥
+never_long text short (inl memory) = cc
+never_long text short (inr long) = let e : Ok text ≡ Err TooLong = sym (gives_text text short) ∙ long in cc
 
 -- a fault of a text that is not written
 pub gives_fault : (fault : WriteFault) (text : List ℕ) → IsFaultOf fault text → (fault ≡ OutOfMemory) ⊎ (written text ≡ Err fault)

@@ -60,6 +60,12 @@ abbrev pub reason_text : RejectReason → List ℕ
 reason_text reject.UnrecognizedService = element (context 1) (integer_octets (pos 1))
 reason_text reject.InvalidPdu = element (context 5) (integer_octets (pos 1))
 
+abbrev pub reject_text : Option ℕ → RejectReason → List ℕ
+reject_text id reason = element (constructed 4) (id_text id ++ reason_text reason)
+
+abbrev pub concluded_text : List ℕ
+concluded_text = element (context 12) []
+
 -- names, and whether more follow
 abbrev pub listing_text : List (List ℕ) → Bool → List ℕ
 listing_text names more = element (constructed 0) (names_text names) ++ element (context 1) (truth_octets more)
@@ -67,6 +73,19 @@ listing_text names more = element (constructed 0) (names_text names) ++ element 
 -- the response with a page of names
 abbrev pub page_text : ℕ → List (List ℕ) → Bool → List ℕ
 page_text id names more = confirmed id (element (constructed 1) (listing_text names more))
+
+-- ---- for the code
+
+-- a truth value behind a list, where there is one
+abbrev pub flag_text : Option Bool → List ℕ
+flag_text None = []
+flag_text (Some more) = element (context 1) (truth_octets more)
+
+-- the response of a service whose content is a list under a tag, and what follows it
+abbrev pub list_text : ℕ → ℕ → ℕ → List ℕ → Option Bool → List ℕ
+list_text id service list content flag = confirmed id (element (constructed service) (element (constructed list) content ++ flag_text flag))
+
+-- ----
 
 -- the number of a service's tag, and what stands under it
 abbrev pub service_number : Service → ℕ

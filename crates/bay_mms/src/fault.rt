@@ -82,7 +82,7 @@ impl ControlFault {
 
 /// Why a part of a request is not read, before its invoke id is known.
 #[derive(Clone, Copy)]
-pub enum Refusal {
+pub(crate) enum Refusal {
     /// It is badly spelled.
     Bad,
     /// It is spelled, and not served.

@@ -8,6 +8,7 @@
 #![tactic(auto)]
 
 mod access;
+mod confirmed;
 pub mod control;
 pub mod data;
 pub mod fault;

@@ -1,17 +1,17 @@
 // Pages of names, written straight from the tree (ISO 9506-2, GetNameList).
 ghost use Rattle.std.specs.Prelude.{Err, ◌≡◌, ◌^◌, ◌+◌, ◌<◌, ◌≤◌, ◌↔◌, ◌++◌, pos, IsTrue, IfOk, IfSome, length, take, nat_lt};
 ghost use Rattle.std.specs.Option.{option_copied};
+ghost use Rattle.bay_base.specs.Exact.{Gives};
 ghost use Rattle.bay_ber.specs.Writing.{element, integer_octets};
 ghost use Rattle.bay_tree.specs.Page.{rows_after, IsUnknown};
 ghost use Rattle.bay_tree.specs.Rows.{IsHandle, names_of};
 ghost use Rattle.bay_mms.specs.Pages.{page_count, first_page, names_from, page_length};
-ghost use Rattle.bay_mms.specs.Responses.{names_text, listing_text};
+ghost use Rattle.bay_mms.specs.Responses.{names_text};
 ghost use Rattle.bay_mms.specs.Tags.{visible_tag};
-ghost use Rattle.bay_mms.specs.Writing.{Adds, Appends};
+ghost use Rattle.bay_mms.specs.Writing.{written};
 
+use crate::confirmed::write_list;
 use crate::fault::WriteFault;
-use crate::put::{put_around, put_truth};
-use crate::response::{put_confirmed_around, put_id};
 use bay_ber::tag::Tag;
 use bay_ber::writer::{Writer, element_length, integer_length};
 use bay_tree::fault::NamesFault;
@@ -87,40 +87,21 @@ fn put_fitting(
     Ok(false)
 }
 
-// Writes a page, from a row on.
-fn put_page(
-    writer: &mut Writer,
+// The response with a page, from a row on.
+fn page_from(
+    alloc: Global,
     tree: &Tree,
     first: Option<Handle>,
     id: u32,
     size: u32,
-) -> Result<(), WriteFault>
+) -> Result<Vec<u8>, WriteFault>
     requires there { IfSome first (IsHandle tree.now) }
     requires size { size < 2 ^ 31 }
-    ensures { Appends writer.old result writer.new (first_page id size (names_from tree.now first)) }
+    ensures { Gives WriteFault.OutOfMemory (λ octets. octets.items) result (written (first_page id size (names_from tree.now first))) }
 {
-    let start = writer.len();
-    put_id(writer, id)?;
-    let inner = writer.len();
-    put_list(writer, tree, first, id, size)?;
-    put_confirmed_around(writer, start, inner, 1)
-}
-
-fn put_list(
-    writer: &mut Writer,
-    tree: &Tree,
-    first: Option<Handle>,
-    id: u32,
-    size: u32,
-) -> Result<(), WriteFault>
-    requires there { IfSome first (IsHandle tree.now) }
-    requires size { size < 2 ^ 31 }
-    ensures { let names = names_from tree.now first in let count = page_count id size names in Adds writer.old result writer.new (listing_text (take count names) (nat_lt count (length names))) }
-{
-    let start = writer.len();
-    let more = put_fitting(writer, tree, first, id, size)?;
-    put_around(writer, start, Tag::context_constructed(0))?;
-    put_truth(writer, 1, more)
+    let mut names = Writer::new(alloc);
+    let more = put_fitting(&mut names, tree, first, id, size)?;
+    write_list(alloc, id, 1, 0, names.finish().as_slice(), Some(more))
 }
 
 // The row behind the row of a name, or the first of all.
@@ -155,9 +136,8 @@ pub fn write_page(
     ensures short { IfOk result (λ octets. length octets.items ≤ size) }
 {
     let first = first_after(tree, after)?;
-    let mut writer = Writer::new(alloc);
-    match put_page(&mut writer, tree, first, id, size) {
-        Ok(()) => Ok(writer.finish()),
+    match page_from(alloc, tree, first, id, size) {
+        Ok(octets) => Ok(octets),
         Err(WriteFault::OutOfMemory) => Err(NamesFault::OutOfMemory),
         Err(WriteFault::TooLong) => unreachable!(),
     }

@@ -9,8 +9,8 @@ use bay_ber::content::Bits;
 use bay_ber::tag::Tag;
 use bay_ber::writer::Writer;
 
-// Contents of at most so many octets make values of less than 2^32.
-const CONTENT_MAX: usize = 4_294_967_289;
+/// Contents of at most so many octets make values of less than 2^32.
+pub(crate) const CONTENT_MAX: usize = 4_294_967_289;
 
 /// Writes octets under a tag.
 pub(crate) fn put_octets(writer: &mut Writer, tag: Tag, octets: &[u8]) -> Result<(), WriteFault>

@@ -6,7 +6,7 @@ ghost use Rattle.bay_tree.specs.Rows.{IsHandle};
 ghost use Rattle.bay_mms.specs.Tags.{context, constructed, int_tag};
 ghost use Rattle.bay_mms.specs.Types.{type_text};
 ghost use Rattle.bay_mms.specs.Nodes.{type_at};
-ghost use Rattle.bay_mms.specs.Responses.{nesting_text, parameters_text, services_text, limits_text, detail_text, agreed_text, confirmed, error_text, identity_text, names_text, class_text, id_text, reason_text, service_number, content_text, service_text, response_text, IsOfTree, IsAnswerable};
+ghost use Rattle.bay_mms.specs.Responses.{nesting_text, parameters_text, services_text, limits_text, detail_text, agreed_text, confirmed, error_text, identity_text, names_text, class_text, id_text, reason_text, reject_text, concluded_text, service_number, content_text, service_text, response_text, IsOfTree, IsAnswerable};
 ghost use Rattle.bay_mms.specs.Writing.{Adds, Appends, written};
 
 use crate::fault::WriteFault;
@@ -96,9 +96,9 @@ pub enum Response<'a> {
     },
 }
 
-/// Makes a confirmed response of what was written since a place: the invoke id, and from the second place on the content of
-/// the service of this number.
-pub(crate) fn put_confirmed_around(
+// Makes a confirmed response of what was written since a place: the invoke id, and from the second place on the content of
+// the service of this number.
+fn put_confirmed_around(
     writer: &mut Writer,
     start: usize,
     inner: usize,
@@ -229,7 +229,7 @@ fn put_error(writer: &mut Writer, id: u32, class: ErrorClass) -> Result<(), Writ
 }
 
 fn put_reject(writer: &mut Writer, id: Option<u32>, reason: RejectReason) -> Result<(), WriteFault>
-    ensures { Appends writer.old result writer.new (element (constructed 4) (id_text id ++ reason_text reason)) }
+    ensures { Appends writer.old result writer.new (reject_text id reason) }
 {
     let start = writer.len();
     if let Some(id) = id {
@@ -339,6 +339,48 @@ pub fn write_agreed(alloc: Global, agreed: Agreed) -> Result<Vec<u8>, AllocError
 {
     let mut writer = Writer::new(alloc);
     match put_agreed(&mut writer, agreed) {
+        Ok(()) => Ok(writer.finish()),
+        Err(WriteFault::OutOfMemory) => Err(AllocError),
+        Err(WriteFault::TooLong) => unreachable!(),
+    }
+}
+
+/// A confirmed error under an invoke id (ISO 9506-2, Confirmed-ErrorPDU), which has at most 60 octets.
+pub fn write_error(alloc: Global, id: u32, class: ErrorClass) -> Result<Vec<u8>, AllocError>
+    ensures text { IfOk result (λ octets. octets.items ≡ error_text id class) }
+    ensures few { IfOk result (λ octets. length octets.items ≤ 60) }
+{
+    let mut writer = Writer::new(alloc);
+    match put_error(&mut writer, id, class) {
+        Ok(()) => Ok(writer.finish()),
+        Err(WriteFault::OutOfMemory) => Err(AllocError),
+        Err(WriteFault::TooLong) => unreachable!(),
+    }
+}
+
+/// A reject, with the invoke id where it was read (ISO 9506-2, RejectPDU), which has at most 60 octets.
+pub fn write_reject(
+    alloc: Global,
+    id: Option<u32>,
+    reason: RejectReason,
+) -> Result<Vec<u8>, AllocError>
+    ensures text { IfOk result (λ octets. octets.items ≡ reject_text id reason) }
+    ensures few { IfOk result (λ octets. length octets.items ≤ 60) }
+{
+    let mut writer = Writer::new(alloc);
+    match put_reject(&mut writer, id, reason) {
+        Ok(()) => Ok(writer.finish()),
+        Err(WriteFault::OutOfMemory) => Err(AllocError),
+        Err(WriteFault::TooLong) => unreachable!(),
+    }
+}
+
+/// The answer to a conclude (ISO 9506-2, Conclude-ResponsePDU), which has two octets.
+pub fn write_conclude(alloc: Global) -> Result<Vec<u8>, AllocError>
+    ensures { IfOk result (λ octets. octets.items ≡ concluded_text) }
+{
+    let mut writer = Writer::new(alloc);
+    match put_octets(&mut writer, Tag::context(12), &[]) {
         Ok(()) => Ok(writer.finish()),
         Err(WriteFault::OutOfMemory) => Err(AllocError),
         Err(WriteFault::TooLong) => unreachable!(),

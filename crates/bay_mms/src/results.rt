@@ -9,6 +9,7 @@ ghost use Rattle.bay_mms.specs.Nodes.{data_at};
 ghost use Rattle.bay_mms.specs.Responses.{confirmed, text_result, failure_result, success_result, read_text, write_text};
 ghost use Rattle.bay_mms.specs.Writing.{Adds, Appends, written};
 
+use crate::confirmed::write_list;
 use crate::fault::WriteFault;
 use crate::put::{put_around, put_integer, put_octets};
 use crate::response::put_id;
@@ -93,9 +94,8 @@ impl ReadResponse {
     pub fn finish(self, id: u32) -> Result<Vec<u8>, WriteFault>
         ensures { Gives WriteFault.OutOfMemory (λ octets. octets.items) result (written (read_text id self)) }
     {
-        let ReadResponse { alloc, mut results } = self;
-        put_around(&mut results, 0, Tag::context_constructed(1))?;
-        write_service(alloc, id, 4, results.finish().as_slice())
+        let ReadResponse { alloc, results } = self;
+        write_list(alloc, id, 4, 1, results.finish().as_slice(), None)
     }
 }
 

@@ -1,8 +1,19 @@
-// The classes of the nodes of switches.
-ghost use Rattle.std.specs.Prelude.{◌≡◌};
-ghost use Rattle.bay_nodes.specs.Node.{is_breaker, is_of, class_of};
+// The classes of nodes (IEC 61850-7-4), and their names.
+ghost use Rattle.std.specs.Prelude.{◌≡◌, IfOk};
+ghost use Rattle.bay_nodes.specs.Node.{is_breaker, is_of, class_of, node_name};
 
 use crate::switch::{Switch, SwitchKind};
+use bay_base::text::Text;
+use std::alloc::{AllocError, Global};
+
+/// The class of a switch's control.
+pub const CONTROL: &str = "CSWI";
+
+/// The class of a switch's interlocking.
+pub const INTERLOCKING: &str = "CILO";
+
+/// The class of a meter.
+pub const METER: &str = "MMXU";
 
 /// Whether a switch is a circuit breaker.
 pub fn is_breaker(kind: SwitchKind) -> bool
@@ -30,4 +41,11 @@ pub fn class_of(kind: SwitchKind) -> &'static str
         SwitchKind::Breaker => "XCBR",
         SwitchKind::Disconnector | SwitchKind::Earthing => "XSWI",
     }
+}
+
+/// The name of a node: its class and its number.
+pub fn node_name(alloc: Global, class: &str, number: usize) -> Result<Text, AllocError>
+    ensures { IfOk result (λ name. name ≡ node_name class.now number) }
+{
+    Ok(Text::new(format!(in alloc; "{class}{number}")?))
 }

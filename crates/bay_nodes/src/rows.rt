@@ -6,7 +6,7 @@ ghost use Rattle.bay_nodes.specs.Node.{row, rows_of, node_rows, operation, cance
 ghost use Rattle.bay_nodes.specs.NodeRows.{leaf_from, line_row, under, table_rows, group_row, command_rows};
 
 use crate::nameplate::Nameplate;
-use crate::names::{class_of, is_of};
+use crate::names::{CONTROL, INTERLOCKING, METER, class_of, is_of, node_name};
 use crate::switch::{Control, Switch, SwitchKind};
 use crate::tables as tables;
 use crate::tables::InitialValue;
@@ -206,8 +206,7 @@ fn push_position(
 ) -> Result<(), AllocError>
     ensures { IfOk result (λ _. rows.new.items ≡ rows.old.items ++ node_rows (position_node (number, switch.now))) }
 {
-    let class = class_of(switch.kind);
-    let node = format!(in alloc; "{class}{number}")?;
+    let node = node_name(alloc, class_of(switch.kind), number)?;
     push_position_node(alloc, rows, nameplate, node.as_str(), switch.kind)?;
     Ok(())
 }
@@ -222,7 +221,7 @@ fn push_control(
 ) -> Result<(), AllocError>
     ensures { IfOk result (λ _. rows.new.items ≡ rows.old.items ++ node_rows (control_node (number, switch.now))) }
 {
-    let node = format!(in alloc; "CSWI{number}")?;
+    let node = node_name(alloc, CONTROL, number)?;
     push_control_node(alloc, rows, nameplate, node.as_str(), switch)?;
     Ok(())
 }
@@ -236,7 +235,7 @@ fn push_interlocking(
 ) -> Result<(), AllocError>
     ensures { IfOk result (λ _. rows.new.items ≡ rows.old.items ++ node_rows (record { name = node_name (codes "CILO") number; parts = interlocking_parts })) }
 {
-    let node = format!(in alloc; "CILO{number}")?;
+    let node = node_name(alloc, INTERLOCKING, number)?;
     push_node(
         alloc,
         rows,
@@ -256,7 +255,7 @@ fn push_meter(
 ) -> Result<(), AllocError>
     ensures { IfOk result (λ _. rows.new.items ≡ rows.old.items ++ node_rows (record { name = node_name (codes "MMXU") number; parts = meter_parts })) }
 {
-    let node = format!(in alloc; "MMXU{number}")?;
+    let node = node_name(alloc, METER, number)?;
     push_node(alloc, rows, nameplate, node.as_str(), tables::meter_table())?;
     Ok(())
 }

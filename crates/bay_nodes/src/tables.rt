@@ -5,6 +5,7 @@ ghost use Rattle.bay_nodes.specs.Node as node;
 ghost use Rattle.bay_nodes.specs.NodeRows.{line_row, status_group, type_rows, position_model, group_row, select_row, control_group, control_model};
 ghost use Rattle.bay_nodes.specs.declared.nameplate.Nameplate.{Nameplate};
 
+use crate::paths as paths;
 use crate::switch::{Control, SwitchKind};
 
 /// What a row begins with.
@@ -97,10 +98,10 @@ pub fn position_table() -> &'static [(&'static str, InitialValue)]
 {
     &[
         ("$ST", Structure),
-        ("$ST$Pos", Structure),
-        ("$ST$Pos$stVal", Intermediate),
-        ("$ST$Pos$q", Invalid),
-        ("$ST$Pos$t", Moment),
+        (paths::POSITION.object, Structure),
+        (paths::POSITION.value, Intermediate),
+        (paths::POSITION.quality, Invalid),
+        (paths::POSITION.time, Moment),
         ("$ST$BlkOpn", Structure),
         ("$ST$BlkOpn$stVal", False),
         ("$ST$BlkOpn$q", Good),
@@ -109,10 +110,10 @@ pub fn position_table() -> &'static [(&'static str, InitialValue)]
         ("$ST$BlkCls$stVal", False),
         ("$ST$BlkCls$q", Good),
         ("$ST$BlkCls$t", Moment),
-        ("$ST$OpCnt", Structure),
-        ("$ST$OpCnt$stVal", Int32),
-        ("$ST$OpCnt$q", Good),
-        ("$ST$OpCnt$t", Moment),
+        (paths::OPERATIONS.object, Structure),
+        (paths::OPERATIONS.value, Int32),
+        (paths::OPERATIONS.quality, Good),
+        (paths::OPERATIONS.time, Moment),
     ]
 }
 
@@ -154,11 +155,11 @@ pub fn control_table() -> &'static [(&'static str, InitialValue)]
 {
     &[
         ("$ST", Structure),
-        ("$ST$Pos", Structure),
-        ("$ST$Pos$stVal", Intermediate),
-        ("$ST$Pos$q", Invalid),
-        ("$ST$Pos$t", Moment),
-        ("$ST$Pos$stSeld", False),
+        (paths::POSITION.object, Structure),
+        (paths::POSITION.value, Intermediate),
+        (paths::POSITION.quality, Invalid),
+        (paths::POSITION.time, Moment),
+        (paths::SELECTED, False),
     ]
 }
 
@@ -173,7 +174,7 @@ pub fn group_table() -> &'static [(&'static str, InitialValue)]
 pub fn select_table() -> &'static [(&'static str, InitialValue)]
     ensures { (n : Nameplate) → map (line_row n) result.now ≡ select_row }
 {
-    &[("$CO$Pos$SBO", Reference)]
+    &[(paths::SELECT, Reference)]
 }
 
 /// The rows by which a switch is selected with a value.
@@ -181,7 +182,7 @@ pub fn select_with_value_table() -> &'static [(&'static str, InitialValue)]
     ensures { (n : Nameplate) → map (line_row n) result.now ≡ node.rows_of (codes "$CO$Pos") (node.operation (codes "SBOw")) }
 {
     &[
-        ("$CO$Pos$SBOw", Structure),
+        (paths::SELECT_WITH_VALUE, Structure),
         ("$CO$Pos$SBOw$ctlVal", False),
         ("$CO$Pos$SBOw$origin", Structure),
         ("$CO$Pos$SBOw$origin$orCat", Int8(0)),
@@ -198,7 +199,7 @@ pub fn operate_table() -> &'static [(&'static str, InitialValue)]
     ensures { (n : Nameplate) → map (line_row n) result.now ≡ node.rows_of (codes "$CO$Pos") (node.operation (codes "Oper")) }
 {
     &[
-        ("$CO$Pos$Oper", Structure),
+        (paths::OPERATE, Structure),
         ("$CO$Pos$Oper$ctlVal", False),
         ("$CO$Pos$Oper$origin", Structure),
         ("$CO$Pos$Oper$origin$orCat", Int8(0)),
@@ -215,7 +216,7 @@ pub fn cancel_table() -> &'static [(&'static str, InitialValue)]
     ensures { (n : Nameplate) → map (line_row n) result.now ≡ node.rows_of (codes "$CO$Pos") node.cancelling }
 {
     &[
-        ("$CO$Pos$Cancel", Structure),
+        (paths::CANCEL, Structure),
         ("$CO$Pos$Cancel$ctlVal", False),
         ("$CO$Pos$Cancel$origin", Structure),
         ("$CO$Pos$Cancel$origin$orCat", Int8(0)),
@@ -260,14 +261,14 @@ pub fn interlocking_table() -> &'static [(&'static str, InitialValue)]
 {
     &[
         ("$ST", Structure),
-        ("$ST$EnaOpn", Structure),
-        ("$ST$EnaOpn$stVal", False),
-        ("$ST$EnaOpn$q", Invalid),
-        ("$ST$EnaOpn$t", Moment),
-        ("$ST$EnaCls", Structure),
-        ("$ST$EnaCls$stVal", False),
-        ("$ST$EnaCls$q", Invalid),
-        ("$ST$EnaCls$t", Moment),
+        (paths::OPENING.object, Structure),
+        (paths::OPENING.value, False),
+        (paths::OPENING.quality, Invalid),
+        (paths::OPENING.time, Moment),
+        (paths::CLOSING.object, Structure),
+        (paths::CLOSING.value, False),
+        (paths::CLOSING.quality, Invalid),
+        (paths::CLOSING.time, Moment),
     ]
 }
 
@@ -277,39 +278,39 @@ pub fn meter_table() -> &'static [(&'static str, InitialValue)]
 {
     &[
         ("$MX", Structure),
-        ("$MX$TotW", Structure),
+        (paths::ACTIVE_POWER.object, Structure),
         ("$MX$TotW$mag", Structure),
-        ("$MX$TotW$mag$i", Int32),
-        ("$MX$TotW$q", Invalid),
-        ("$MX$TotW$t", Moment),
-        ("$MX$TotVAr", Structure),
+        (paths::ACTIVE_POWER.value, Int32),
+        (paths::ACTIVE_POWER.quality, Invalid),
+        (paths::ACTIVE_POWER.time, Moment),
+        (paths::REACTIVE_POWER.object, Structure),
         ("$MX$TotVAr$mag", Structure),
-        ("$MX$TotVAr$mag$i", Int32),
-        ("$MX$TotVAr$q", Invalid),
-        ("$MX$TotVAr$t", Moment),
-        ("$MX$Hz", Structure),
+        (paths::REACTIVE_POWER.value, Int32),
+        (paths::REACTIVE_POWER.quality, Invalid),
+        (paths::REACTIVE_POWER.time, Moment),
+        (paths::FREQUENCY.object, Structure),
         ("$MX$Hz$mag", Structure),
-        ("$MX$Hz$mag$i", Int32),
-        ("$MX$Hz$q", Invalid),
-        ("$MX$Hz$t", Moment),
+        (paths::FREQUENCY.value, Int32),
+        (paths::FREQUENCY.quality, Invalid),
+        (paths::FREQUENCY.time, Moment),
         ("$MX$A", Structure),
-        ("$MX$A$phsA", Structure),
+        (paths::PHASE_A.object, Structure),
         ("$MX$A$phsA$cVal", Structure),
         ("$MX$A$phsA$cVal$mag", Structure),
-        ("$MX$A$phsA$cVal$mag$i", Int32),
-        ("$MX$A$phsA$q", Invalid),
-        ("$MX$A$phsA$t", Moment),
-        ("$MX$A$phsB", Structure),
+        (paths::PHASE_A.value, Int32),
+        (paths::PHASE_A.quality, Invalid),
+        (paths::PHASE_A.time, Moment),
+        (paths::PHASE_B.object, Structure),
         ("$MX$A$phsB$cVal", Structure),
         ("$MX$A$phsB$cVal$mag", Structure),
-        ("$MX$A$phsB$cVal$mag$i", Int32),
-        ("$MX$A$phsB$q", Invalid),
-        ("$MX$A$phsB$t", Moment),
-        ("$MX$A$phsC", Structure),
+        (paths::PHASE_B.value, Int32),
+        (paths::PHASE_B.quality, Invalid),
+        (paths::PHASE_B.time, Moment),
+        (paths::PHASE_C.object, Structure),
         ("$MX$A$phsC$cVal", Structure),
         ("$MX$A$phsC$cVal$mag", Structure),
-        ("$MX$A$phsC$cVal$mag$i", Int32),
-        ("$MX$A$phsC$q", Invalid),
-        ("$MX$A$phsC$t", Moment),
+        (paths::PHASE_C.value, Int32),
+        (paths::PHASE_C.quality, Invalid),
+        (paths::PHASE_C.time, Moment),
     ]
 }

@@ -5,7 +5,7 @@ use Rattle.bay_config.specs.declared.bay.Bay.{Bay}
 use Rattle.bay_config.specs.declared.bay.Source.{Source}
 use Rattle.bay_nodes.specs.declared.switch.Switch.{Switch}
 use Rattle.bay_process.specs.Layout.{Layout, switches_of, outputs_at, bound_from, AreBound}
-use Rattle.bay_process.specs.Names.{switch_names, names_by_nodes, node_of, control_of}
+use Rattle.bay_nodes.specs.Names.{switch_names, names_by_nodes, node_of, control_of}
 use Rattle.bay_process.specs.Nodes.{AreAllNodes, AreAllRows}
 use Rattle.bay_process.specs.declared.nodes.Nodes.{Nodes}
 use Rattle.bay_process.specs.declared.rows.SwitchRows.{SwitchRows}

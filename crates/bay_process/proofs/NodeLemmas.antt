@@ -1,5 +1,5 @@
 -- The rows that a bay has for its switches and meters, and the handles of their names.
-use Rattle.std.proofs.Common.{◌≡◌, ◌≢◌, ℕ, Bool, true, false, cond, zero, suc, List, [], ◌∷◌, ◌++◌, length, find, slice_get, slice_index_or, Option, Some, None, option_map, option_and_then, codes, Contains, refl, ap, sym, ◌∙◌, subst, arith, ⊎_elim, All, Err}
+use Rattle.std.proofs.Common.{◌≡◌, ◌≢◌, ℕ, Bool, true, false, cond, zero, suc, ◌<◌, List, [], ◌∷◌, ◌++◌, length, find, slice_get, slice_index_or, Option, Some, None, option_map, option_and_then, Contains, refl, ap, sym, ◌∙◌, subst, arith, ⊎_elim, All, Err}
 use Rattle.std.specs.Option.{ok_or}
 use Rattle.std.specs.Str.{bytes_eq}
 use Rattle.std.proofs.lemmas.List.{get_or_default}
@@ -9,18 +9,19 @@ use Rattle.bay_tree.specs.declared.leaf.Leaf.{Leaf}
 use Rattle.bay_tree.specs.declared.leaf.Kind.{Kind}
 use Rattle.bay_tree.specs.declared.leaf.Kind.TheVariants as kinds
 use Rattle.bay_tree.specs.Kinds.{kind_of}
-use Rattle.bay_tree.specs.Rows.{IsTree, row_at, name_at, leaf_of, kind_at, kinds_of}
+use Rattle.bay_tree.specs.Rows.{IsTree, place_of, row_at, name_at, leaf_of, kind_at, kinds_of}
 use Rattle.bay_tree.specs.declared.leaf.Leaf.TheVariants as leaf
-use Rattle.bay_tree.specs.declared.leaf.Quality.TheVariants.{Good}
-use Rattle.bay_tree.proofs.NamedLemmas.{leaf-named}
-use Rattle.bay_nodes.specs.Node.{row, position_parts}
-use Rattle.bay_nodes.specs.declared.switch.SwitchKind.{SwitchKind}
-use Rattle.bay_nodes.specs.declared.switch.SwitchKind.TheVariants.{Breaker, Disconnector, Earthing}
-use Rattle.bay_config.specs.Laws.{IsBay, HasNode, HasPosition, HasControl, HasEnable, HasMeasured, HasMeter, NamesMeter}
+use Rattle.bay_tree.specs.declared.leaf.Quality.{Quality as Validity}
+use Rattle.bay_tree.proofs.NamedLemmas.{leaf-named, found-leaf}
+use Rattle.bay_tree.proofs.SearchLemmas.{place_of-found, place_of-none, place_of-stays}
+use Rattle.bay_nodes.specs.Node.{row}
+use Rattle.bay_config.specs.Laws.{IsBay, HasValue, HasPosition, HasControl, HasEnable, HasMeter, NamesMeter}
 use Rattle.bay_config.specs.declared.bay.Bay.{Bay}
 use Rattle.bay_process.specs.Layout.{Layout, layout_of, name_in, status_in, HasKind, AreStatusRows, AreMetersBound, IsMeterBound}
-use Rattle.bay_process.specs.Names.{StatusNames, SwitchNames, names_by_nodes, measured_names, MeterNames, meter_names_of}
+use Rattle.bay_nodes.specs.Names.{StatusNames, SwitchNames, opening_names, closing_names, names_by_nodes, ControlNames, control_names, control_names_of, MeterNames, meter_names_of}
+use Rattle.bay_process.specs.Controls.{HaveSelected, AreControlRows, AreAllControlRows}
 use Rattle.bay_process.specs.Nodes.{AreNodesOf, AreAllNodes, nodes_names, HasLeaf, HasStatus, HasSwitch, HasSwitches, AreThere, IsFound, AreFound, AreRowsOf, AreAllRows, AreAllMeters, HasMeterLeaves, IsMeterThere, HaveMeters, AreMeterRowsOf}
+use Rattle.bay_process.specs.declared.controls.ControlRows.{ControlRows}
 use Rattle.bay_process.specs.declared.meter.BoundMeter.{BoundMeter}
 use Rattle.bay_process.specs.declared.meter.MeterRows.{MeterRows}
 use Rattle.bay_process.specs.declared.nodes.Nodes.{Nodes}
@@ -37,19 +38,21 @@ contains-leaf rows name value tree w =
 has-leaf : (rows : List Row) (name : List ℕ) (value : Leaf) → IsTree rows → Contains rows (row name (Some value)) → HasLeaf rows name (kind_of value)
 has-leaf rows name value tree w = ap (option_map kind_of) (contains-leaf rows name value tree w)
 
-count-quality : (bay : Bay) (name : List ℕ) (kind : SwitchKind) → HasNode bay (record { name = name; parts = position_parts kind }) → Contains bay.rows (row (name ++ codes "$ST$OpCnt$q") (Some (leaf.Quality Good)))
-count-quality bay name Breaker h = h 16 (row name None) (omega arith)
-count-quality bay name Disconnector h = h 16 (row name None) (omega arith)
-count-quality bay name Earthing h = h 16 (row name None) (omega arith)
+has-value : (rows : List Row) (names : StatusNames) (value : Leaf) (quality : Validity) → IsTree rows → HasValue rows names value quality → HasStatus rows names (kind_of value)
+has-value rows names value quality tree h = record {
+  value_leaf = has-leaf rows names.value value tree h.value_there;
+  quality_leaf = has-leaf rows names.quality (leaf.Quality quality) tree h.quality_there;
+  time_leaf = has-leaf rows names.time (leaf.Utc 0) tree h.moment_there;
+}
 
-has-switch : (rows : List Row) (node control interlocking : List ℕ) → IsTree rows → HasPosition rows node → Contains rows (row (node ++ codes "$ST$OpCnt$q") (Some (leaf.Quality Good))) → HasControl rows control
-    → HasEnable rows interlocking (codes "$ST$EnaOpn") → HasEnable rows interlocking (codes "$ST$EnaCls") → HasSwitch rows (names_by_nodes node control interlocking)
-has-switch rows node control interlocking tree p q d o c = record {
-  position = record { value_leaf = has-leaf rows _ _ tree p.position; quality_leaf = has-leaf rows _ _ tree p.quality; time_leaf = has-leaf rows _ _ tree p.moment };
-  control = record { value_leaf = has-leaf rows _ _ tree d.position; quality_leaf = has-leaf rows _ _ tree d.quality; time_leaf = has-leaf rows _ _ tree d.moment };
-  operations = record { value_leaf = has-leaf rows _ _ tree p.count; quality_leaf = has-leaf rows _ _ tree q; time_leaf = has-leaf rows _ _ tree p.count_moment };
-  ena_opn = record { value_leaf = has-leaf rows _ _ tree o.value; quality_leaf = has-leaf rows _ _ tree o.quality; time_leaf = has-leaf rows _ _ tree o.moment };
-  ena_cls = record { value_leaf = has-leaf rows _ _ tree c.value; quality_leaf = has-leaf rows _ _ tree c.quality; time_leaf = has-leaf rows _ _ tree c.moment };
+has-switch : (rows : List Row) (node control interlocking : List ℕ) → IsTree rows → HasPosition rows node → HasControl rows control → HasEnable rows (opening_names interlocking) → HasEnable rows (closing_names interlocking)
+    → HasSwitch rows (names_by_nodes node control interlocking)
+has-switch rows node control interlocking tree p d o c = record {
+  position = has-value rows _ _ _ tree p.position;
+  control = has-value rows _ _ _ tree d.position;
+  operations = has-value rows _ _ _ tree p.operations;
+  ena_opn = has-value rows _ _ _ tree o;
+  ena_cls = has-value rows _ _ _ tree c;
 }
 
 pub has-switches : (bay : Bay) (nodes : List Nodes) → IsBay bay → AreAllNodes bay nodes → HasSwitches bay.rows nodes
@@ -58,25 +61,34 @@ has-switches bay nodes is_bay all k n hn =
     let p = own.position_named in
     let d = own.control_named in
     let i = own.interlocking_named in
-    has-switch bay.rows n.position n.control n.interlocking is_bay.tree (p.rows is_bay) (count-quality bay n.position p.switch.kind (p.node is_bay)) (d.rows is_bay) (i.open_rows is_bay) (i.close_rows is_bay)
+    has-switch bay.rows n.position n.control n.interlocking is_bay.tree (p.rows is_bay) (d.rows is_bay) (i.open_rows is_bay) (i.close_rows is_bay)
 
-has-measured : (rows : List Row) (node object number : List ℕ) → IsTree rows → HasMeasured rows node object number → HasStatus rows (measured_names node object number) kinds.Int32
-has-measured rows node object number tree m = record { value_leaf = has-leaf rows _ _ tree m.value; quality_leaf = has-leaf rows _ _ tree m.quality; time_leaf = has-leaf rows _ _ tree m.moment }
-
-has-meter : (rows : List Row) (node : List ℕ) → IsTree rows → HasMeter rows node → HasMeterLeaves rows (meter_names_of node)
-has-meter rows node tree m = record {
-  tot_w = has-measured rows node _ _ tree m.tot_w;
-  tot_var = has-measured rows node _ _ tree m.tot_var;
-  hz = has-measured rows node _ _ tree m.hz;
-  phase_a = has-measured rows node _ _ tree m.phase_a;
-  phase_b = has-measured rows node _ _ tree m.phase_b;
-  phase_c = has-measured rows node _ _ tree m.phase_c;
+has-meter : (rows : List Row) (names : MeterNames) → IsTree rows → HasMeter rows names → HasMeterLeaves rows names
+has-meter rows names tree m = record {
+  tot_w = has-value rows _ _ _ tree m.tot_w;
+  tot_var = has-value rows _ _ _ tree m.tot_var;
+  hz = has-value rows _ _ _ tree m.hz;
+  phase_a = has-value rows _ _ _ tree m.phase_a;
+  phase_b = has-value rows _ _ _ tree m.phase_b;
+  phase_c = has-value rows _ _ _ tree m.phase_c;
 }
+
+-- each control tells whether its switch is selected
+pub have-selected : (bay : Bay) (nodes : List Nodes) → IsBay bay → AreAllNodes bay nodes → HaveSelected bay.rows (length nodes)
+have-selected bay nodes is_bay all k lt =
+    let n = got nodes k lt in
+    let own = (all k n.0 n.1).control_named in
+    has-leaf bay.rows _ (leaf.Truth false) is_bay.tree (subst (λ m. Contains bay.rows (row (control_names_of m).selected (Some (leaf.Truth false)))) own.named (own.rows is_bay).selected)
+  where
+    got : (nodes : List Nodes) (k : ℕ) → k < length nodes → (n : Nodes) × (slice_get nodes k ≡ Some n)
+    got [] k lt = absurd (omega arith)
+    got (n ∷ nodes) zero lt = (n, refl)
+    got (n ∷ nodes) (suc k) lt = got nodes k (omega arith)
 
 pub have-meters : (bay : Bay) (nodes : List (List ℕ)) → IsBay bay → AreAllMeters bay nodes → HaveMeters bay.rows nodes
 have-meters bay nodes is_bay all k n hn =
     let own = all k n hn in
-    record { named = own.named; leaves = has-meter bay.rows n is_bay.tree (own.rows is_bay) }
+    record { named = own.named; leaves = has-meter bay.rows (meter_names_of n) is_bay.tree (own.rows is_bay) }
 
 -- a name that has a value is found
 there : (rows : List Row) (name : List ℕ) (kind : Kind) → HasLeaf rows name kind → leaf_of name rows ≢ None
@@ -203,3 +215,30 @@ rows-snoc layout nodes rows n r all here own k m q hm hq =
     let there : Some n ≡ Some m = sym here ∙ ap (slice_get nodes) (sym last.0) ∙ hm in
     let same : n ≡ m = cc in
     subst (AreRowsOf layout (nodes_names m)) last.1 (subst (λ (x : Nodes). AreRowsOf layout (nodes_names x) r) same own)) (get-snoc rows r k q hq)
+
+-- one control more
+pub controls-snoc : (rows : List Row) (controls : List ControlRows) (handles : ControlRows) → AreAllControlRows rows controls → AreControlRows rows (control_names (length controls)) handles → AreAllControlRows rows (controls ++ handles ∷ [])
+controls-snoc rows controls handles all own k r h =
+    ⊎_elim (λ (l : slice_get controls k ≡ Some r). all k r l)
+    (λ (last : (k ≡ length controls) × (handles ≡ r)). subst (λ j. AreControlRows rows (control_names j) r) (sym last.0) (subst (AreControlRows rows (control_names (length controls))) last.1 own)) (get-snoc controls handles k r h)
+
+-- what no place is found for has no value
+pub selected-kind : (rows : List Row) (name : List ℕ) (handle : ℕ) → HasLeaf rows name kinds.Truth → place_of rows name ≡ Some handle → HasKind (layout_of rows) handle kinds.Truth
+selected-kind rows name handle has at =
+    found-kind rows name kinds.Truth handle has (record { named = (place_of-found rows name handle at).1; value = found-leaf name rows handle at })
+
+pub not-lacking : (rows : List Row) (name : List ℕ) → HasLeaf rows name kinds.Truth → place_of rows name ≡ None → ⊥
+not-lacking rows name has none = there rows name kinds.Truth has (lacking-leaf rows name (place_of-none rows name none))
+
+-- where a control's rows are follows from the names
+pub control-rows-stay : (before after : List Row) (names : ControlNames) (handles : ControlRows) → layout_of before ≡ layout_of after → AreControlRows before names handles → AreControlRows after names handles
+control-rows-stay before after names handles same own =
+    let stays = λ (name : List ℕ). place_of-stays before after name (ap (λ (l : Layout). l.names) same) in
+    record {
+      selected = sym (stays names.selected) ∙ own.selected;
+      selected_kind = subst (λ l. HasKind l handles.selected kinds.Truth) same own.selected_kind;
+      select = own.select ∙ stays names.select;
+      select_with_value = own.select_with_value ∙ stays names.select_with_value;
+      operate = own.operate ∙ stays names.operate;
+      cancel = own.cancel ∙ stays names.cancel;
+    }

@@ -2,7 +2,7 @@
 use Rattle.std.proofs.Common.{◌≡◌, ℕ, ◌+◌, ◌&&◌, ◌||◌, Bool, true, false, not, cond, List, [], ◌∷◌, ◌++◌, map, find, Option, Some, option_map, refl, sym, ap, ◌∙◌}
 use Rattle.std.specs.Bool.{beq}
 use Rattle.std.specs.List.{cons_option, list_any}
-use Rattle.std.specs.Str.{bytes_eq}
+use Rattle.bay_base.specs.Names.{same_name}
 use Rattle.bay_base.specs.Types.{same_type}
 use Rattle.bay_base.specs.declared.types.ElementaryType.{ElementaryType}
 use Rattle.bay_config.specs.Point.{inputs_from, meters_from, points_from, points_of_all}
@@ -67,7 +67,7 @@ second true b e = e
 second false b e = absurd cc
 
 kind-is : (p : ImagePoint) (q : Point) → is_point p q ≡ true → p.elementary ≡ q.kind
-kind-is p q e = same_is p.elementary q.kind (first (same_type p.elementary q.kind) _ (second (bytes_eq p.name q.name) _ e))
+kind-is p q e = same_is p.elementary q.kind (first (same_type p.elementary q.kind) _ (second (same_name p.name q.name) _ e))
 
 -- the points that may only be read stand for what has their types
 module _ (bay : List Point) (typed : Each IsTyped bay) where

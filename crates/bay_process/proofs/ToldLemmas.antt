@@ -24,7 +24,8 @@ use Rattle.bay_nodes.specs.declared.switch.Switch.{Switch}
 use Rattle.bay_nodes.specs.declared.switch.SwitchKind.{SwitchKind}
 use Rattle.bay_nodes.specs.declared.switch.SwitchKind.TheVariants.{Breaker, Disconnector, Earthing}
 use Rattle.bay_process.specs.Values.{is_truth, is_quality, same_truth, with_status, with_enabled, with_output, counted, operation_counted, is_operation, tells, position_quality, rows_after_change, rows_after_contact, tells_measure, rows_after_measure}
-use Rattle.bay_process.specs.Names.{StatusNames, SwitchNames, switch_names, node_of, field_names, meter_names, interlocking_of, opening_of, closing_of}
+use Rattle.bay_nodes.specs.Names.{StatusNames, SwitchNames, switch_names, node_of, meter_names, interlocking_of, opening_of, closing_of}
+use Rattle.bay_process.specs.Names.{field_names}
 use Rattle.bay_process.specs.declared.switch.Enabled.{Enabled}
 use Rattle.bay_process.specs.Told.{AreValued, Stands, IsTold, AreTold, told_at}
 

@@ -5,7 +5,7 @@ use Rattle.bay_tree.specs.declared.row.Row.{Row}
 use Rattle.bay_tree.specs.declared.leaf.Kind.{Kind}
 use Rattle.bay_tree.specs.declared.leaf.Kind.TheVariants as kind
 use Rattle.bay_nodes.specs.declared.switch.Switch.{Switch}
-use Rattle.bay_process.specs.Names.{StatusNames, SwitchNames, switch_names, MeterNames, meter_names}
+use Rattle.bay_nodes.specs.Names.{StatusNames, SwitchNames, switch_names, MeterNames, meter_names}
 use Rattle.bay_process.specs.declared.switch.SwitchOutputs.{SwitchOutputs}
 use Rattle.bay_config.specs.declared.bay.SwitchPoint.TheVariants.{EnableOpen, EnableClose}
 use Rattle.bay_process.specs.Values.{is_point}

@@ -1,3 +1,4 @@
+pub mod Controls
 pub mod Layout
 pub mod Names
 pub mod Nodes

@@ -9,7 +9,7 @@ use Rattle.bay_config.specs.declared.bay.Bay.{Bay}
 use Rattle.bay_nodes.specs.Node.{node_name}
 use Rattle.bay_config.specs.Laws.{NamesPosition, NamesControl, NamesInterlocking, NamesMeter}
 use Rattle.bay_process.specs.Layout.{Layout, switch_in, AreSwitchRows, meter_in, AreMeterRows}
-use Rattle.bay_process.specs.Names.{StatusNames, SwitchNames, names_by_nodes, MeterNames, meter_names_of}
+use Rattle.bay_nodes.specs.Names.{StatusNames, SwitchNames, names_by_nodes, MeterNames, meter_names_of}
 use Rattle.bay_process.specs.declared.meter.MeterRows.{MeterRows}
 use Rattle.bay_process.specs.declared.nodes.Nodes.{Nodes}
 use Rattle.bay_process.specs.declared.rows.StatusRows.{StatusRows}

@@ -5,7 +5,7 @@ use Rattle.bay_tree.specs.declared.leaf.Leaf.TheVariants as leaf
 use Rattle.bay_tree.specs.declared.leaf.Quality.TheVariants.{Good}
 use Rattle.bay_tree.specs.declared.row.Row.{Row}
 use Rattle.bay_process.specs.Layout.{Layout, status_in, AreSwitchRows}
-use Rattle.bay_process.specs.Names.{StatusNames, opening_of, closing_of}
+use Rattle.bay_nodes.specs.Names.{StatusNames, opening_of, closing_of}
 use Rattle.bay_process.specs.declared.rows.SwitchRows.{SwitchRows}
 use Rattle.bay_process.specs.declared.switch.BoundSwitch.{BoundSwitch}
 use Rattle.bay_process.specs.declared.switch.Enabled.{Enabled}

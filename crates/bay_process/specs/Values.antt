@@ -19,7 +19,8 @@ use Rattle.bay_config.specs.declared.bay.SwitchPoint.TheVariants.{Position, Open
 use Rattle.il_image.specs.declared.value.Value.{Value}
 use Rattle.il_image.specs.declared.value.Value.TheVariants.{Truth, Short}
 use Rattle.il_scan.specs.Places.{is_true}
-use Rattle.bay_process.specs.Names.{StatusNames, SwitchNames, switch_names, meter_names, field_names}
+use Rattle.bay_nodes.specs.Names.{StatusNames, SwitchNames, switch_names, meter_names}
+use Rattle.bay_process.specs.Names.{field_names}
 
 -- a status value, its quality and its moment
 abbrev pub with_status : StatusNames → Leaf → Quality → ℕ → List Row → List Row

@@ -8,6 +8,7 @@ ghost use Rattle.bay_process.specs.Sources.{source_of, sources_of};
 use crate::rows::SwitchRows;
 use crate::switch::{BoundSwitch, SwitchOutputs};
 use crate::values::{ToldValues, Truths};
+use bay_base::names::same_name;
 use bay_base::text::Text;
 use bay_config::bay::{Point, Source, Switch, SwitchPoint};
 use il_image::image::ImagePoint;
@@ -17,7 +18,7 @@ use std::alloc::{AllocError, Global};
 fn is_same(point: &ImagePoint, other: &Point) -> bool
     ensures { result ≡ is_image_point point.now other.now }
 {
-    point.name.as_str() == other.name.as_str()
+    same_name(point.name.as_str(), other.name.as_str())
         && point.elementary == other.kind
         && point.writable == other.writable
 }

@@ -3,13 +3,14 @@
 //
 // `rows` (the handles of a switch's rows, and what is read and written at them), `switch` and `meter` (a switch and a meter with their
 // rows), `values` (truth values in a list, and what the last scan told). `contact` and `meter` take a position and a measured value,
-// and `scan` gives a machine its inputs and writes its outputs. `nodes` and `meters` find rows by the names of logical nodes, `bind` finds
+// and `scan` gives a machine its inputs and writes its outputs. `nodes`, `meters` and `controls` find rows by the names of logical nodes, `bind` finds
 // what the points of a verified image stand for in the bay, and `parts` puts these together. All but what makes these parts takes no
 // memory.
 #![tactic(auto)]
 
 pub mod bind;
 pub mod contact;
+pub mod controls;
 pub mod meter;
 pub mod meters;
 pub mod nodes;

@@ -1,15 +1,15 @@
 // Where the values of a bay's meters stand in its tree.
 ghost use Rattle.std.specs.Prelude.{◌≡◌, length, map, IfOk};
 ghost use Rattle.bay_process.specs.Layout.{layout_of, AreMetersBound};
-ghost use Rattle.bay_process.specs.Names.{measured_names, meter_names_of};
-ghost use Rattle.bay_process.specs.Nodes.{AreThere, AreFound, AreAllMeters, AreMeterRowsOf, HasMeterLeaves, HaveMeters};
+ghost use Rattle.bay_nodes.specs.Names.{meter_names_of};
+ghost use Rattle.bay_process.specs.Nodes.{AreAllMeters, AreMeterRowsOf, HasMeterLeaves, HaveMeters};
 
 use crate::meter::{BoundMeter, MeterRows};
-use crate::nodes::handle_of;
-use crate::rows::StatusRows;
+use crate::nodes::status_rows;
 use bay_base::text::Text;
 use bay_config::bay::Bay;
 use bay_config::nodes::meter_name;
+use bay_nodes::paths::{ACTIVE_POWER, FREQUENCY, PHASE_A, PHASE_B, PHASE_C, REACTIVE_POWER};
 use bay_tree::tree::Tree;
 use std::alloc::{AllocError, Global};
 
@@ -26,41 +26,17 @@ pub fn all_meter_nodes(alloc: Global, bay: &Bay) -> Result<Vec<Text>, AllocError
     Ok(all)
 }
 
-/// The rows of a measured value: its number, its quality and its moment.
-fn measured_rows(
-    alloc: Global,
-    tree: &Tree,
-    node: &str,
-    object: &str,
-    number: &str,
-) -> Result<StatusRows, AllocError>
-    requires { AreThere tree.now (measured_names node.now object.now number.now) }
-    ensures { IfOk result (AreFound tree.now (measured_names node.now object.now number.now)) }
-{
-    let name = format!(in alloc; "{node}{object}{number}")?;
-    let value = handle_of(tree, name.as_str());
-    let name = format!(in alloc; "{node}{object}$q")?;
-    let quality = handle_of(tree, name.as_str());
-    let name = format!(in alloc; "{node}{object}$t")?;
-    let time = handle_of(tree, name.as_str());
-    Ok(StatusRows {
-        value,
-        quality,
-        time,
-    })
-}
-
 /// The rows of the meter with this node.
 fn meter_rows(alloc: Global, tree: &Tree, node: &str) -> Result<MeterRows, AllocError>
     requires { HasMeterLeaves tree.now (meter_names_of node.now) }
     ensures { IfOk result (AreMeterRowsOf (layout_of tree.now) (meter_names_of node.now)) }
 {
-    let tot_w = measured_rows(alloc, tree, node, "$MX$TotW", "$mag$i")?;
-    let tot_var = measured_rows(alloc, tree, node, "$MX$TotVAr", "$mag$i")?;
-    let hz = measured_rows(alloc, tree, node, "$MX$Hz", "$mag$i")?;
-    let phase_a = measured_rows(alloc, tree, node, "$MX$A$phsA", "$cVal$mag$i")?;
-    let phase_b = measured_rows(alloc, tree, node, "$MX$A$phsB", "$cVal$mag$i")?;
-    let phase_c = measured_rows(alloc, tree, node, "$MX$A$phsC", "$cVal$mag$i")?;
+    let tot_w = status_rows(alloc, tree, node, ACTIVE_POWER)?;
+    let tot_var = status_rows(alloc, tree, node, REACTIVE_POWER)?;
+    let hz = status_rows(alloc, tree, node, FREQUENCY)?;
+    let phase_a = status_rows(alloc, tree, node, PHASE_A)?;
+    let phase_b = status_rows(alloc, tree, node, PHASE_B)?;
+    let phase_c = status_rows(alloc, tree, node, PHASE_C)?;
     Ok(MeterRows {
         tot_w,
         tot_var,

@@ -1,14 +1,15 @@
 // Where the values of a bay's switches stand in its tree.
-ghost use Rattle.std.specs.Prelude.{◌≡◌, ◌≢◌, ◌<◌, length, None, IfOk};
+ghost use Rattle.std.specs.Prelude.{◌≡◌, ◌≢◌, ◌<◌, ◌++◌, length, None, IfOk};
 ghost use Rattle.bay_tree.specs.Rows.{leaf_of};
 ghost use Rattle.bay_process.specs.Layout.{layout_of};
-ghost use Rattle.bay_process.specs.Names.{status_names};
+ghost use Rattle.bay_nodes.specs.Names.{names_at};
 ghost use Rattle.bay_process.specs.Nodes.{AreNodesOf, AreAllNodes, nodes_names, HasSwitch, HasSwitches, AreThere, IsFound, AreFound, AreRowsOf, AreAllRows};
 
 use crate::rows::{StatusRows, SwitchRows};
 use bay_base::text::Text;
 use bay_config::bay::Bay;
 use bay_config::nodes::{control_name, interlocking_name, node_name};
+use bay_nodes::paths::{CLOSING, OPENING, OPERATIONS, POSITION, StatusPaths};
 use bay_tree::tree::{Handle, Tree};
 use std::alloc::{AllocError, Global};
 
@@ -52,7 +53,7 @@ pub fn all_nodes(alloc: Global, bay: &Bay) -> Result<Vec<Nodes>, AllocError>
 }
 
 /// The handle of the row with this name, which has a value.
-pub fn handle_of(tree: &Tree, name: &str) -> Handle
+fn handle_of(tree: &Tree, name: &str) -> Handle
     requires { leaf_of name.now tree.now ≢ None }
     ensures { IsFound tree.now name.now result }
 {
@@ -62,22 +63,28 @@ pub fn handle_of(tree: &Tree, name: &str) -> Handle
     }
 }
 
-/// The rows of a status value: its value, its quality and its moment.
-fn status_rows(
+/// The handle of the row at a path from a node, which has a value.
+fn handle_at(alloc: Global, tree: &Tree, node: &str, path: &str) -> Result<Handle, AllocError>
+    requires { leaf_of (node.now ++ path.now) tree.now ≢ None }
+    ensures { IfOk result (IsFound tree.now (node.now ++ path.now)) }
+{
+    let name = format!(in alloc; "{node}{path}")?;
+    Ok(handle_of(tree, name.as_str()))
+}
+
+/// The rows of a value at its paths from a node: the value, its quality and its moment.
+pub fn status_rows(
     alloc: Global,
     tree: &Tree,
     node: &str,
-    object: &str,
+    paths: StatusPaths,
 ) -> Result<StatusRows, AllocError>
-    requires { AreThere tree.now (status_names node.now object.now) }
-    ensures { IfOk result (AreFound tree.now (status_names node.now object.now)) }
+    requires { AreThere tree.now (names_at node.now paths) }
+    ensures { IfOk result (AreFound tree.now (names_at node.now paths)) }
 {
-    let name = format!(in alloc; "{node}{object}$stVal")?;
-    let value = handle_of(tree, name.as_str());
-    let name = format!(in alloc; "{node}{object}$q")?;
-    let quality = handle_of(tree, name.as_str());
-    let name = format!(in alloc; "{node}{object}$t")?;
-    let time = handle_of(tree, name.as_str());
+    let value = handle_at(alloc, tree, node, paths.value)?;
+    let quality = handle_at(alloc, tree, node, paths.quality)?;
+    let time = handle_at(alloc, tree, node, paths.time)?;
     Ok(StatusRows {
         value,
         quality,
@@ -93,11 +100,11 @@ fn switch_rows(alloc: Global, tree: &Tree, nodes: &Nodes) -> Result<SwitchRows, 
     let node = nodes.position.as_str();
     let control = nodes.control.as_str();
     let interlocking = nodes.interlocking.as_str();
-    let position = status_rows(alloc, tree, node, "$ST$Pos")?;
-    let repeated = status_rows(alloc, tree, control, "$ST$Pos")?;
-    let operations = status_rows(alloc, tree, node, "$ST$OpCnt")?;
-    let ena_opn = status_rows(alloc, tree, interlocking, "$ST$EnaOpn")?;
-    let ena_cls = status_rows(alloc, tree, interlocking, "$ST$EnaCls")?;
+    let position = status_rows(alloc, tree, node, POSITION)?;
+    let repeated = status_rows(alloc, tree, control, POSITION)?;
+    let operations = status_rows(alloc, tree, node, OPERATIONS)?;
+    let ena_opn = status_rows(alloc, tree, interlocking, OPENING)?;
+    let ena_cls = status_rows(alloc, tree, interlocking, CLOSING)?;
     Ok(SwitchRows {
         position,
         control: repeated,

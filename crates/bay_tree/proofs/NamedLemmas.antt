@@ -19,7 +19,7 @@ pub other_text : (a b : List ℕ) → a ≢ b → bytes_eq a b ≡ false
 other_text a b n = not_true (bytes_eq a b) (λ t. n ((bytes_eq-Decides a b).0 t))
 
 -- no two rows have one name
-abbrev AreApart : List Row → Type 0
+abbrev pub AreApart : List Row → Type 0
 AreApart rows = (i j : ℕ) → i < j → j < length rows → name_at rows i ≢ name_at rows j
 
 rest_apart : (row : Row) (rows : List Row) → AreApart (row ∷ rows) → AreApart rows

@@ -1,5 +1,5 @@
 -- What a search by name finds, and that it misses no row.
-use Rattle.std.proofs.Common.{◌≡◌, ◌≢◌, ℕ, ◌+◌, ◌<◌, Bool, true, false, cond, Option, Some, None, Err, option_map, List, [], ◌∷◌, length, All, get_or, refl, sym, subst, ◌∙◌, arith, zero, suc}
+use Rattle.std.proofs.Common.{◌≡◌, ◌≢◌, ℕ, ◌+◌, ◌<◌, Bool, true, false, cond, Option, Some, None, Err, option_map, List, [], ◌∷◌, length, All, get_or, refl, ap, sym, subst, ◌∙◌, arith, zero, suc}
 use Rattle.std.proofs.lemmas.Iterator.Adapters.{position_from-zero}
 use Rattle.std.proofs.lemmas.List.Quantifiers.{position-Some}
 use Rattle.std.proofs.lemmas.Slice.Eq.{bytes_eq-Decides}
@@ -10,7 +10,8 @@ use Rattle.std.specs.Option.{ok_or}
 use Rattle.bay_tree.specs.declared.fault.TreeFault.{TreeFault}
 use Rattle.bay_tree.specs.declared.row.Row.{Row}
 use Rattle.bay_tree.specs.Page.{IsUnknown, start_after}
-use Rattle.bay_tree.specs.Rows.{name_at, place_of, IsHandle}
+use Rattle.bay_tree.specs.Rows.{name_at, names_of, place_of, IsHandle, IsTree}
+use Rattle.bay_tree.proofs.NamedLemmas.{AreApart, other_text}
 
 -- the place found is a row's, and that row has the name
 pub place_of-found : (rows : List Row) (name : List ℕ) (place : ℕ) → place_of rows name ≡ Some place → IsHandle rows place × (name_at rows place ≡ name)
@@ -74,3 +75,36 @@ place_of-no_text rows name texts bad = no_text rows name (place_of rows name) te
 pub not_found : (rows : List Row) (name : List ℕ) (fault other : TreeFault) (place : Option ℕ) → place_of rows name ≡ place → Err fault ≡ ok_or place other → place_of rows name ≡ None
 not_found rows name fault other None is h = is
 not_found rows name fault other (Some place) is h = absurd cc
+
+-- a row that stands in a tree is the first of its name
+own-place : (rows : List Row) (row start : ℕ) (name : List ℕ) → AreApart rows → row < length rows → name_at rows row ≡ name → position_from (λ (r : Row). bytes_eq r.name name) start rows ≡ Some (start + row)
+own-place [] row start name apart within named = absurd (omega arith)
+own-place (r ∷ rows) zero start name apart within named =
+    let none : start ≡ start + 0 = omega arith in
+    ap (λ b. cond b (Some start) (position_from (λ (r : Row). bytes_eq r.name name) (start + 1) rows)) ((bytes_eq-Decides r.name name).1 named) ∙ ap Some none
+own-place (r ∷ rows) (suc row) start name apart within named =
+    let other : bytes_eq r.name name ≡ false = other_text r.name name (λ same. apart zero (suc row) (omega arith) within (same ∙ sym named)) in
+    let more : start + 1 + row ≡ start + suc row = omega arith in
+    ap (λ b. cond b (Some start) (position_from (λ (r : Row). bytes_eq r.name name) (start + 1) rows)) other
+    ∙ own-place rows row (start + 1) name (λ i j lt in_rows. apart (suc i) (suc j) (omega arith) (omega arith)) (omega arith) named
+    ∙ ap Some more
+
+pub place_of-named : (rows : List Row) (row : ℕ) (name : List ℕ) → IsTree rows → IsHandle rows row → name_at rows row ≡ name → place_of rows name ≡ Some row
+place_of-named rows row name tree within named =
+    let zero_more : 0 + row ≡ row = omega arith in
+    position_from-zero (λ (r : Row). bytes_eq r.name name) rows ∙ own-place rows row 0 name tree.distinct within named ∙ ap Some zero_more
+
+-- where a name is follows from the names
+place-by_names : (before after : List Row) (start : ℕ) (name : List ℕ) → names_of before ≡ names_of after → position_from (λ (r : Row). bytes_eq r.name name) start before ≡ position_from (λ (r : Row). bytes_eq r.name name) start after
+place-by_names [] [] start name same = refl
+place-by_names [] (a ∷ after) start name same = absurd cc
+place-by_names (b ∷ before) [] start name same = absurd cc
+place-by_names (b ∷ before) (a ∷ after) start name same =
+    let head : b.name ≡ a.name = cc in
+    let rest : names_of before ≡ names_of after = cc in
+    ap (λ n. cond (bytes_eq n name) (Some start) (position_from (λ (r : Row). bytes_eq r.name name) (start + 1) before)) head
+    ∙ ap (λ o. cond (bytes_eq a.name name) (Some start) o) (place-by_names before after (start + 1) name rest)
+
+pub place_of-stays : (before after : List Row) (name : List ℕ) → names_of before ≡ names_of after → place_of before name ≡ place_of after name
+place_of-stays before after name same =
+    position_from-zero (λ (r : Row). bytes_eq r.name name) before ∙ place-by_names before after 0 name same ∙ sym (position_from-zero (λ (r : Row). bytes_eq r.name name) after)

@@ -6,8 +6,11 @@
 //     ber-read ROUNDS OCTETS     lists of BER elements inside one another are read
 //     ber-write LISTS ROUNDS     10,000 elements are written, chains of an integer inside so many lists
 //     transport SIZE MIB         data TPDUs are fed to a transport in pieces of so many octets
-//     request ROUNDS OCTETS      a read request of MMS is read
-//     names ROUNDS OCTETS        a response with names, one a line, is written
+//     request ROUNDS OCTETS      a read request of MMS is read, from its frame
+//     names ROUNDS OCTETS        a response with names, one a line, is written and sent
+//     node ROUNDS OCTETS         a logical node of a bay is read, and the response sent
+//     find ROUNDS OCTETS         each row of a bay's tree is found by its name; in `nodes` each logical node is read, in `pages` all
+//                                names are listed, and `rows` prints them
 //     text ROUNDS OCTETS         a program's text is read
 //     read ROUNDS OCTETS         likewise; in `check` what is read is checked, in `compile` that is compiled, in `verify` that is verified
 //     decode ROUNDS OCTETS       an image is read; in `encode` it is read once and written
@@ -20,6 +23,7 @@ mod image;
 mod language;
 mod mms;
 mod reading;
+mod tree;
 mod writing;
 
 use anyhow::{Context, Result, bail};
@@ -32,6 +36,7 @@ use mms::{names_text, request_text};
 use reading::walk_often;
 use std::alloc::Global;
 use std::io::Read;
+use tree::tree_text;
 use writing::write_often;
 
 /// What comes of reading lists of BER.
@@ -47,6 +52,7 @@ fn octets_text(alloc: Global, job: &str, rounds: u32, octets: &[u8]) -> Result<S
         "ber-read" => ber_text(alloc, rounds, octets),
         "request" => request_text(alloc, rounds, octets),
         "names" => names_text(alloc, rounds, octets),
+        "node" | "find" | "nodes" | "pages" | "rows" => tree_text(alloc, job, rounds, octets),
         "decode" | "encode" | "budget" | "scan" => image_text(alloc, job, rounds, octets),
         _ => language_text(alloc, job, rounds, octets),
     }

@@ -90,7 +90,7 @@ default_is elementary.Dint = (refl, refl)
 default_is elementary.Lint = (refl, refl)
 default_is elementary.Time = (refl, refl)
 
-initial_is : (kind : ElementaryType) (o : Option Literal) (v : Value) → initial_in kind o ≡ Some v → IsValue v × (type_of v ≡ kind)
+pub initial_is : (kind : ElementaryType) (o : Option Literal) (v : Value) → initial_in kind o ≡ Some v → IsValue v × (type_of v ≡ kind)
 initial_is kind None v e = subst (λ (x : Value). IsValue x × (type_of x ≡ kind)) (some_is (default_value kind) v e) (default_is kind)
 initial_is kind (Some l) v e = value_in_is kind l v e
 
@@ -128,12 +128,12 @@ IsMeant es vs ts (meaning.Variable (slot.External n) kind writable) =
 IsMeant es vs ts (meaning.Variable (slot.Variable n) kind writable) = (v : Variable) × (slice_get vs n ≡ Some v) × (type_of v.initial ≡ kind)
 IsMeant es vs ts (meaning.Timer n) = n < length ts
 
-get_more : {A : Type 0} (xs ys : List A) (n : ℕ) (x : A) → slice_get xs n ≡ Some x → slice_get (xs ++ ys) n ≡ Some x
+pub get_more : {A : Type 0} (xs ys : List A) (n : ℕ) (x : A) → slice_get xs n ≡ Some x → slice_get (xs ++ ys) n ≡ Some x
 get_more [] ys n x e = absurd (cc)
 get_more (y ∷ xs) ys zero x e = e
 get_more (y ∷ xs) ys (suc n) x e = get_more xs ys n x e
 
-get_last : {A : Type 0} (xs : List A) (x : A) → slice_get (xs ++ x ∷ []) (length xs) ≡ Some x
+pub get_last : {A : Type 0} (xs : List A) (x : A) → slice_get (xs ++ x ∷ []) (length xs) ≡ Some x
 get_last [] x = refl
 get_last (y ∷ xs) x = get_last xs x
 

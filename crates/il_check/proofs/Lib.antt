@@ -5,8 +5,11 @@ pub mod EntryLemmas
 pub mod GivenLemmas
 pub mod LabelLemmas
 pub mod LabellingLemmas
+pub mod LeastLemmas
 pub mod NameLemmas
 pub mod NotedLemmas
+pub mod OwnLemmas
+pub mod RightLemmas
 pub mod StandingLemmas
 pub mod TakenLemmas
 pub mod TypedLemmas

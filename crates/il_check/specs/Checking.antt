@@ -1,5 +1,5 @@
 -- What checking a program comes to: the checked program, or the fault that is answered.
-use Rattle.std.specs.Prelude.{List, [], ◌++◌, map, Result}
+use Rattle.std.specs.Prelude.{◌+◌, ◌<◌, List, [], ◌++◌, length, map, Result}
 use Rattle.bay_base.specs.Exact.{judged}
 use Rattle.bay_config.specs.declared.bay.Point.{Point}
 use Rattle.il_text.specs.Listing as text
@@ -25,6 +25,10 @@ checked_program points program = record {
   timers = timers_of program.declarations;
   items = items_left (names_in points program) program.items (start program);
 }
+
+-- It declares something or has an item; of another nothing is kept.
+abbrev pub TakesMemory : text.PlainProgram → Type 0
+TakesMemory program = 0 < length program.declarations + length program.items
 
 -- the checked program, or the fault that is answered
 abbrev pub checked_of : List Point → text.PlainProgram → Result Checked CheckFault

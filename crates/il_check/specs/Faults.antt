@@ -1,5 +1,5 @@
 -- The fault that is answered, of all that a program has: the least by its line, and of one line by its number.
-use Rattle.std.specs.Prelude.{ℕ, Bool, false, ◌&&◌, ◌||◌, nat_lt, ◌==◌, List, [], ◌∷◌, Option, None, Some, if◌then◌else◌}
+use Rattle.std.specs.Prelude.{ℕ, ◌≡◌, Bool, false, ◌&&◌, ◌||◌, nat_lt, ◌==◌, List, [], ◌∷◌, Contains, Option, None, Some, unwrap_or, if◌then◌else◌}
 use Rattle.il_check.specs.Code.{code_of, line_of}
 use Rattle.il_check.specs.declared.fault.CheckFault.{CheckFault}
 
@@ -7,10 +7,9 @@ use Rattle.il_check.specs.declared.fault.CheckFault.{CheckFault}
 abbrev pub fault_if : Bool → CheckFault → List CheckFault
 fault_if test fault = if test then fault ∷ [] else []
 
--- of two numbers the first is the lower
+-- of two numbers the first is the lower; what has none comes before all
 abbrev pub is_lower : Option ℕ → Option ℕ → Bool
-is_lower (Some first) (Some second) = nat_lt first second
-is_lower first second = false
+is_lower first second = nat_lt (unwrap_or first 0) (unwrap_or second 0)
 
 -- a fault comes before another: its line is less, or it has a lower number on the same line
 abbrev pub is_before : CheckFault → CheckFault → Bool
@@ -32,3 +31,8 @@ least_fault (f ∷ fs) = Some (least_of f fs)
 abbrev pub noted : Option CheckFault → List CheckFault → Option CheckFault
 noted None fs = least_fault fs
 noted (Some f) fs = Some (least_of f fs)
+
+-- The fault is one of these, and none of them comes before it.
+pub record IsLeast (fault : CheckFault) (faults : List CheckFault) : Type 0 where
+  pub among : Contains faults fault
+  pub none_before : (other : CheckFault) → Contains faults other → is_before other fault ≡ false

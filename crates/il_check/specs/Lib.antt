@@ -8,8 +8,10 @@ pub mod Labelling
 pub mod LabelsView
 pub mod NamesView
 pub mod PartsView
+pub mod OwnPlaces
 pub mod Program
 pub mod ProgramViews
+pub mod RightProgram
 pub mod Rules
 pub mod Sound
 pub mod Standing

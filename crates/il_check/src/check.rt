@@ -1,7 +1,10 @@
 // The checks of a program, and the typed program that is left of one without a fault.
+ghost use Rattle.std.specs.Prelude.{◌≢◌, IfErr, IfOk, IsErrOf};
 ghost use Rattle.il_text.specs.Views.{plain_program};
 ghost use Rattle.bay_base.specs.Exact.{Gives};
-ghost use Rattle.il_check.specs.Checking.{checked_of};
+ghost use Rattle.il_check.specs.Checking.{TakesMemory, checked_of, faults_of};
+ghost use Rattle.il_check.specs.Faults.{IsLeast};
+ghost use Rattle.il_check.specs.RightProgram.{IsRightProgram};
 ghost use Rattle.il_check.specs.ProgramViews.{checked_view};
 ghost use Rattle.il_check.specs.declared.fault.CheckFault.TheVariants.{OutOfMemory};
 
@@ -32,10 +35,25 @@ use std::alloc::Global;
 /// point's (70).
 ///
 /// The answer is the typed program, or of the first faulty line the fault of the lowest number
-/// (IEC 61131-3:2003, 2.4.3 and 3.2). A name that is looked up takes no memory.
+/// (IEC 61131-3:2003, 2.4.3 and 3.2). A name that is looked up takes no memory; memory can be wanting only where the program declares
+/// something or has an item.
 pub fn check(alloc: Global, program: &Program<'_>, points: &[Point]) -> Result<Typed, CheckFault>
     // The checked program, or the fault of the first faulty line with the lowest number, unless memory ran out.
-    ensures { Gives OutOfMemory checked_view result (checked_of points.now (plain_program program.now)) }
+    ensures checked { Gives OutOfMemory checked_view result (checked_of points.now (plain_program program.now)) }
+    // It passes exactly where its declarations are right and some labelling makes every instruction right.
+    ensures right { IfOk result (λ typed. IsRightProgram points.now (plain_program program.now)) }
+    ensures wrong { IfErr result (λ fault. fault ≢ OutOfMemory → IsRightProgram points.now (plain_program program.now) → ⊥) }
+    // No fault comes before the one that is answered.
+    ensures first { IfErr result (λ fault. fault ≢ OutOfMemory → IsLeast fault (faults_of points.now (plain_program program.now))) }
+    ensures memory { IsErrOf result OutOfMemory → TakesMemory (plain_program program.now) }
+{
+    let typed = checked(alloc, program, points)?;
+    Ok(typed)
+}
+
+fn checked(alloc: Global, program: &Program<'_>, points: &[Point]) -> Result<Typed, CheckFault>
+    ensures checked { Gives OutOfMemory checked_view result (checked_of points.now (plain_program program.now)) }
+    ensures memory { IsErrOf result OutOfMemory → TakesMemory (plain_program program.now) }
 {
     let declared = declare_all(alloc, points, program.declarations.as_slice())?;
     let labels = all_labels(alloc, program.items.as_slice())?;

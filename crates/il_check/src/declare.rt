@@ -1,5 +1,5 @@
 // The declarations of a program (IEC 61131-3:2003, 2.4.3): what names mean, and what is wrong.
-ghost use Rattle.std.specs.Prelude.{◌≡◌, ℕ, List, [], ◌∷◌, ◌++◌, map, vec_len, length, is_some, option_copied, option_map, IfOk, OnOk, string_bytes};
+ghost use Rattle.std.specs.Prelude.{◌≡◌, ℕ, List, [], ◌∷◌, ◌++◌, map, vec_len, length, is_some, option_copied, option_map, ◌<◌, IfErr, IfOk, OnOk, string_bytes};
 ghost use Rattle.std.specs.BTreeMap.{get_by_text};
 ghost use Rattle.std.specs.List.{list_all};
 ghost use Rattle.std.specs.Option.{option_to_list};
@@ -317,6 +317,7 @@ pub(crate) fn declare_all(
 ) -> Result<Declarations, AllocError>
     ensures stands { IfOk result (λ d. StandsFor points.now (map declared_of declarations.now) d) }
     ensures found { IfOk result (λ d. d.found ≡ least_fault (spec.declarations_faults points.now [] (map declared_of declarations.now))) }
+    ensures memory { IfErr result (λ e. 0 < length declarations.now) }
 {
     let mut declared = Declarations::new(alloc);
     for declaration in declarations {

@@ -1,5 +1,5 @@
 // The labels of a program.
-ghost use Rattle.std.specs.Prelude.{[], ◌∷◌, map, vec_len, IfOk, OnOk};
+ghost use Rattle.std.specs.Prelude.{[], ◌∷◌, length, map, vec_len, ◌<◌, IfErr, IfOk, OnOk};
 ghost use Rattle.bay_base.specs.Names as names;
 ghost use Rattle.il_text.specs.Views.{entry_of};
 ghost use Rattle.il_check.specs.Declaring.{labels_from};
@@ -44,7 +44,8 @@ impl Labels {
 
 /// All labels of a program.
 pub(crate) fn all_labels(alloc: Global, items: &[Item<'_>]) -> Result<Labels, AllocError>
-    ensures { IfOk result (λ l. StandsAs (labels_from 0 (map entry_of items.now)) l) }
+    ensures stands { IfOk result (λ l. StandsAs (labels_from 0 (map entry_of items.now)) l) }
+    ensures memory { IfErr result (λ e. 0 < length items.now) }
 {
     let mut labels = Labels {
         numbers: BTreeMap::new(alloc),

@@ -1,12 +1,17 @@
 // Laws of the definitions. Each function does nothing, and its contract is the law.
-ghost use Rattle.std.specs.Prelude.{◌≡◌, ◌↔◌, ◌++◌, [], List, None, Option, Some};
+ghost use Rattle.std.specs.Prelude.{◌≡◌, ◌↔◌, ◌++◌, [], List, None, Ok, Option, Some};
 ghost use Rattle.bay_base.specs.declared.types.ElementaryType.{ElementaryType};
 ghost use Rattle.bay_config.specs.declared.bay.Point.{Point};
 ghost use Rattle.il_text.specs.Listing as text;
-ghost use Rattle.il_check.specs.Checking.{start};
+ghost use Rattle.il_check.specs.Checking.{checked_of, start};
 ghost use Rattle.il_check.specs.Declaring.{names_in};
+ghost use Rattle.il_check.specs.Faults.{IsLeast, least_fault};
 ghost use Rattle.il_check.specs.Labelling.{Becomes, Flows, IsWellTyped, Labelling, behind_all, coming_behind};
+ghost use Rattle.il_check.specs.OwnPlaces.{MeanOwnPlaces};
+ghost use Rattle.il_check.specs.Program.{Checked};
+ghost use Rattle.il_check.specs.RightProgram.{IsRightProgram};
 ghost use Rattle.il_check.specs.WellTyped.{items_faults};
+ghost use Rattle.il_check.specs.declared.fault.CheckFault.{CheckFault};
 
 /// The items of a program have no fault exactly where some labelling makes every instruction right: a type of the current
 /// result for each label, or none, such that each instruction is reached and right on what comes to it, and each way to a
@@ -22,4 +27,21 @@ pub fn least_types()
     ensures { (points : List Point) (program : text.PlainProgram) (front more : List text.Entry) (labels : Labelling) (t : Option ElementaryType) →
         program.items ≡ front ++ more → Flows (names_in points program) labels front 0 [] (Some None) → coming_behind (names_in points program) labels front 0 [] (Some None) ≡ Some t →
         Becomes (behind_all (names_in points program) front (start program)).now.kind t }
+{}
+
+/// A program passes the checks exactly where its declarations are right and some labelling makes every instruction right.
+pub fn right_programs_pass()
+    ensures { (points : List Point) (program : text.PlainProgram) → ((c : Checked) × (checked_of points program ≡ Ok c)) ↔ IsRightProgram points program }
+{}
+
+/// The fault that is answered is one of those that were found, and none of them stands on a line before it, or on its line with a
+/// lower number.
+pub fn answered_fault_is_least()
+    ensures { (faults : List CheckFault) (fault : CheckFault) → least_fault faults ≡ Some fault → IsLeast fault faults }
+{}
+
+/// A name means its own place: what the name of the n-th external means is the n-th external, and so of variables and timers; what a name
+/// means is declared by that name; and what it means as a label is the number of the label of that name.
+pub fn a_name_means_its_own_place()
+    ensures { (points : List Point) (program : text.PlainProgram) (c : Checked) → checked_of points program ≡ Ok c → MeanOwnPlaces (names_in points program) c program.items }
 {}

@@ -5,14 +5,11 @@ ghost use Rattle.il_check.specs.Faults.{fault_if, noted};
 
 use crate::fault::CheckFault;
 
-/// Whether of two numbers the first is the lower.
+/// Whether of two numbers the first is the lower. Want of memory, which has none and is noted by no one, would come first.
 fn is_lower(first: Option<u8>, second: Option<u8>) -> bool
     ensures { result ≡ spec.is_lower first second }
 {
-    match (first, second) {
-        (Some(first), Some(second)) => first < second,
-        _ => false,
-    }
+    first.unwrap_or(0) < second.unwrap_or(0)
 }
 
 /// Whether a fault comes before another: by its line, and on one line by its number.

@@ -1,5 +1,5 @@
 // The items of a program, one after another: their faults, and what is left of them.
-ghost use Rattle.std.specs.Prelude.{◌≡◌, ◌<◌, ◌++◌, ◌∷◌, [], List, None, map, option_map, slice_get, IfOk, OnOk};
+ghost use Rattle.std.specs.Prelude.{◌≡◌, ◌<◌, ◌++◌, ◌∷◌, [], List, None, map, option_map, length, slice_get, IfErr, IfOk, OnOk};
 ghost use Rattle.std.specs.Option.{option_to_list};
 ghost use Rattle.il_text.specs.Listing as text;
 ghost use Rattle.il_text.specs.Views.{entry_of, action_of};
@@ -500,6 +500,7 @@ impl Judge {
         ensures left { IfOk result (λ left. map item_view left.items ≡ spec.items_left (names_of names.now) (map entry_of items.now) (spec.first arrivals.items)) }
         ensures found { OnOk result (self.new.found
             ≡ noted self.old.found (spec.items_faults (names_of names.now) (map entry_of items.now) (spec.first arrivals.items))) }
+        ensures memory { IfErr result (λ e. 0 < length items.now) }
     {
         let mut walk = Walk {
             reach: Reach {

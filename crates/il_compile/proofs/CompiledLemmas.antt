@@ -3,7 +3,9 @@ use Rattle.std.proofs.Common.{◌≡◌, ℕ, ◌+◌, ◌*◌, ◌<◌, ◌≤�
 use Rattle.std.proofs.lemmas.Bool.{le-leb, leb-true}
 use Rattle.std.proofs.lemmas.List.{length-map}
 use Rattle.il_image.specs.Images.{Each, HasName, Image, IsImage, IsValue, all_spelled}
+use Rattle.il_image.specs.Machine.{start}
 use Rattle.il_image.specs.Tables.{HasTable}
+use Rattle.il_image.proofs.BegunLemmas.{closed_by, first_place, loose_is_run}
 use Rattle.il_image.specs.declared.instr.Instr.TheVariants.{Halt}
 use Rattle.il_image.specs.declared.image.ImagePoint.{ImagePoint}
 use Rattle.il_image.specs.declared.timer.TimerKind.{TimerKind}
@@ -20,8 +22,9 @@ use Rattle.il_compile.specs.Senses.{timer_of}
 use Rattle.il_compile.specs.declared.behind.Behind.{Behind}
 use Rattle.il_compile.specs.declared.fault.CompileFault.TheVariants.{CodeTooLong}
 use Rattle.il_compile.specs.Correct.{DoesTheText, Follows}
+use Rattle.il_compile.specs.Meaning.{Memory}
 use Rattle.il_compile.proofs.Placing.{octets_both}
-use Rattle.il_compile.proofs.Runs.{follows}
+use Rattle.il_compile.proofs.Runs.{Finds, follows}
 use Rattle.il_compile.proofs.SizeLemmas.{size_is}
 use Rattle.il_compile.proofs.Spellable.{program_are}
 use Rattle.il_compile.proofs.Tabled.{has_table}
@@ -105,12 +108,21 @@ was_short : (c : Checked) (i : Image) (b : Bool) → nat_le (image_size c) 65_53
 was_short c i true e f = (leb-true (image_size c) 65_535 e, (let same : image_of c ≡ i = cc in sym same))
 was_short c i false e f = absurd cc
 
+-- the code has a table, so that it goes on at instructions alone
+followed : (c : Checked) → HasTable (image_of c) → (now : ℕ) (m : Memory) → Finds c (image_of c).code now m → Follows c (image_of c).code now m
+followed c table now m f = record {
+  means = f.means;
+  steps = f.steps;
+  halts = sym (loose_is_run (image_of c).code now (closed_by (image_of c) table.0 table.1) (length (image_of c).code) (start (m.externals ++ m.variables) m.timers) 0 (first_place (image_of c) table.0 table.1)) ∙ f.halts;
+}
+
 pub does_the_text : (c : Checked) (i : Image) → IsTyped c → compiled_of c ≡ Ok i → DoesTheText c i.code
 does_the_text c i ok e =
     let w = was_short c i (nat_le (image_size c) 65_535) refl e in
     let s = size_is c in
     let le = w.0 in
-    λ now m typed. subst (λ (x : Image). Follows c x.code now m) (sym w.1) (follows c ok (program_are c ok (omega arith)) now m typed)
+    let are = program_are c ok (omega arith) in
+    λ now m typed. subst (λ (x : Image). Follows c x.code now m) (sym w.1) (followed c (has_table c ok are) now m (follows c ok are now m typed))
 
 pub is_tabled : (c : Checked) (i : Image) → IsTyped c → compiled_of c ≡ Ok i → HasTable i
 is_tabled c i ok e =

@@ -6,7 +6,8 @@ use Rattle.bay_base.specs.declared.types.ElementaryType.TheVariants as elementar
 use Rattle.il_text.specs.declared.program.Condition.{Condition}
 use Rattle.il_text.specs.declared.program.Condition.TheVariants.{Always, IfTrue, IfFalse}
 use Rattle.il_image.specs.Images.{Each, all_spelled}
-use Rattle.il_image.specs.Machine.{State as Machine, Turn, Goes, Halts, Traps, Ending, Halted, act, ending_of, run, turn, turn_of}
+use Rattle.il_image.specs.Machine.{State as Machine, Turn, Goes, Halts, Traps, Ending, Halted, act, ending_of, turn_of}
+use Rattle.il_image.proofs.BegunLemmas.{loose_run as run, loose_turn as turn}
 use Rattle.il_image.specs.Spelling.{IsInstr, spelling}
 use Rattle.il_image.specs.declared.instr.Instr.{Instr}
 use Rattle.il_image.specs.declared.instr.Instr.TheVariants.{Halt, Jump}
@@ -19,7 +20,7 @@ use Rattle.il_check.specs.TypedProgram.{AreItems, Decides, IsTyped, behind_condi
 use Rattle.il_check.specs.declared.typed.Transfer.{Transfer}
 use Rattle.il_check.specs.declared.typed.Transfer.TheVariants as go
 use Rattle.il_compile.specs.Code.{unset, entry_code, transfer_code, octets, octets_before, distance, items_code, program_code}
-use Rattle.il_compile.specs.Correct.{HasTypes, Means, Follows}
+use Rattle.il_compile.specs.Correct.{HasTypes, Means}
 use Rattle.il_compile.specs.Meaning.{Memory, State, ◌>>=◌, goes, mean_from}
 use Rattle.il_compile.specs.Senses.{when_of}
 use Rattle.il_compile.proofs.Calls.{call_does}
@@ -387,7 +388,13 @@ whole_run code now a slots timers e =
     let z : 0 + e.taken ≡ e.taken = omega arith in
     longer code now e.taken (length code) (at 0 a) slots timers 0 e.taken (let x = e.enough in omega arith) (e.by 0 ∙ ap (Halted slots timers) z)
 
-pub follows : (c : Checked) → IsTyped c → Each IsInstr (program_code c) → (now : ℕ) (m : Memory) → HasTypes c m → Follows c (all_spelled (program_code c)) now m
+-- what the program means, and how many steps its code takes where it may go on at any octet
+pub record Finds (c : Checked) (code : List ℕ) (now : ℕ) (m : Memory) : Type 0 where
+  pub means : Means c now m
+  pub steps : ℕ
+  pub halts : run code now (length code) (at 0 (holding [] m)) 0 ≡ Halted (flat means.after) means.after.timers steps
+
+pub follows : (c : Checked) → IsTyped c → Each IsInstr (program_code c) → (now : ℕ) (m : Memory) → HasTypes c m → Finds c (all_spelled (program_code c)) now m
 follows c ok are now m ty =
     let code = all_spelled (program_code c) in
     let whole : Stands code 0 (program_code c) = record { rest = []; is = sym (append-nil code); are = are } in

@@ -144,7 +144,7 @@ fn compiled(alloc: Global, program: &Typed) -> Result<Image, CompileFault>
 /// parenthesis on one of its own, and the code ends with HALT.
 ///
 /// The only fault but want of memory is `CodeTooLong`, exactly where the image as it is written would have more than 65,535
-/// octets.
+/// octets. The code of each program takes memory, so of want of memory cases alone show that it comes only where memory was refused.
 pub fn compile(alloc: Global, program: &Typed) -> Result<Image, CompileFault>
     // The image of the program, or that it is too long, unless memory ran out.
     ensures image { Gives OutOfMemory (λ image. image) result (compiled_of (checked_view program.now)) }

@@ -1,4 +1,5 @@
 pub mod BackLemmas
+pub mod BegunLemmas
 pub mod CodeLemmas
 pub mod EachLemmas
 pub mod FrontLemmas
@@ -11,6 +12,7 @@ pub mod NameLemmas
 pub mod OctetLemmas
 pub mod PlaceLemmas
 pub mod ReadLemmas
+pub mod SteadyLemmas
 pub mod TimerLemmas
 pub mod TookLemmas
 pub mod ValueLemmas

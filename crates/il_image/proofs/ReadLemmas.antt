@@ -71,7 +71,7 @@ took_octet (x ∷ xs) octet rest e =
     let p = ok_same (x, xs) (octet, rest) e in
     record { front = x ∷ []; parts = ap (λ ys. x ∷ ys) (ap (λ q. q.1) p); len = refl; is = λ fits. ap (λ y. y ∷ []) (ap (λ q. q.0) p) }
 
-from_front : (size : Size) (octets : List ℕ) → from_be_bytes (bits_of_size size) (take (octet_count size) octets) ≡ from_be_bytes (bits_of_size size) octets
+pub from_front : (size : Size) (octets : List ℕ) → from_be_bytes (bits_of_size size) (take (octet_count size) octets) ≡ from_be_bytes (bits_of_size size) octets
 from_front One octets = get_or-take 1 octets 0 0 (omega arith)
 from_front Two octets = rw (get_or-take 2 octets 0 0 (omega arith), get_or-take 2 octets 1 0 (omega arith)) refl
 from_front Four octets = rw (get_or-take 4 octets 0 0 (omega arith), get_or-take 4 octets 1 0 (omega arith), get_or-take 4 octets 2 0 (omega arith), get_or-take 4 octets 3 0 (omega arith)) refl

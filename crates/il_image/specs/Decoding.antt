@@ -1,5 +1,5 @@
 -- Reading an image from the left, up to its first fault.
-use Rattle.std.specs.Prelude.{ℕ, zero, suc, ◌==◌, ◌||◌, Bool, true, false, List, [], ◌∷◌, length, take, drop, Option, Some, None, Result, Ok, Err, nat_lt, if◌then◌else◌}
+use Rattle.std.specs.Prelude.{ℕ, zero, suc, ◌≡◌, ◌<◌, ◌≤◌, ◌++◌, ◌==◌, ◌||◌, Bool, true, false, List, [], ◌∷◌, length, take, drop, Option, Some, None, Result, Ok, Err, nat_lt, if◌then◌else◌}
 use Rattle.std.specs.List.{list_all}
 use Rattle.bay_base.specs.declared.types.ElementaryType.{ElementaryType}
 use Rattle.bay_base.specs.declared.types.ElementaryType.TheVariants as elementary
@@ -136,3 +136,19 @@ decoded octets = do
   timers ← counted_at (timer_at version.0) variables.1
   code ← code_at version.0 timers.1
   Ok (record { points = points.0; variables = variables.0; timers = timers.0; code = code })
+
+-- The octets begin with the mark, a version and the number of points: what is read of these takes no memory.
+pub record TakesMemory (octets : List ℕ) : Type 0 where
+  pub version : Version
+  pub rest : List ℕ
+  pub begins : (behind mark octets >>= version_at) ≡ Ok (version, rest)
+  pub counted : 2 ≤ length rest
+
+-- ---- the first octet that is wrong
+
+-- The octets before it are cut short, and with it they are 82, whatever follows.
+pub record IsFirstBad (octets : List ℕ) : Type 0 where
+  pub bad : ℕ
+  pub within : bad < length octets
+  pub before : decoded (take bad octets) ≡ Err Truncated
+  pub here : (more : List ℕ) → decoded (take (suc bad) octets ++ more) ≡ Err BadOpcode

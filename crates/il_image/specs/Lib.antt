@@ -8,6 +8,7 @@ pub mod Kinds
 pub mod Machine
 pub mod Octets
 pub mod Opcodes
+pub mod Places
 pub mod Reading
 pub mod Spelling
 pub mod Tables

@@ -18,7 +18,7 @@ use Rattle.il_image.specs.declared.value.Value.TheVariants.{Truth, Short, Long, 
 use Rattle.bay_base.specs.declared.types.ElementaryType.TheVariants as elementary
 use Rattle.bay_base.specs.Types.{same_type}
 use Rattle.il_image.specs.Arithmetic.{compared, computed, connected, widened}
-use Rattle.il_image.specs.Reading.{instr_at}
+use Rattle.il_image.specs.Places.{begun_at}
 use Rattle.il_image.specs.Timers.{called}
 use Rattle.il_image.specs.Values.{number_of, type_of}
 
@@ -154,9 +154,9 @@ abbrev pub turn_of : ℕ → Option (Instr × ℕ) → State → Turn
 turn_of now None s = Traps OutsideCode
 turn_of now (Some read) s = act now read.0 read.1 s
 
--- the step from a state
+-- the step from a state, whose place has to be one at which an instruction begins
 abbrev pub turn : List ℕ → ℕ → State → Turn
-turn code now s = turn_of now (instr_at code s.place) s
+turn code now s = turn_of now (begun_at code s.place) s
 
 -- how a run ends: at HALT, with the slots, the timers and the number of steps, HALT's too; in a trap; or not within so many
 -- steps

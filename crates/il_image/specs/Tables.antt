@@ -1,5 +1,5 @@
 -- Tables of the kinds on the stack before each instruction, and paths through the code.
-use Rattle.std.specs.Prelude.{ℕ, zero, suc, ◌≡◌, ◌≢◌, ◌+◌, ◌<◌, ◌≤◌, List, [], ◌++◌, length, map, Option, Some, None, option_map, IsSome, ◌⊎◌, ◌↔◌}
+use Rattle.std.specs.Prelude.{ℕ, zero, suc, ◌≡◌, ◌≢◌, ◌+◌, ◌≤◌, List, [], ◌++◌, length, map, Option, Some, IsSome, ◌⊎◌, ◌↔◌}
 use Rattle.bay_base.specs.declared.types.ElementaryType.{ElementaryType}
 use Rattle.il_image.specs.declared.instr.Instr.{Instr}
 use Rattle.il_image.specs.declared.instr.Instr.TheVariants.{Halt, Push, Drop, Slot, Not, Combine, Compute, Compare, Widen, Jump, Timer}
@@ -8,6 +8,7 @@ use Rattle.il_image.specs.declared.opcode.When.TheVariants.{Always, IfTrue, IfFa
 use Rattle.il_image.specs.Effects.{effect}
 use Rattle.il_image.specs.Images.{Image}
 use Rattle.il_image.specs.Kinds.{AreWithin}
+pub use Rattle.il_image.specs.Places.{behind_place, place_of, IsPlace}
 use Rattle.il_image.specs.Reading.{instr_at}
 use Rattle.il_image.specs.Values.{type_of}
 
@@ -16,19 +17,6 @@ abbrev pub slot_types : Image → List ElementaryType
 slot_types i = map (λ p. p.elementary) i.points ++ map type_of i.variables
 
 -- ---- places
-
-abbrev pub behind_place : List ℕ → Option ℕ → Option ℕ
-behind_place code None = None
-behind_place code (Some place) = option_map (λ r. r.1) (instr_at code place)
-
--- the place of the instruction of this number from 0: each instruction stands behind the one before
-abbrev pub place_of : List ℕ → ℕ → Option ℕ
-place_of code zero = Some 0
-place_of code (suc n) = behind_place code (place_of code n)
-
--- An instruction begins at the place.
-abbrev pub IsPlace : List ℕ → ℕ → Type 0
-IsPlace code place = (place < length code) × ((n : ℕ) × (place_of code n ≡ Some place))
 
 -- The instruction goes on at this place, where the next one stands at that place.
 abbrev pub LeadsTo : Instr → ℕ → ℕ → Type 0

@@ -1,8 +1,8 @@
 // Images read from octets, from the left up to the first fault.
-ghost use Rattle.std.specs.Prelude.{◌≡◌, ◌≤◌, ◌^◌, ◌<◌, length, IsTrue, MatchResult, None, Some};
+ghost use Rattle.std.specs.Prelude.{◌≡◌, ◌≤◌, ◌^◌, ◌<◌, length, IsErrOf, IsTrue, MatchResult, None, Some};
 ghost use Rattle.std.specs.List.{list_all};
 ghost use Rattle.bay_base.specs.Exact.{Gives as GivesButMemory};
-ghost use Rattle.il_image.specs.Decoding.{access_at, access_of, behind, code_at, code_fault, counted_at, decoded, kind_of_octet, name_at, name_of_length, point_at, timer_at, type_at, type_of_octet, variable_at, version_at};
+ghost use Rattle.il_image.specs.Decoding.{TakesMemory, access_at, access_of, behind, code_at, code_fault, counted_at, decoded, kind_of_octet, name_at, name_of_length, point_at, timer_at, type_at, type_of_octet, variable_at, version_at};
 ghost use Rattle.il_image.specs.Images.{is_name_octet, mark, value_size};
 ghost use Rattle.il_image.specs.Reading.{Gives};
 
@@ -187,7 +187,8 @@ fn points_at(
     version: Version,
     octets: &[u8],
 ) -> Result<(Listing<ImagePoint>, &[u8]), ImageFault>
-    ensures { GivesButMemory ImageFault.OutOfMemory (λ r. (r.0, r.1.now)) result (counted_at (point_at version) octets.now) }
+    ensures read { GivesButMemory ImageFault.OutOfMemory (λ r. (r.0, r.1.now)) result (counted_at (point_at version) octets.now) }
+    ensures memory { IsErrOf result ImageFault.OutOfMemory → 2 ≤ length octets.now }
 {
     let (count, mut rest) = number_at(octets)?;
     let mut points = Vec::new(alloc);
@@ -260,11 +261,13 @@ fn code_at(alloc: Global, version: Version, octets: &[u8]) -> Result<Listing<u8>
     Err(ImageFault::Truncated)
 }
 
-/// The image that octets spell, in version 1 or 2 of the format, or their first fault from the left. The memory that is
-/// taken is a few times the octets', and one octet for each timer of version 1, of which there are at most 65,535.
+/// The image that octets spell, in version 1 or 2 of the format, or their first fault from the left. Memory can be wanting only where the
+/// octets begin with the mark, a version and the number of points; what is taken is a few times the octets', and one octet for each timer
+/// of version 1, of which there are at most 65,535.
 #[tactic(auto, unfolding(crate::specs::Decoding::decoded))]
 pub fn decode(alloc: Global, octets: &[u8]) -> Result<Image, ImageFault>
-    ensures { GivesButMemory ImageFault.OutOfMemory (λ i. i) result (decoded octets.now) }
+    ensures image { GivesButMemory ImageFault.OutOfMemory (λ i. i) result (decoded octets.now) }
+    ensures memory { IsErrOf result ImageFault.OutOfMemory → TakesMemory octets.now }
 {
     let rest = behind_mark(octets)?;
     let (version, rest) = version_at(rest)?;

@@ -4,22 +4,26 @@ ghost use Rattle.il_image.specs.Codes.{code_of};
 ghost use Rattle.il_image.specs.declared.fault.ImageFault.TheVariants.{OutOfMemory};
 
 use std::alloc::{AllocError, AllocFailed};
-use std::fmt;
 use thiserror::Error;
 
 /// Why octets are not read as an image. The first fault from the left is answered.
 #[derive(Clone, Copy, Debug, PartialEq, Eq, Error)]
 pub enum ImageFault {
     /// The first four octets are not the mark of an image.
+    #[error("this is no image")]
     BadMagic,
     /// The version is none of those that are read.
+    #[error("the version of the image is not known")]
     BadVersion,
     /// An octet is outside its table, a value outside its type, or a name is not of 1 to 64 upper-case letters, digits and
     /// underscores.
+    #[error("an octet of the image stands for nothing")]
     BadOpcode,
     /// The octets or the code end within an item, or octets follow the code.
+    #[error("the image ends too early or too late")]
     Truncated,
     /// There is no memory for the image.
+    #[error("out of memory")]
     OutOfMemory,
 }
 
@@ -35,18 +39,6 @@ impl ImageFault {
             ImageFault::Truncated => Some(83),
             ImageFault::OutOfMemory => None,
         }
-    }
-}
-
-impl fmt::Display for ImageFault {
-    fn fmt<W: fmt::Write>(&self, f: &mut fmt::Formatter<W>) -> fmt::Result {
-        f.write_str(match self {
-            ImageFault::BadMagic => "this is no image",
-            ImageFault::BadVersion => "the version of the image is not known",
-            ImageFault::BadOpcode => "an octet of the image stands for nothing",
-            ImageFault::Truncated => "the image ends too early or too late",
-            ImageFault::OutOfMemory => "out of memory",
-        })
     }
 }
 

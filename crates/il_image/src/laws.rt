@@ -1,12 +1,13 @@
 // Laws of the definitions. Each function does nothing, and its contract is the law.
-ghost use Rattle.std.specs.Prelude.{◌≡◌, ◌∷◌, ◌++◌, ◌⊎◌, ◌↔◌, ◌<◌, Err, IsTrue, length, List, Ok, Some, slice_index, true, ℕ};
-ghost use Rattle.il_image.specs.Decoding.{decoded};
+ghost use Rattle.std.specs.Prelude.{◌≡◌, ◌∷◌, ◌++◌, ◌⊎◌, ◌↔◌, ◌<◌, Err, IsTrue, length, List, Ok, Some, slice_index, take, true, ℕ};
+ghost use Rattle.il_image.specs.Decoding.{IsFirstBad, decoded};
 ghost use Rattle.il_image.specs.Images.{Image, IsImage, encoded, mark};
 ghost use Rattle.il_image.specs.Kinds.{HasKind, is_within, join};
 ghost use Rattle.il_image.specs.Octets.{AreOctets};
+ghost use Rattle.il_image.specs.Places.{IsPlace, is_place};
 ghost use Rattle.il_image.specs.Reading.{StandsAt, instr_at, instr_from};
 ghost use Rattle.il_image.specs.Spelling.{IsInstr, spelling};
-ghost use Rattle.il_image.specs.declared.fault.ImageFault.TheVariants.{BadMagic, BadVersion};
+ghost use Rattle.il_image.specs.declared.fault.ImageFault.TheVariants.{BadMagic, BadOpcode, BadVersion, Truncated};
 ghost use Rattle.il_image.specs.declared.instr.Instr.{Instr};
 ghost use Rattle.il_image.specs.declared.kind.Kind.{Kind};
 ghost use Rattle.il_image.specs.declared.value.Value.{Value};
@@ -38,6 +39,11 @@ pub fn one_spelling_of_instructions()
     ensures places { (code : List ℕ) (place : ℕ) (i : Instr) (next : ℕ) → AreOctets code → (instr_at code place ≡ Some (i, next)) ↔ StandsAt code place i next }
 {}
 
+/// The machine goes on at a place exactly where it is that of one of the code's instructions, each of which stands behind the one before.
+pub fn a_place_is_told()
+    ensures { (code : List ℕ) (place : ℕ) → IsTrue (is_place code place) ↔ IsPlace code place }
+{}
+
 /// What is written of an image in version 2 is read as that image. What is read of octets is an image, and the format spells
 /// it so in one of its versions; octets with the same fifth octet, the version, that are read as the same image are the same.
 pub fn one_spelling_of_images()
@@ -60,4 +66,13 @@ pub fn join_is_least()
 pub fn first_octets_decide()
     ensures mark { (octets : List ℕ) (k : ℕ) → k < 4 → k < length octets → (slice_index octets k ≡ slice_index mark k → ⊥) → decoded octets ≡ Err BadMagic }
     ensures version { (octet : ℕ) (rest : List ℕ) → (octet ≡ 1 → ⊥) → (octet ≡ 2 → ⊥) → decoded (mark ++ octet ∷ rest) ≡ Err BadVersion }
+{}
+
+/// An image ends where its octets end: with octets behind them, and with some of the last ones missing, they are cut short. And an octet
+/// outside its table, or the last of a value outside its type, is the first that is wrong: the octets before it are only cut short, and
+/// with it they are wrong whatever follows.
+pub fn images_end()
+    ensures behind { (octets more : List ℕ) (i : Image) → decoded octets ≡ Ok i → 0 < length more → decoded (octets ++ more) ≡ Err Truncated }
+    ensures front { (octets : List ℕ) (i : Image) (n : ℕ) → decoded octets ≡ Ok i → n < length octets → decoded (take n octets) ≡ Err Truncated }
+    ensures first { (octets : List ℕ) → decoded octets ≡ Err BadOpcode → IsFirstBad octets }
 {}

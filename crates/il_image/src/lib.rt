@@ -15,4 +15,4 @@ pub mod opcode;
 pub mod read;
 pub mod timer;
 pub mod value;
-pub(crate) mod write;
+pub mod write;

@@ -8,7 +8,7 @@ use std::alloc::AllocError;
 
 /// How many octets a signed number has.
 #[derive(Clone, Copy)]
-pub(crate) enum Size {
+pub enum Size {
     One,
     Two,
     Four,

@@ -1,6 +1,6 @@
 -- The image of a checked program fits the points that it was checked with, and its code writes what it may.
-use Rattle.std.proofs.Common.{◌≡◌, ℕ, zero, suc, ◌+◌, ◌<◌, ◌≤◌, ◌&&◌, ◌||◌, Bool, true, false, not, cond, nat_le, if◌then◌else◌, List, [], ◌∷◌, ◌++◌, length, map, Option, Some, None, Result, Ok, Err, refl, sym, ap, ap₂, subst, ◌∙◌, arith}
-use Rattle.std.specs.Prelude.{codes, find, slice_get}
+use Rattle.std.proofs.Common.{◌≡◌, ℕ, zero, suc, ◌+◌, ◌<◌, ◌≤◌, ◌&&◌, ◌||◌, Bool, true, false, not, cond, nat_le, if◌then◌else◌, List, [], ◌∷◌, ◌++◌, length, map, Option, Some, None, Result, Ok, Err, refl, sym, ap, subst, ◌∙◌, arith}
+use Rattle.std.specs.Prelude.{find, slice_get}
 use Rattle.std.specs.Bool.{beq}
 use Rattle.std.specs.List.{cons_option, list_any}
 use Rattle.std.specs.Str.{bytes_eq}
@@ -12,9 +12,7 @@ use Rattle.bay_base.specs.Names.{same_name, upper}
 use Rattle.bay_base.specs.Types.{same_type}
 use Rattle.bay_base.specs.declared.types.ElementaryType.{ElementaryType}
 use Rattle.bay_base.proofs.NameLemmas.{upper-upper}
-use Rattle.bay_config.specs.Point.{inputs_from, meters_from, points_from, points_of_all}
 use Rattle.bay_config.specs.declared.bay.Point.{Point}
-use Rattle.bay_nodes.specs.declared.switch.Switch.{Switch}
 use Rattle.il_text.specs.Listing as text
 use Rattle.il_text.specs.declared.program.DeclaredType.{DeclaredType}
 use Rattle.il_text.specs.declared.program.DeclaredType.TheVariants as type
@@ -46,7 +44,6 @@ use Rattle.il_verify.specs.Verdicts.{IsVerified, KeepsReadOnly}
 use Rattle.il_compile.specs.Code.{program_code}
 use Rattle.il_compile.specs.Compiled.{compiled_of, image_of, image_size, point_of}
 use Rattle.il_compile.specs.Senses.{timer_of}
-use Rattle.il_laws.specs.Verified.{HasUpperName, HaveUpperNames}
 use Rattle.il_compile.specs.declared.fault.CompileFault.TheVariants.{CodeTooLong}
 use Rattle.il_compile.proofs.SizeLemmas.{size_is}
 use Rattle.il_compile.proofs.Spellable.{program_are}
@@ -81,12 +78,12 @@ IsBound points e = list_any (λ b. is_point (point_of e) b) points ≡ true
 some_same : {A : Type 0} (x y : A) → Some x ≡ Some y → x ≡ y
 some_same x y e = cc
 
-found_holds : (test : Point → Bool) (points : List Point) (p : Point) → find test points ≡ Some p → HaveUpperNames points → (test p ≡ true) × HasUpperName p
-found_holds test [] p e h = absurd cc
-found_holds test (q ∷ points) p e h =
-    elim (test q) as (λ b. test q ≡ b → cond b (Some q) (find test points) ≡ Some p → (test p ≡ true) × HasUpperName p) [
-      | true ↦ (λ t g. (let same : q ≡ p = some_same q p g in (subst (λ x. test x ≡ true) same t, subst HasUpperName same h.0)))
-      | false ↦ (λ t g. found_holds test points p g h.1)
+found_holds : (test : Point → Bool) (points : List Point) (p : Point) → find test points ≡ Some p → test p ≡ true
+found_holds test [] p e = absurd cc
+found_holds test (q ∷ points) p e =
+    elim (test q) as (λ b. test q ≡ b → cond b (Some q) (find test points) ≡ Some p → test p ≡ true) [
+      | true ↦ (λ t g. (let same : q ≡ p = some_same q p g in subst (λ x. test x ≡ true) same t))
+      | false ↦ (λ t g. found_holds test points p g)
     ] refl e
 
 found_any : (test other : Point → Bool) (points : List Point) (p : Point) → find test points ≡ Some p → other p ≡ true → list_any other points ≡ true
@@ -114,26 +111,30 @@ of_a_name : (b : Bool) (o : Option Point) (p : Point) → (if b then o else None
 of_a_name true o p e = e
 of_a_name false o p e = absurd cc
 
-bound_at : (points : List Point) (name : List ℕ) (kind : ElementaryType) (o : Option Point) (es : List External) → declared_point points name ≡ o → HaveUpperNames points
+-- the name of an external is its point's, in upper case
+named_so : (name other : List ℕ) → same_name other name ≡ true → same_name (upper name) other ≡ true
+unfolding same_name
+named_so name other h = (bytes_eq-Decides (upper (upper name)) (upper other)).1 (upper-upper name ∙ sym (same_upper other name h))
+
+bound_at : (points : List Point) (name : List ℕ) (kind : ElementaryType) (o : Option Point) (es : List External) → declared_point points name ≡ o
     → is_typed scope.External (type.Elementary kind) o None ≡ true → Each (IsBound points) es → Each (IsBound points) (cons_option (external_at name kind o) es)
-bound_at points name kind None es e h t rest = rest
-bound_at points name kind (Some p) es e h t rest =
+bound_at points name kind None es e t rest = rest
+bound_at points name kind (Some p) es e t rest =
     let e : find (λ q. same_name q.name name) points ≡ Some p = of_a_name (is_name name) (find (λ q. same_name q.name name) points) p e in
-    let f = found_holds (λ q. same_name q.name name) points p e h in
-    let named : upper name ≡ p.name = sym (same_upper p.name name f.0) ∙ f.1 in
+    let named : same_name (upper name) p.name ≡ true = named_so name p.name (found_holds (λ q. same_name q.name name) points p e) in
     let typed : same_type kind p.kind ≡ true = subst (λ k. same_type kind k ≡ true) (sym (same_is p.kind kind t)) (same_self kind) in (
       found_any (λ q. same_name q.name name) (λ b. is_point (point_of (record { name = upper name; kind = kind; writable = p.writable; source = p.source })) b) points p e
-          (both (bytes_eq (upper name) p.name) (same_type kind p.kind && beq p.writable p.writable) ((bytes_eq-Decides (upper name) p.name).1 named)
+          (both (same_name (upper name) p.name) (same_type kind p.kind && beq p.writable p.writable) named
           (both (same_type kind p.kind) (beq p.writable p.writable) typed (equal_self p.writable))),
       rest,
     )
 
-bound_in : (points : List Point) (d : text.Declared) (s : Scope) (k : DeclaredType) (given : Option Literal) (es : List External) → HaveUpperNames points
+bound_in : (points : List Point) (d : text.Declared) (s : Scope) (k : DeclaredType) (given : Option Literal) (es : List External)
     → is_typed s k (declared_point points d.name) given ≡ true → Each (IsBound points) es → Each (IsBound points) (cons_option (external_in points d s k) es)
-bound_in points d scope.External (type.Elementary kind) given es h t rest = bound_at points d.name kind (declared_point points d.name) es refl h t rest
-bound_in points d scope.External (type.Timer kind) given es h t rest = rest
-bound_in points d scope.Local (type.Elementary kind) given es h t rest = rest
-bound_in points d scope.Local (type.Timer kind) given es h t rest = rest
+bound_in points d scope.External (type.Elementary kind) given es t rest = bound_at points d.name kind (declared_point points d.name) es refl t rest
+bound_in points d scope.External (type.Timer kind) given es t rest = rest
+bound_in points d scope.Local (type.Elementary kind) given es t rest = rest
+bound_in points d scope.Local (type.Timer kind) given es t rest = rest
 
 no_fault : (test : Bool) (f : CheckFault) → fault_if test f ≡ [] → test ≡ false
 no_fault true f none = absurd cc
@@ -143,13 +144,13 @@ not_not : (b : Bool) → not b ≡ false → b ≡ true
 not_not true e = refl
 not_not false e = absurd cc
 
-all_bound : (points : List Point) (before ds : List text.Declared) → HaveUpperNames points → declarations_faults points before ds ≡ [] → Each (IsBound points) (externals_of points ds)
-all_bound points before [] h none = tt
-all_bound points before (d ∷ ds) h none =
+all_bound : (points : List Point) (before ds : List text.Declared) → declarations_faults points before ds ≡ [] → Each (IsBound points) (externals_of points ds)
+all_bound points before [] none = tt
+all_bound points before (d ∷ ds) none =
     let two = append-none (declaration_faults points before d) (declarations_faults points (before ++ d ∷ []) ds) none in
     let typed : is_typed d.scope d.kind (declared_point points d.name) d.initial ≡ true =
     not_not _ (no_fault _ _ (append-none _ _ (append-none _ _ (append-none _ _ two.0).1).1).0) in
-    bound_in points d d.scope d.kind d.initial (externals_of points ds) h typed (all_bound points (before ++ d ∷ []) ds h two.1)
+    bound_in points d d.scope d.kind d.initial (externals_of points ds) typed (all_bound points (before ++ d ∷ []) ds two.1)
 
 -- ---- no name stands twice
 
@@ -196,13 +197,13 @@ image_fits points c ok h =
     (both (nat_le (length (map point_of c.externals) + length (map (λ v. v.initial) c.variables)) 512) (nat_le (length (map (λ x. timer_of x.kind) c.timers)) 64)
     (le-leb (length (map point_of c.externals) + length (map (λ v. v.initial) c.variables)) 512 (omega arith)) (le-leb (length (map (λ x. timer_of x.kind) c.timers)) 64 (omega arith))) h
 
-checked_fits : (points : List Point) (program : text.PlainProgram) (c : Checked) → HaveUpperNames points → checked_of points program ≡ Ok c → IsTyped c → fits points (image_of c) ≡ true
-checked_fits points program c upper_names e ok =
+checked_fits : (points : List Point) (program : text.PlainProgram) (c : Checked) → checked_of points program ≡ Ok c → IsTyped c → fits points (image_of c) ≡ true
+checked_fits points program c e ok =
     let p = passed (least_fault (faults_of points program)) (checked_program points program) c e in
     let none = (append-none (declarations_faults points [] program.declarations) (items_faults (names_in points program) program.items (start program)) (least_fault-none (faults_of points program) p.0)).0 in
     image_fits points c ok
     (subst (λ x. are_points points (map point_of x.externals) ≡ true) p.1
-    (points_fit points (externals_of points program.declarations) _ (all_bound points [] program.declarations upper_names none) (all_apart points program.declarations none)))
+    (points_fit points (externals_of points program.declarations) _ (all_bound points [] program.declarations none) (all_apart points program.declarations none)))
 
 -- ---- what the code writes
 
@@ -250,69 +251,13 @@ short c image e =
     elim (nat_le (image_size c) 65_535) as (λ b. nat_le (image_size c) 65_535 ≡ b → (if b then Ok (image_of c) else Err CodeTooLong) ≡ Ok image → (image_size c ≤ 65_535) × (image_of c ≡ image))
     [ true ↦ (λ t g. (leb-true (image_size c) 65_535 t, ok_same (image_of c) image g)) | false ↦ (λ t g. absurd cc) ] refl e
 
-pub verified : (points : List Point) (program : text.PlainProgram) (c : Checked) → HaveUpperNames points → checked_of points program ≡ Ok c → IsTyped c
+pub verified : (points : List Point) (program : text.PlainProgram) (c : Checked) → checked_of points program ≡ Ok c → IsTyped c
     → (image : Image) → compiled_of c ≡ Ok image → IsVerified points image
-verified points program c upper_names e ok image compiled =
+verified points program c e ok image compiled =
     let s = short c image compiled in
     let le = s.0 in
     let are = program_are c ok (omega (arith, size_is c)) in
     subst (IsVerified points) s.1 (record {
-      fits = checked_fits points program c upper_names e ok;
+      fits = checked_fits points program c e ok;
       safe = record { table = has_table c ok are; writes = writes c ok are };
     })
-
--- ---- a bay's points
-
-upper_name : (id ending : List ℕ) → upper ending ≡ ending → upper (upper id ++ ending) ≡ upper id ++ ending
-upper_name id ending e = map_both _ (upper id) ending ∙ ap₂ ◌++◌ (upper-upper id) e
-
-pub upper_from : (place : ℕ) (switches : List Switch) → HaveUpperNames (points_from place switches)
-upper_from place [] = tt
-upper_from place (s ∷ switches) = (
-  upper_name s.id (codes "_POS") refl,
-  (
-    upper_name s.id (codes "_OPEN") refl,
-    (
-      upper_name s.id (codes "_CLOSED") refl,
-      (
-        upper_name s.id (codes "_ENA_OPN") refl,
-        (upper_name s.id (codes "_ENA_CLS") refl, upper_from (place + 1) switches),
-      ),
-    ),
-  ),
-)
-
-inputs_upper : (place : ℕ) (names : List (List ℕ)) → HaveUpperNames (inputs_from place names)
-inputs_upper place [] = tt
-inputs_upper place (name ∷ names) = (upper-upper name, inputs_upper (place + 1) names)
-
-meters_upper : (place : ℕ) (ids : List (List ℕ)) → HaveUpperNames (meters_from place ids)
-meters_upper place [] = tt
-meters_upper place (id ∷ ids) = (
-  upper_name id (codes "_TOTW") refl,
-  (
-    upper_name id (codes "_TOTVAR") refl,
-    (
-      upper_name id (codes "_HZ") refl,
-      (
-        upper_name id (codes "_AA") refl,
-        (
-          upper_name id (codes "_AB") refl,
-          (
-            upper_name id (codes "_AC") refl,
-            meters_upper (place + 1) ids,
-          ),
-        ),
-      ),
-    ),
-  ),
-)
-
-both_upper : (a b : List Point) → HaveUpperNames a → HaveUpperNames b → HaveUpperNames (a ++ b)
-both_upper [] b h k = k
-both_upper (p ∷ a) b h k = (h.0, both_upper a b h.1 k)
-
-pub all_upper : (switches : List Switch) (inputs meters : List (List ℕ)) → HaveUpperNames (points_of_all switches inputs meters)
-all_upper switches inputs meters =
-    both_upper (points_from 0 switches) (inputs_from 0 inputs ++ meters_from 0 meters) (upper_from 0 switches)
-    (both_upper (inputs_from 0 inputs) (meters_from 0 meters) (inputs_upper 0 inputs) (meters_upper 0 meters))

@@ -1,1 +1,2 @@
+pub mod ByNamesLemmas
 pub mod Fits

@@ -1,17 +1,25 @@
 // Laws of the definitions. Each function does nothing, and its contract is the law.
 ghost use Rattle.std.specs.Prelude.{◌≡◌, ℕ, List, Ok};
-ghost use Rattle.bay_config.specs.Point.{points_of_all};
 ghost use Rattle.bay_config.specs.declared.bay.Point.{Point};
-ghost use Rattle.bay_nodes.specs.declared.switch.Switch.{Switch};
 ghost use Rattle.il_text.specs.Listing as text;
+ghost use Rattle.il_image.specs.declared.timer.Timer.{Timer};
+ghost use Rattle.il_image.specs.declared.value.Value.{Value};
 ghost use Rattle.il_check.specs.Checking.{checked_of};
+ghost use Rattle.il_check.specs.Declaring.{names_in};
 ghost use Rattle.il_check.specs.Program.{Checked};
-ghost use Rattle.il_laws.specs.Verified.{HaveUpperNames, Verifies};
+ghost use Rattle.il_laws.specs.ByNames.{GoesByNames};
+ghost use Rattle.il_laws.specs.Verified.{Verifies};
 
-/// Compiled code verifies: the image of a program that was checked with points, whose names are in upper case, fits these points,
-/// a table of kinds agrees with its code, and it writes no point that may only be read. The points of a bay have such names.
+/// Compiled code verifies: the image of a program that was checked with points fits these points, a table of kinds agrees with its code,
+/// and it writes no point that may only be read.
 pub fn compiled_code_verifies()
-    ensures verified { (points : List Point) (program : text.PlainProgram) (c : Checked) → HaveUpperNames points →
-        checked_of points program ≡ Ok c → Verifies points c }
-    ensures bays { (switches : List Switch) (inputs meters : List (List ℕ)) → HaveUpperNames (points_of_all switches inputs meters) }
+    ensures { (points : List Point) (program : text.PlainProgram) (c : Checked) → checked_of points program ≡ Ok c → Verifies points c }
+{}
+
+/// A program's meaning goes by names: in the memory in which each external, variable and timer has what a map from names has for its name,
+/// what an instruction reads where it says a name is what the map has for this name, and what it writes there changes the map at this name
+/// and nowhere else.
+pub fn meaning_goes_by_names()
+    ensures { (points : List Point) (program : text.PlainProgram) (c : Checked) (values : List ℕ → Value) (timers : List ℕ → Timer) →
+        checked_of points program ≡ Ok c → GoesByNames (names_in points program) c values timers }
 {}

@@ -1,4 +1,5 @@
 pub mod FetchLemmas
+pub mod NeverLemmas
 pub mod PlaceLemmas
 pub mod RunLemmas
 pub mod ScanLemmas

@@ -1,5 +1,5 @@
 -- One turn of the machine of words is one turn of the machine of typed values.
-use Rattle.std.proofs.Common.{◌≡◌, ℕ, zero, suc, ◌+◌, ◌≤◌, ℤ, pos, Bool, true, false, cond, List, [], ◌∷◌, length, refl, sym, ap, subst, ◌∙◌, arith, Option, Some, None, ◌⊎◌, inl, inr}
+use Rattle.std.proofs.Common.{◌≡◌, ℕ, zero, suc, ◌+◌, ◌<◌, ◌≤◌, ℤ, pos, Bool, true, false, cond, List, [], ◌∷◌, length, refl, sym, ap, subst, ◌∙◌, arith, Option, Some, None, ◌⊎◌, inl, inr}
 use Rattle.std.specs.Prelude.{IsSome, slice_get, slice_set}
 use Rattle.std.specs.Ordering.{int_eq}
 use Rattle.il_image.specs.declared.instr.Instr.{Instr}
@@ -15,6 +15,7 @@ use Rattle.il_image.specs.Octets.{AreOctets}
 use Rattle.il_image.specs.Reading.{instr_at}
 use Rattle.il_image.specs.Tables.{Enters, IsPlace, LeadsTo, slot_types}
 use Rattle.il_image.specs.Kinds.{AreWithin}
+use Rattle.il_image.proofs.BegunLemmas.{begun}
 use Rattle.il_image.proofs.KindLemmas.{kind_above}
 use Rattle.il_image.proofs.PlaceLemmas.{stands}
 use Rattle.il_verify.specs.Judging.{is_read_only, writes_read_only}
@@ -113,6 +114,9 @@ module _ (image : Image) (now : ℕ) (s : State) (h : Standing image s) where
   is_place : IsPlace image.code s.place
   is_place = (h.agrees.places s.place).0 (some_there (h.table s.place) h.kinds h.here)
 
+  pub place_within : s.place < length image.code
+  place_within = is_place.0
+
   pub read_some : IsSome (instr_at image.code s.place)
   read_some = let a = h.agrees.allowed s.place h.kinds h.here in some_there (instr_at image.code s.place) (a.instr, a.next) a.here
 
@@ -131,7 +135,7 @@ module _ (image : Image) (now : ℕ) (s : State) (h : Standing image s) where
         }
 
     turn_is : turn image.code now s ≡ act now i next s
-    turn_is = ap (λ (o : Option (Instr × ℕ)). turn_of now o s) here
+    turn_is = ap (λ (o : Option (Instr × ℕ)). turn_of now o s) (begun image.code s.place is_place ∙ here)
 
     goes_somewhere : (to : ℕ) → LeadsTo i next to → i ≡ Halt → ⊥
     goes_somewhere to way e = subst (λ (j : Instr). LeadsTo j next to) e way

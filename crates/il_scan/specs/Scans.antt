@@ -1,5 +1,5 @@
 -- What a scan of a machine is.
-use Rattle.std.specs.Prelude.{ℕ, zero, suc, ◌≡◌, ◌+◌, ◌≤◌, ◌&&◌, Bool, true, false, is_some, not, List, [], ◌∷◌, length, map, filter, drop, slice_get, Some, if◌then◌else◌}
+use Rattle.std.specs.Prelude.{ℕ, zero, suc, ◌≡◌, ◌+◌, ◌<◌, ◌≤◌, ◌&&◌, Bool, true, false, is_some, not, List, [], ◌∷◌, length, map, filter, drop, slice_get, Some, if◌then◌else◌}
 use Rattle.bay_base.specs.declared.types.ElementaryType.{ElementaryType}
 use Rattle.bay_base.specs.declared.types.ElementaryType.TheVariants as elementary
 use Rattle.il_image.specs.declared.image.ImagePoint.{ImagePoint}
@@ -38,6 +38,10 @@ first_slots (p ∷ points) variables = first_value p.elementary ∷ first_slots 
 
 abbrev pub held_first : Image → Held
 held_first image = record { image = image; slots = first_slots image.points image.variables; timers = map first_state image.timers }
+
+-- The image has a slot or a timer, so that a machine keeps something beside it.
+abbrev pub TakesMemory : Image → Type 0
+TakesMemory image = 0 < length image.points + length image.variables + length image.timers
 
 -- ---- inputs and outputs
 

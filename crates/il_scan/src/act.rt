@@ -14,7 +14,7 @@ use il_image::timer::Timer;
 
 /// NOT: the top is negated.
 #[inline(always)]
-fn negate(stack: &mut Stack<'_>)
+fn negate(stack: &mut Stack)
     requires some { 0 < length stack.old }
     ensures { stack.new ≡ word_of (int_eq (spec.top stack.old) (pos 0)) ∷ drop 1 stack.old }
 {
@@ -24,7 +24,7 @@ fn negate(stack: &mut Stack<'_>)
 
 /// AND: two BOOLs become one.
 #[inline(always)]
-fn and(stack: &mut Stack<'_>)
+fn and(stack: &mut Stack)
     requires two { 1 < length stack.old }
     ensures { stack.new ≡ joined Connective.And (spec.first stack.old) (spec.top stack.old) ∷ drop 2 stack.old }
 {
@@ -35,7 +35,7 @@ fn and(stack: &mut Stack<'_>)
 
 /// OR: two BOOLs become one.
 #[inline(always)]
-fn or(stack: &mut Stack<'_>)
+fn or(stack: &mut Stack)
     requires two { 1 < length stack.old }
     ensures { stack.new ≡ joined Connective.Or (spec.first stack.old) (spec.top stack.old) ∷ drop 2 stack.old }
 {
@@ -46,7 +46,7 @@ fn or(stack: &mut Stack<'_>)
 
 /// XOR: two BOOLs become one.
 #[inline(always)]
-fn xor(stack: &mut Stack<'_>)
+fn xor(stack: &mut Stack)
     requires two { 1 < length stack.old }
     ensures { stack.new ≡ joined Connective.Xor (spec.first stack.old) (spec.top stack.old) ∷ drop 2 stack.old }
 {
@@ -57,7 +57,7 @@ fn xor(stack: &mut Stack<'_>)
 
 /// AND, OR or XOR.
 #[inline(always)]
-fn combine(stack: &mut Stack<'_>, connective: Connective)
+fn combine(stack: &mut Stack, connective: Connective)
     requires two { 1 < length stack.old }
     ensures { stack.new ≡ joined connective (spec.first stack.old) (spec.top stack.old) ∷ drop 2 stack.old }
 {
@@ -70,7 +70,7 @@ fn combine(stack: &mut Stack<'_>, connective: Connective)
 
 /// One of ADD, SUB, MUL, DIV, MOD: two numbers of the width become one.
 #[inline(always)]
-fn calculate(stack: &mut Stack<'_>, operation: Operation, width: Width)
+fn calculate(stack: &mut Stack, operation: Operation, width: Width)
     requires two { 1 < length stack.old }
     requires divisor { DividesBy operation (spec.top stack.old) }
     ensures { stack.new ≡ computed operation width (spec.first stack.old) (spec.top stack.old) ∷ drop 2 stack.old }
@@ -82,7 +82,7 @@ fn calculate(stack: &mut Stack<'_>, operation: Operation, width: Width)
 
 /// ADD, SUB, MUL, DIV or MOD. Each is a call of its own, so that what is done is known where the opcode is.
 #[inline(always)]
-fn calculate_by(stack: &mut Stack<'_>, operation: Operation, width: Width)
+fn calculate_by(stack: &mut Stack, operation: Operation, width: Width)
     requires two { 1 < length stack.old }
     requires divisor { DividesBy operation (spec.top stack.old) }
     ensures { stack.new ≡ computed operation width (spec.first stack.old) (spec.top stack.old) ∷ drop 2 stack.old }
@@ -98,7 +98,7 @@ fn calculate_by(stack: &mut Stack<'_>, operation: Operation, width: Width)
 
 /// One of GT, GE, EQ, NE, LE, LT: two values of one type become a BOOL.
 #[inline(always)]
-fn relate(stack: &mut Stack<'_>, comparison: Comparison)
+fn relate(stack: &mut Stack, comparison: Comparison)
     requires two { 1 < length stack.old }
     ensures { stack.new ≡ word_of (compared comparison (spec.first stack.old) (spec.top stack.old)) ∷ drop 2 stack.old }
 {
@@ -109,7 +109,7 @@ fn relate(stack: &mut Stack<'_>, comparison: Comparison)
 
 /// GT, GE, EQ, NE, LE or LT.
 #[inline(always)]
-fn relate_by(stack: &mut Stack<'_>, comparison: Comparison)
+fn relate_by(stack: &mut Stack, comparison: Comparison)
     requires two { 1 < length stack.old }
     ensures { stack.new ≡ word_of (compared comparison (spec.first stack.old) (spec.top stack.old)) ∷ drop 2 stack.old }
 {
@@ -125,14 +125,14 @@ fn relate_by(stack: &mut Stack<'_>, comparison: Comparison)
 
 /// WIDEN, WIDENL: the word of a number is the same in each width.
 #[inline(always)]
-fn widen(_stack: &mut Stack<'_>)
+fn widen(_stack: &mut Stack)
     requires { 0 < length _stack.old }
     ensures { _stack.new ≡ _stack.old }
 {}
 
 /// LOAD: a slot's word goes on the stack.
 #[inline(always)]
-fn load(stack: &mut Stack<'_>, slots: &[i64], number: u16)
+fn load(stack: &mut Stack, slots: &[i64], number: u16)
     requires room { length stack.old < 32 }
     requires there { number < length slots.now }
     ensures { stack.new ≡ slot_at slots.now number ∷ stack.old }
@@ -142,7 +142,7 @@ fn load(stack: &mut Stack<'_>, slots: &[i64], number: u16)
 
 /// STORE: the slot takes the top.
 #[inline(always)]
-fn store(stack: &Stack<'_>, slots: &mut [i64], number: u16)
+fn store(stack: &Stack, slots: &mut [i64], number: u16)
     requires some { 0 < length stack.now }
     requires there { number < length slots.old }
     ensures { slots.new ≡ slice_set slots.old number (spec.top stack.now) }
@@ -152,7 +152,7 @@ fn store(stack: &Stack<'_>, slots: &mut [i64], number: u16)
 
 /// SETIF, RESETIF: the slot takes TRUE or FALSE where the top is TRUE.
 #[inline(always)]
-fn set_if(stack: &Stack<'_>, slots: &mut [i64], number: u16, word: i64)
+fn set_if(stack: &Stack, slots: &mut [i64], number: u16, word: i64)
     requires some { 0 < length stack.now }
     requires there { number < length slots.old }
     ensures { slots.new ≡ slice_set slots.old number (if int_eq (spec.top stack.now) (pos 0) then slot_at slots.old number else word) }
@@ -164,7 +164,7 @@ fn set_if(stack: &Stack<'_>, slots: &mut [i64], number: u16, word: i64)
 
 /// The place of the next instruction behind a conditional jump: the first where the top is FALSE.
 #[inline(always)]
-fn choose(stack: &Stack<'_>, where_false: usize, where_true: usize) -> usize
+fn choose(stack: &Stack, where_false: usize, where_true: usize) -> usize
     requires { 0 < length stack.now }
     ensures { result ≡ (if int_eq (spec.top stack.now) (pos 0) then where_false else where_true) }
 {
@@ -177,7 +177,7 @@ fn choose(stack: &Stack<'_>, where_false: usize, where_true: usize) -> usize
 
 /// SETIN: the timer takes the top as IN.
 #[inline(always)]
-fn set_input(stack: &mut Stack<'_>, timers: &mut [Timer], number: u16)
+fn set_input(stack: &mut Stack, timers: &mut [Timer], number: u16)
     requires some { 0 < length stack.old }
     requires there { number < length timers.old }
     ensures stack { stack.new ≡ drop 1 stack.old }
@@ -190,7 +190,7 @@ fn set_input(stack: &mut Stack<'_>, timers: &mut [Timer], number: u16)
 
 /// SETPT: the timer takes the top as PT.
 #[inline(always)]
-fn set_preset(stack: &mut Stack<'_>, timers: &mut [Timer], number: u16)
+fn set_preset(stack: &mut Stack, timers: &mut [Timer], number: u16)
     requires some { 0 < length stack.old }
     requires there { number < length timers.old }
     requires span { IsSpan (spec.top stack.old) }
@@ -213,7 +213,7 @@ fn run(timers: &mut [Timer], number: u16, now: u64)
 
 /// LOADQ: Q goes on the stack.
 #[inline(always)]
-fn load_output(stack: &mut Stack<'_>, timers: &[Timer], number: u16)
+fn load_output(stack: &mut Stack, timers: &[Timer], number: u16)
     requires room { length stack.old < 32 }
     requires there { number < length timers.now }
     ensures { stack.new ≡ word_of (timer_at timers.now number).output ∷ stack.old }
@@ -224,7 +224,7 @@ fn load_output(stack: &mut Stack<'_>, timers: &[Timer], number: u16)
 
 /// LOADET: ET goes on the stack.
 #[inline(always)]
-fn load_elapsed(stack: &mut Stack<'_>, timers: &[Timer], number: u16)
+fn load_elapsed(stack: &mut Stack, timers: &[Timer], number: u16)
     requires room { length stack.old < 32 }
     requires there { number < length timers.now }
     ensures { stack.new ≡ pos (timer_at timers.now number).elapsed ∷ stack.old }
@@ -239,7 +239,7 @@ pub(crate) fn act(
     now: u64,
     instr: Instr,
     next: usize,
-    stack: &mut Stack<'_>,
+    stack: &mut Stack,
     slots: &mut [i64],
     timers: &mut [Timer],
 ) -> Option<usize>

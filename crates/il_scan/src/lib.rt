@@ -8,10 +8,12 @@
 // - `slots`: inputs and outputs, and what slots hold at first.
 // - `points`: inputs and outputs point by point.
 // - `machine`: the machine, and its scans.
+// - `laws`: what holds of verified code in any state.
 #![tactic(auto)]
 
 pub(crate) mod act;
 pub(crate) mod fetch;
+pub mod laws;
 pub mod machine;
 pub mod points;
 pub(crate) mod run;

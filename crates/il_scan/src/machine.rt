@@ -3,7 +3,7 @@ ghost use Rattle.std.specs.Prelude.{◌≡◌, ◌↔◌, IfErr, IfOk, IsTrue, m
 ghost use Rattle.std.specs.Borrow.{sem};
 ghost use Rattle.std.specs.Io.BufRead.{Rests};
 ghost use Rattle.il_scan.specs.Places.{read_places};
-ghost use Rattle.il_scan.specs.Scans.{AreInputs, Scans, held_first, outputs_of, read_only, type_of_point};
+ghost use Rattle.il_scan.specs.Scans.{AreInputs, Scans, TakesMemory, held_first, outputs_of, read_only, type_of_point};
 ghost use Rattle.il_scan.specs.Standing.{IsHeld, IsKept, held};
 ghost use Rattle.il_scan.specs.Words.{values_of};
 ghost use Rattle.il_image.specs.Tables.{slot_types};
@@ -31,8 +31,6 @@ pub struct Machine {
     timers: Vec<Timer>,
     places: Places,
     outputs: Vec<Value>,
-    // Where the operand stack lies while the code runs; between scans its words have no meaning.
-    words: [i64; 32],
 }
 
 impl Model for Machine {
@@ -68,6 +66,7 @@ struct Memory {
 fn memory_of(alloc: Global, image: &Image) -> Result<Memory, AllocError>
     ensures first { IfOk result (λ m. held image.now m.slots.items m.timers.items ≡ held_first image.now) }
     ensures kept { IfOk result (λ m. IsKept image.now m.slots.items m.timers.items m.places.reads.items m.places.writes.items m.outputs.items) }
+    ensures memory { IfErr result (λ e. TakesMemory image.now) }
 {
     let slots = first_slots(alloc, image)?;
     let timers = first_timers(alloc, image.timers())?;
@@ -86,7 +85,6 @@ fn run_points<I: Inputs>(
     image: &Image,
     inputs: &I,
     now: u64,
-    words: &mut [i64; 32],
     slots: &mut [i64],
     timers: &mut [Timer],
     reads: &[usize],
@@ -100,7 +98,7 @@ fn run_points<I: Inputs>(
     ensures held { IsHeld image.now slots.new timers.new }
 {
     read_inputs(reads, inputs, slots);
-    run(image, now, words, slots, timers)
+    run(image, now, slots, timers)
 }
 
 /// A scan over words whose inputs and outputs are lists.
@@ -108,7 +106,6 @@ fn run_once(
     image: &Image,
     inputs: &[Value],
     now: u64,
-    words: &mut [i64; 32],
     slots: &mut [i64],
     timers: &mut [Timer],
     places: &Places,
@@ -121,25 +118,18 @@ fn run_once(
     ensures kept { IsKept image.now slots.new timers.new places.now.reads.items places.now.writes.items outputs.new }
 {
     let inputs = Listed { values: inputs };
-    let steps = run_points(
-        image,
-        &inputs,
-        now,
-        words,
-        slots,
-        timers,
-        places.reads.as_slice(),
-    );
+    let steps = run_points(image, &inputs, now, slots, timers, places.reads.as_slice());
     give_outputs(image.points(), places.writes.as_slice(), slots, outputs);
     steps
 }
 
 impl Machine {
     /// A machine whose variables have their initial values, whose points are FALSE or 0, and whose timers were never called. For want of
-    /// memory the verified image comes back.
+    /// memory, which can come only where the image has a slot or a timer, the verified image comes back.
     pub fn new(alloc: Global, verified: Verified) -> Result<Machine, Verified>
         ensures ok { IfOk result (λ m. m ≡ held_first verified) }
         ensures back { IfErr result (λ v. v ≡ verified) }
+        ensures memory { IfErr result (λ v. TakesMemory verified) }
     {
         match memory_of(alloc, verified.image()) {
             Ok(
@@ -155,7 +145,6 @@ impl Machine {
                 timers,
                 places,
                 outputs,
-                words: [0; 32],
             }),
             Err(_) => Err(verified),
         }
@@ -187,7 +176,6 @@ impl Machine {
             self.verified.image(),
             inputs,
             now,
-            &mut self.words,
             self.slots.as_mut_slice(),
             self.timers.as_mut_slice(),
             self.places.reads.as_slice(),
@@ -215,7 +203,6 @@ impl Machine {
             self.verified.image(),
             inputs,
             now,
-            &mut self.words,
             self.slots.as_mut_slice(),
             self.timers.as_mut_slice(),
             &self.places,

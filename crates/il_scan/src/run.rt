@@ -18,7 +18,7 @@ fn turn(
     code: &[u8],
     now: u64,
     place: usize,
-    stack: &mut Stack<'_>,
+    stack: &mut Stack,
     slots: &mut [i64],
     timers: &mut [Timer],
 ) -> Option<usize>
@@ -32,21 +32,14 @@ fn turn(
     act(now, instr, next, stack, slots, timers)
 }
 
-/// Runs the code over the slots and the timers at this moment, and counts its instructions. The operand stack lies in the words, whatever
-/// they are.
-pub(crate) fn run(
-    image: &Image,
-    now: u64,
-    words: &mut [i64; 32],
-    slots: &mut [i64],
-    timers: &mut [Timer],
-) -> u32
+/// Runs the code over the slots and the timers at this moment, and counts its instructions.
+pub(crate) fn run(image: &Image, now: u64, slots: &mut [i64], timers: &mut [Timer]) -> u32
     requires safe { IsSafe image.now }
     requires held { IsHeld image.now slots.old timers.old }
     ensures { RunsTo image.now now slots.old timers.old slots.new timers.new result }
 {
     let code = image.code();
-    let mut stack = Stack::new(words);
+    let mut stack = Stack::new();
     let mut place = 0;
     let mut steps = 0;
     while let Some(next) = turn(image, code, now, place, &mut stack, slots, timers) {

@@ -1,5 +1,5 @@
 // Inputs, outputs, and what slots and timers hold at first.
-ghost use Rattle.std.specs.Prelude.{◌≡◌, ◌+◌, ◌<◌, ◌≤◌, ◌++◌, IfOk, IsSome, OnOk, Some, drop, if◌then◌else◌, length, map, pos, slice_set};
+ghost use Rattle.std.specs.Prelude.{◌≡◌, ◌+◌, ◌<◌, ◌≤◌, ◌++◌, IfErr, IfOk, IsSome, OnOk, Some, drop, if◌then◌else◌, length, map, pos, slice_set};
 ghost use Rattle.il_image.specs.Timers.{first_state};
 ghost use Rattle.il_image.specs.Values as values;
 ghost use Rattle.il_scan.specs.Scans as scans;
@@ -73,6 +73,7 @@ pub(crate) struct Places {
 pub(crate) fn places_of(alloc: Global, points: &[ImagePoint]) -> Result<Places, AllocError>
     ensures reads { IfOk result (λ places. places.reads.items ≡ read_places 0 points.now) }
     ensures writes { IfOk result (λ places. places.writes.items ≡ write_places 0 points.now) }
+    ensures memory { IfErr result (λ e. 0 < length points.now) }
 {
     let mut reads = Vec::new(alloc);
     let mut writes = Vec::new(alloc);
@@ -169,7 +170,8 @@ pub(crate) fn give_outputs(
 }
 
 fn push_zeros(slots: &mut Vec<i64>, points: &[ImagePoint]) -> Result<(), AllocError>
-    ensures { OnOk result (slots.new.items ≡ slots.old.items ++ map (λ _. pos 0) points.now) }
+    ensures ok { OnOk result (slots.new.items ≡ slots.old.items ++ map (λ _. pos 0) points.now) }
+    ensures memory { IfErr result (λ e. 0 < length points.now) }
 {
     for _ in points {
         slots.push(0)?;
@@ -178,7 +180,8 @@ fn push_zeros(slots: &mut Vec<i64>, points: &[ImagePoint]) -> Result<(), AllocEr
 }
 
 fn push_numbers(slots: &mut Vec<i64>, variables: &[Value]) -> Result<(), AllocError>
-    ensures { OnOk result (slots.new.items ≡ slots.old.items ++ words_of variables.now) }
+    ensures ok { OnOk result (slots.new.items ≡ slots.old.items ++ words_of variables.now) }
+    ensures memory { IfErr result (λ e. 0 < length variables.now) }
 {
     for variable in variables {
         slots.push(variable.number())?;
@@ -188,7 +191,8 @@ fn push_numbers(slots: &mut Vec<i64>, variables: &[Value]) -> Result<(), AllocEr
 
 /// The words of the slots at first: FALSE or 0 for each point, and the variables' initial values.
 pub(crate) fn first_slots(alloc: Global, image: &Image) -> Result<Vec<i64>, AllocError>
-    ensures { IfOk result (λ slots. slots.items ≡ map (λ _. pos 0) image.now.points ++ words_of image.now.variables) }
+    ensures ok { IfOk result (λ slots. slots.items ≡ map (λ _. pos 0) image.now.points ++ words_of image.now.variables) }
+    ensures memory { IfErr result (λ e. 0 < length image.now.points + length image.now.variables) }
 {
     let mut slots = Vec::new(alloc);
     push_zeros(&mut slots, image.points())?;
@@ -198,7 +202,8 @@ pub(crate) fn first_slots(alloc: Global, image: &Image) -> Result<Vec<i64>, Allo
 
 /// The timers at first.
 pub(crate) fn first_timers(alloc: Global, kinds: &[TimerKind]) -> Result<Vec<Timer>, AllocError>
-    ensures { IfOk result (λ timers. timers.items ≡ map first_state kinds.now) }
+    ensures ok { IfOk result (λ timers. timers.items ≡ map first_state kinds.now) }
+    ensures memory { IfErr result (λ e. 0 < length kinds.now) }
 {
     let mut timers = Vec::new(alloc);
     for kind in kinds {
@@ -212,7 +217,8 @@ pub(crate) fn room_for_outputs(
     alloc: Global,
     points: &[ImagePoint],
 ) -> Result<Vec<Value>, AllocError>
-    ensures { IfOk result (λ outputs. length outputs.items ≡ writable_count points.now) }
+    ensures ok { IfOk result (λ outputs. length outputs.items ≡ writable_count points.now) }
+    ensures memory { IfErr result (λ e. 0 < length points.now) }
 {
     let mut outputs = Vec::new(alloc);
     let mut rest = points;

@@ -2,34 +2,35 @@
 ghost use Rattle.std.specs.Prelude.{◌≡◌, ◌<◌, ◌∷◌, [], drop, length};
 ghost use Rattle.il_scan.specs.Words as spec;
 
+use arrayvec::ArrayVec;
 use std::marker::Model;
 
-/// The operand stack. Its words lie where its maker put them and its depth beside them, so that the depth can stay in a register. What
-/// lies above the top has no meaning.
+/// The operand stack. That there is room for a word that is put on it, and a word where one is taken, is known of verified code, so it is
+/// not asked.
 #[derive(Drop)]
-pub(crate) struct Stack<'a> {
-    words: &'a mut [i64],
-    depth: usize,
+pub(crate) struct Stack {
+    words: ArrayVec<i64, 32>,
 }
 
-impl<'a> Model for Stack<'a> {
-    ghost use Rattle.std.specs.Prelude.{◌≡◌, ◌≤◌, ℤ, List, length, reverse, take};
+impl Model for Stack {
+    ghost use Rattle.std.specs.Prelude.{◌≤◌, ℤ, List, length, reverse};
 
     ghost Value = { List ℤ };
 
-    ghost view = { λ s. reverse (take s.depth s.words.now) };
+    ghost view = { λ s. reverse s.words.items };
 
-    ghost invariant = { λ s. (length s.words.now ≡ 32) × (s.depth ≤ 32) };
+    ghost invariant = { λ s. length s.words.items ≤ 32 };
 }
 
-impl<'a> Stack<'a> {
+impl Stack {
     /// An empty stack.
     #[inline(always)]
-    pub(crate) fn new(words: &'a mut [i64]) -> Stack<'a>
-        requires { length words.old ≡ 32 }
+    pub(crate) fn new() -> Stack
         ensures { result ≡ [] }
     {
-        Stack { words, depth: 0 }
+        Stack {
+            words: ArrayVec::new(),
+        }
     }
 
     /// Takes the top away.
@@ -39,8 +40,7 @@ impl<'a> Stack<'a> {
         ensures is { self.old ≡ result ∷ self.new }
         ensures room { length self.new < 32 }
     {
-        self.depth -= 1;
-        self.words[self.depth]
+        self.words.swap_remove(self.words.len() - 1)
     }
 
     /// Puts a word on the stack.
@@ -49,8 +49,7 @@ impl<'a> Stack<'a> {
         requires { length self.old < 32 }
         ensures { self.new ≡ word ∷ self.old }
     {
-        self.words[self.depth] = word;
-        self.depth += 1;
+        self.words.push(word);
     }
 
     /// The top.
@@ -59,7 +58,8 @@ impl<'a> Stack<'a> {
         requires { 0 < length self.now }
         ensures { result ≡ spec.top self.now }
     {
-        self.words[self.depth - 1]
+        let words = self.words.as_slice();
+        words[words.len() - 1]
     }
 
     /// Puts a word in the place of the top.

@@ -23,6 +23,7 @@ use Rattle.il_text.specs.declared.token.Mark.{Mark}
 use Rattle.il_text.specs.declared.token.Mark.TheVariants as mark
 use Rattle.il_text.specs.declared.token.Mnemonic.{Mnemonic}
 use Rattle.il_text.specs.declared.token.Mnemonic.TheVariants.{Combine}
+use Rattle.bay_base.specs.Names.{same_name}
 use Rattle.il_text.proofs.CaseLemmas.{up, up-eqb, up-underscore, up-digit, up-alphabetic, up-alphanumeric, same_up, length-up, halves-up, decimal-up, prefixed-up}
 
 abbrev pub upper_symbol : Symbol → Symbol
@@ -159,8 +160,7 @@ mark-up p =
       plain-up p (40 ∷ []) refl,
       plain-up p (41 ∷ []) refl,
       plain-up p (38 ∷ []) refl,
-      index-up p 0,
-      up-eqb (slice_index p 0) 38 (lit< tt),
+      same_up p (38 ∷ 78 ∷ []),
     ) refl
 
 line_end-up : (p : List ℕ) → is_line_end (map up p) ≡ is_line_end p
@@ -275,7 +275,7 @@ kept_marks p =
     (kept_if (bytes_eq p (codes "(")) (kept_mark mark.Open)
     (kept_if (bytes_eq p (codes ")")) (kept_mark mark.Close)
     (kept_if (bytes_eq p (codes "&")) (kept_operator (Combine And false))
-    (kept_if (eqb (slice_index p 0) 38) (kept_operator (Combine And true)) kept_none))))))))
+    (kept_if (same_name p (codes "&N")) (kept_operator (Combine And true)) kept_none))))))))
 
 piece_by : (p : List ℕ) (a b c : Bool) → is_blank (slice_index p 0) ≡ a → is_line_end p ≡ b → begins_word (slice_index p 0) ≡ c → piece (map up p) ≡ upper_piece (piece p)
 unfolding piece

@@ -14,6 +14,7 @@ use Rattle.il_text.specs.Reading.{Read, reading, lines, onto, tokens_of, then_on
 use Rattle.il_text.specs.Places.{last_line}
 use Rattle.il_text.specs.ReaderViews.{read_on}
 use Rattle.il_text.specs.Runs.{IsPiece}
+use Rattle.bay_base.specs.Names.{same_name}
 use Rattle.il_text.specs.Symbols.{piece, cut, mark_of}
 use Rattle.il_text.specs.Tokens.{Symbol, name, frame_word, type_word, literal, mnemonic_word, mark_symbol, Piece, blank, line_end, token, bad_token, bad_literal}
 use Rattle.il_text.specs.declared.fault.TextFault.{TextFault}
@@ -146,7 +147,7 @@ unfolding piece
 end_piece = refl
 
 unclosed_piece : piece (256 ∷ []) ≡ bad_token
-unfolding piece mark_of
+unfolding piece mark_of same_name
 unclosed_piece = refl
 
 space_first : (xs : List ℕ) → map piece (pieces (32 ∷ xs)) ≡ blank ∷ map piece (pieces xs)

@@ -10,7 +10,7 @@ use Rattle.il_text.specs.Parts.{Part, heading, ending}
 use Rattle.il_text.specs.Places.{last_line}
 use Rattle.il_text.specs.Reading.{tokens_of, program_of, lines}
 use Rattle.il_text.specs.Symbols.{cut}
-use Rattle.il_text.specs.Texts.{Line, numbered, all_parts, Allowed, LineFault, no_program, too_deep, too_long, Refused, Ends, OnParts, OnTokens, Reads, ReadsAs, OneReading}
+use Rattle.il_text.specs.Texts.{Line, numbered, all_parts, Allowed, LineFault, no_program, too_deep, too_long, Refused, Ends, OnParts, OnTokens, Reads, ReadsAs, OneReading, ProgramIsRead}
 use Rattle.il_text.specs.Tokens.{Symbol, Piece}
 use Rattle.il_text.specs.declared.fault.TextFault.{TextFault}
 use Rattle.il_text.proofs.FinishLemmas.{one_derived}
@@ -76,6 +76,10 @@ reads_one last before n (l ∷ ls) x y a b =
 pub one_reading : OneReading
 unfolding ReadsAs
 one_reading text x y a b = reads_one (last_line text) [] 1 (lines (cut false text)) x y a b
+
+pub program_is_read : ProgramIsRead
+program_is_read text r =
+    (λ a. one_reading text (program_of text) r (text_reads text) a, λ e. subst (λ (x : Result PlainProgram TextFault). ReadsAs text x) e (text_reads text))
 
 -- numbers that never fall, from one number up to another
 abbrev Climbs : ℕ → List ℕ → ℕ → Type 0

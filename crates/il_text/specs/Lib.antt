@@ -14,6 +14,7 @@ pub mod Literals
 pub mod Parts
 pub mod Pieces
 pub mod Places
+pub mod Productions
 pub mod ReaderViews
 pub mod Reading
 pub mod Respelling

@@ -1,6 +1,7 @@
 -- What a piece of a text is: a blank, a line end, a token, or none (IEC 61131-3:2003, 2.1 and annex B).
-use Rattle.std.specs.Prelude.{ℕ, Bool, true, false, ◌||◌, ◌==◌, nat_le, if◌then◌else◌, List, [], ◌∷◌, length, slice_index, codes, map, Option, Some, None, Result, Ok, Err}
-use Rattle.std.specs.Str.{byte, bytes_eq}
+use Rattle.std.specs.Prelude.{ℕ, Bool, true, false, ◌||◌, nat_le, if◌then◌else◌, List, [], ◌∷◌, length, slice_index, codes, map, Option, Some, None, Result, Ok, Err}
+use Rattle.std.specs.Str.{bytes_eq}
+use Rattle.bay_base.specs.Names.{same_name}
 use Rattle.il_text.specs.Characters.{is_blank, begins_word, begins_name}
 use Rattle.il_text.specs.Literals.{halves, prefixed, decimal, untyped}
 use Rattle.il_text.specs.Pieces.{pieces, blanked}
@@ -45,7 +46,7 @@ mark_of p =
     else if bytes_eq p (codes "(") then Some (mark_symbol mark.Open)
     else if bytes_eq p (codes ")") then Some (mark_symbol mark.Close)
     else if bytes_eq p (codes "&") then Some (mnemonic_word (Combine And false))
-    else if slice_index p 0 == byte "&" then Some (mnemonic_word (Combine And true))
+    else if same_name p (codes "&N") then Some (mnemonic_word (Combine And true))
     else None
 
 abbrev pub mark_piece : Option Symbol → Piece

@@ -1,12 +1,12 @@
 -- What a text reads as: its program, or its first faulty line (IEC 61131-3:2003, 2.1, 2.5.3 and 3.2).
-use Rattle.std.specs.Prelude.{◌≡◌, ℕ, ◌+◌, ◌<◌, ◌⊎◌, Bool, true, false, List, [], ◌∷◌, ◌++◌, map, count_by, Option, Some, None, Result, Ok, Err}
+use Rattle.std.specs.Prelude.{◌≡◌, ◌↔◌, ℕ, ◌+◌, ◌<◌, ◌⊎◌, Bool, true, false, List, [], ◌∷◌, ◌++◌, map, count_by, Option, Some, None, Result, Ok, Err}
 use Rattle.std.specs.List.{flat_map}
 use Rattle.il_text.specs.Forms.{parts_of}
 use Rattle.il_text.specs.Grammar.{Numbered, Derives, CanGoOn}
 use Rattle.il_text.specs.Listing.{PlainProgram}
 use Rattle.il_text.specs.Parts.{Part, entering, leaving}
 use Rattle.il_text.specs.Places.{last_line}
-use Rattle.il_text.specs.Reading.{lines, tokens_of, has_instruction, past_limit}
+use Rattle.il_text.specs.Reading.{lines, tokens_of, has_instruction, past_limit, program_of}
 use Rattle.il_text.specs.Symbols.{cut}
 use Rattle.il_text.specs.Tokens.{Symbol, Piece}
 use Rattle.il_text.specs.declared.fault.TextFault.{TextFault}
@@ -85,3 +85,7 @@ ReadsAs text r = Reads (last_line text) [] 1 (lines (cut false text)) r
 -- a text reads as one program, or has one fault
 abbrev pub OneReading : Type 0
 OneReading = (text : List ℕ) (x y : Result PlainProgram TextFault) → ReadsAs text x → ReadsAs text y → x ≡ y
+
+-- a text reads as a program, or has a fault, exactly where the reading by lines gives it
+abbrev pub ProgramIsRead : Type 0
+ProgramIsRead = (text : List ℕ) (r : Result PlainProgram TextFault) → ReadsAs text r ↔ (program_of text ≡ r)

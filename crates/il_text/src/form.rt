@@ -27,9 +27,9 @@ pub(crate) enum Statement<'a> {
 
 /// What follows the names of a declaration: its type, and its initial value.
 #[derive(Clone, Copy)]
-pub(crate) struct Tail {
-    pub(crate) kind: DeclaredType,
-    pub(crate) initial: Option<Literal>,
+pub struct Tail {
+    pub kind: DeclaredType,
+    pub initial: Option<Literal>,
 }
 
 /// A line, by its form. The names of a declaration are not looked at yet.

@@ -8,6 +8,7 @@ use crate::literal::{LiteralFault, decimal, halves, prefixed, untyped};
 use crate::program::{Literal, Operator};
 use crate::reserved::{combine, reserved_token};
 use crate::token::{Mark, Token};
+use bay_base::names::same_letters;
 
 /// A piece of a text.
 #[derive(Clone, Copy)]
@@ -75,7 +76,7 @@ fn mark_of<'a>(piece: &[u8]) -> Option<Token<'a>>
         b"(" => Some(Token::Mark(Mark::Open)),
         b")" => Some(Token::Mark(Mark::Close)),
         b"&" => Some(Token::Mnemonic(combine(Operator::And, false))),
-        [b'&', ..] => Some(Token::Mnemonic(combine(Operator::And, true))),
+        _ if same_letters(piece, b"&N") => Some(Token::Mnemonic(combine(Operator::And, true))),
         _ => None,
     }
 }

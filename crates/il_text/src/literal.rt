@@ -12,7 +12,7 @@ use bay_base::names::{same_letters, same_name};
 
 /// Why a word is no literal.
 #[derive(Clone, Copy)]
-pub(crate) enum LiteralFault {
+pub enum LiteralFault {
     /// It is not formed as a literal.
     Malformed,
     /// It is formed as one, and its value is outside its type.

@@ -3,7 +3,7 @@ use crate::program::{Condition, Conversion, DeclaredType, Literal, Operator, Sto
 
 /// A word of a program's frame.
 #[derive(Clone, Copy)]
-pub(crate) enum Frame {
+pub enum Frame {
     Program,
     EndProgram,
     Var,
@@ -13,7 +13,7 @@ pub(crate) enum Frame {
 
 /// An operator of a line (IEC 61131-3:2003, table 52).
 #[derive(Clone, Copy)]
-pub(crate) enum Mnemonic {
+pub enum Mnemonic {
     Load { negated: bool },
     Store(StoreKind),
     Combine { operator: Operator, negated: bool },
@@ -24,8 +24,9 @@ pub(crate) enum Mnemonic {
     Call,
 }
 
+/// A mark of a line.
 #[derive(Clone, Copy)]
-pub(crate) enum Mark {
+pub enum Mark {
     Colon,
     Assign,
     Comma,

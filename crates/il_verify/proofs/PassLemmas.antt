@@ -114,7 +114,7 @@ measured image done budget depth marks p past some =
     record {
       safe = record { table = (p.standing.table, agrees image p.standing.table front some); writes = keeps_read_only image p.standing.table front };
       longest = is_budget image.code budget marks done past p.lengths p.standing.places;
-      deepest = is_depth image p.standing.table front depth (record {
+      deepest = is_depth image p.standing.table front some depth (record {
         some = elim p.deepest.some [
           | inl z ↦ (0, first.kinds, first.known, (let most : length first.kinds ≤ depth = p.deepest.most 0 first.kinds first.known in omega arith))
           | inr w ↦ w

@@ -335,8 +335,8 @@ longest_so image table front depth l other agrees_so = record {
       omega arith;
 }
 
-pub is_depth : (image : Image) (table : Table) → IsFront image table (length image.code) → (depth : ℕ) → IsLongest table depth → IsDepth image depth
-is_depth image table front depth l = record { each = longest_so image table front depth l }
+pub is_depth : (image : Image) (table : Table) → IsFront image table (length image.code) → 0 < length image.code → (depth : ℕ) → IsLongest table depth → IsDepth image depth
+is_depth image table front some depth l = record { some = (table, agrees image table front some); each = longest_so image table front depth l }
 
 -- ---- a refusal
 

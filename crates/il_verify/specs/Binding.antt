@@ -3,14 +3,15 @@ use Rattle.std.specs.Prelude.{◌+◌, ◌&&◌, Bool, true, not, List, [], ◌�
 use Rattle.std.specs.Bool.{beq}
 use Rattle.std.specs.List.{list_any}
 use Rattle.std.specs.Str.{bytes_eq}
+use Rattle.bay_base.specs.Names.{same_name}
 use Rattle.bay_base.specs.Types.{same_type}
 use Rattle.bay_config.specs.declared.bay.Point.{Point}
 use Rattle.il_image.specs.declared.image.ImagePoint.{ImagePoint}
 use Rattle.il_image.specs.Images.{Image}
 
--- An image's point and a point of the bay have one name, one type and one writability.
+-- An image's point and a point of the bay have one name, as Instruction List compares names, one type and one writability.
 abbrev pub is_point : ImagePoint → Point → Bool
-is_point p b = bytes_eq p.name b.name && (same_type p.elementary b.kind && beq p.writable b.writable)
+is_point p b = same_name p.name b.name && (same_type p.elementary b.kind && beq p.writable b.writable)
 
 -- Each point is one of the bay's, and none stands twice.
 abbrev pub are_points : List Point → List ImagePoint → Bool

@@ -148,6 +148,10 @@ IsWithoutCode image fault place = (image.code ≡ []) × (fault ≡ NoHalt) × (
 abbrev pub FailsAt : Image → VerifyFault → ℕ → Type 0
 FailsAt image fault place = (table : Table) × IsFront image table place × IsPlace image.code place × IsFaultAt image table place fault
 
+-- It fits the bay and has code, so that its places are gone over.
+abbrev pub TakesMemory : List Point → Image → Type 0
+TakesMemory bay image = (fits bay image ≡ true) × (0 < length image.code)
+
 -- This is the image's first fault, and the place of it.
 abbrev pub IsRefusal : List Point → Image → VerifyFault → ℕ → Type 0
 IsRefusal bay image fault place =

@@ -29,8 +29,9 @@ pub record IsLongest (table : Table) (depth : ℕ) : Type 0 where
   pub some : (place : ℕ) × (kinds : List Kind) × (table place ≡ Some kinds) × (length kinds ≡ depth)
   pub most : (place : ℕ) (kinds : List Kind) → table place ≡ Some kinds → length kinds ≤ depth
 
--- The length of a longest list of each table that agrees with the code.
+-- A table agrees with the code, and this is the length of a longest list of each that does.
 pub record IsDepth (image : Image) (depth : ℕ) : Type 0 where
+  pub some : HasTable image
   pub each : (table : Table) → Agrees image table → IsLongest table depth
 
 -- What a verified image keeps.

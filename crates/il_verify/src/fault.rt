@@ -4,7 +4,6 @@ ghost use Rattle.il_verify.specs.Codes.{code_of};
 ghost use Rattle.il_verify.specs.declared.fault.VerifyFault.TheVariants.{OutOfMemory};
 
 use std::alloc::{AllocError, AllocFailed};
-use std::fmt;
 use thiserror::Error;
 
 /// Why an image is refused. At one place the first of these is answered: no predecessor; no slot or no timer; too few values on the
@@ -13,29 +12,41 @@ use thiserror::Error;
 #[derive(Clone, Copy, Debug, PartialEq, Eq, Error)]
 pub enum VerifyFault {
     /// An instruction wants more values than lie on the stack.
+    #[error("too few values lie on the stack")]
     StackEmpty,
     /// More than 32 values would lie on the stack.
+    #[error("too many values lie on the stack")]
     StackFull,
     /// A value on the stack is not known to be of the kind that an instruction wants.
+    #[error("a value is of a wrong kind")]
     WrongKind,
     /// A divisor is not known to be other than zero.
+    #[error("a divisor may be zero")]
     ZeroDivisor,
     /// An instruction names a slot that the image has not.
+    #[error("there is no such slot")]
     NoSlot,
     /// An instruction names a timer that the image has not.
+    #[error("there is no such timer")]
     NoTimer,
     /// A jump leads past the code or into an instruction.
+    #[error("a jump leads to no instruction")]
     BadTarget,
     /// Neither the instruction before nor a jump leads to an instruction.
+    #[error("an instruction is not reached")]
     Unreachable,
     /// Paths to an instruction leave stacks of two depths.
+    #[error("stacks of two depths meet")]
     DepthClash,
     /// The code ends without HALT or JUMP, or there is none.
+    #[error("the code does not end at a HALT or a JUMP")]
     NoHalt,
     /// A point is not the bay's with its type and its writability, or stands twice; there are more than 512 slots or 64 timers; or a
     /// point is written that may only be read.
+    #[error("the image does not fit the bay")]
     BadBinding,
     /// There is no memory for the pass over the code.
+    #[error("out of memory")]
     OutOfMemory,
 }
 
@@ -58,25 +69,6 @@ impl VerifyFault {
             VerifyFault::BadBinding => Some(100),
             VerifyFault::OutOfMemory => None,
         }
-    }
-}
-
-impl fmt::Display for VerifyFault {
-    fn fmt<W: fmt::Write>(&self, f: &mut fmt::Formatter<W>) -> fmt::Result {
-        f.write_str(match self {
-            VerifyFault::StackEmpty => "too few values lie on the stack",
-            VerifyFault::StackFull => "too many values lie on the stack",
-            VerifyFault::WrongKind => "a value is of a wrong kind",
-            VerifyFault::ZeroDivisor => "a divisor may be zero",
-            VerifyFault::NoSlot => "there is no such slot",
-            VerifyFault::NoTimer => "there is no such timer",
-            VerifyFault::BadTarget => "a jump leads to no instruction",
-            VerifyFault::Unreachable => "an instruction is not reached",
-            VerifyFault::DepthClash => "stacks of two depths meet",
-            VerifyFault::NoHalt => "the code does not end at a HALT or a JUMP",
-            VerifyFault::BadBinding => "the image does not fit the bay",
-            VerifyFault::OutOfMemory => "out of memory",
-        })
     }
 }
 

@@ -19,6 +19,6 @@ pub mod laws;
 pub(crate) mod pass;
 pub(crate) mod plan;
 pub(crate) mod points;
-pub(crate) mod slots;
+pub mod slots;
 pub mod verify;
 pub(crate) mod visit;

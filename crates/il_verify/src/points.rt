@@ -4,6 +4,7 @@ ghost use Rattle.std.specs.List.{list_any};
 ghost use Rattle.std.specs.Str.{bytes_eq};
 ghost use Rattle.il_verify.specs.Binding.{are_points, fits, is_point};
 
+use bay_base::names::same_name;
 use bay_config::bay::Point;
 use il_image::image::{Image, ImagePoint};
 
@@ -11,7 +12,7 @@ use il_image::image::{Image, ImagePoint};
 fn is_point(point: &ImagePoint, other: &Point) -> bool
     ensures { result ≡ is_point point.now other.now }
 {
-    point.name.as_str() == other.name.as_str()
+    same_name(point.name.as_str(), other.name.as_str())
         && point.elementary == other.kind
         && point.writable == other.writable
 }

@@ -9,7 +9,7 @@ use std::alloc::{AllocError, Global};
 
 /// A slot: its type, and whether the code may write it.
 #[derive(Clone, Copy)]
-pub(crate) struct Slot {
+pub struct Slot {
     pub elementary: ElementaryType,
     pub writable: bool,
 }

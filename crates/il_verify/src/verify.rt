@@ -1,7 +1,7 @@
 // `verify`, and the verified image that it gives.
 ghost use Rattle.std.specs.Prelude.{◌≡◌, ◌≢◌, ◌<◌, IfErr, IfOk, length, true};
 ghost use Rattle.il_verify.specs.Binding.{fits};
-ghost use Rattle.il_verify.specs.Refusals.{IsRefusal};
+ghost use Rattle.il_verify.specs.Refusals.{IsRefusal, TakesMemory};
 ghost use Rattle.il_verify.specs.Verdicts.{IsMeasured, IsSafe, IsVerified};
 
 use crate::fault::VerifyFault;
@@ -73,7 +73,7 @@ fn check(alloc: Global, image: &Image, points: &[Point]) -> Result<Measures, Sto
     ensures fits { IfOk result (λ m. fits points.now image.now ≡ true) }
     ensures ok { IfOk result (λ m. IsMeasured image.now m.budget m.depth) }
     ensures err { IfErr result (λ s. s.fault ≢ VerifyFault.OutOfMemory → IsRefusal points.now image.now s.fault s.place) }
-    ensures memory { IfErr result (λ s. s.fault ≡ VerifyFault.OutOfMemory → s.place ≡ 0) }
+    ensures memory { IfErr result (λ s. s.fault ≡ VerifyFault.OutOfMemory → (s.place ≡ 0) × TakesMemory points.now image.now) }
 {
     if !fits(points, image) {
         return Err(Stop {
@@ -104,8 +104,8 @@ fn check(alloc: Global, image: &Image, points: &[Point]) -> Result<Measures, Sto
 
 /// Accepts an image exactly where it fits the bay with these points, a table of kinds agrees with its code, and no instruction writes a
 /// point that may only be read; want of memory aside. Another is refused with its first fault in the format's order: what does not fit the
-/// bay, or else that there is no code, or else the first fault of the first place that has one. A refused image comes back as it was. It
-/// takes time in proportion to the code, and room for an empty frame for each octet up to the furthest place that a jump names.
+/// bay, or else that there is no code, or else the first fault of the first place that has one. A refused image comes back as it was.
+/// Memory can be wanting only where the image fits the bay and has code. It takes time in proportion to the code, and room for an empty frame for each octet up to the furthest place that a jump names.
 pub fn verify(alloc: Global, image: Image, points: &[Point]) -> Result<Verified, Refused>
     ensures same { IfOk result (λ v. v ≡ image) }
     ensures accepted { IfOk result (λ v. IsVerified points.now image) }
@@ -113,7 +113,7 @@ pub fn verify(alloc: Global, image: Image, points: &[Point]) -> Result<Verified,
     ensures back { IfErr result (λ r. r.image ≡ image) }
     ensures refused { IfErr result (λ r. r.fault ≢ VerifyFault.OutOfMemory → IsRefusal points.now image r.fault r.place) }
     ensures exact { IfErr result (λ r. r.fault ≢ VerifyFault.OutOfMemory → IsVerified points.now image → ⊥) }
-    ensures memory { IfErr result (λ r. r.fault ≡ VerifyFault.OutOfMemory → r.place ≡ 0) }
+    ensures memory { IfErr result (λ r. r.fault ≡ VerifyFault.OutOfMemory → (r.place ≡ 0) × TakesMemory points.now image) }
 {
     match check(alloc, &image, points) {
         Ok(Measures { budget, depth }) => Ok(Verified {

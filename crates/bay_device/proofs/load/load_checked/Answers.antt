@@ -1,14 +1,12 @@
-use Rattle.std.proofs.Common.{List, inl, subst, ap, sym, ◌∙◌}
+use Rattle.std.proofs.Common.{inl, subst, ap, sym, ◌∙◌}
 use Rattle.std.proofs.lemmas.Result.{err_from_is_err_and}
-use Rattle.bay_config.specs.declared.bay.Point.{Point}
 use Rattle.il_image.specs.Images.{Image}
 use Rattle.il_check.specs.Program.{Checked}
 use Rattle.il_check.specs.ProgramViews.{checked_view}
 use Rattle.il_check.proofs.TypedLemmas.{typed_of}
 use Rattle.il_compile.specs.Correct.{DoesTheText}
 use Rattle.il_verify.specs.Verdicts.{IsVerified}
-use Rattle.il_laws.specs.Verified.{HaveUpperNames}
-use Rattle.il_laws.proofs.Fits.{all_upper, verified}
+use Rattle.il_laws.proofs.Fits.{verified}
 use Rattle.bay_device.specs.Load.{initial_device}
 use Rattle.bay_device.specs.Meaning.{Runs}
 use Rattle.bay_device.proofs.LoadLemmas.{image-is, only-memory}
@@ -19,8 +17,7 @@ pub returns-in_err-verified-clause-device : goal.returns-in_err-verified-clause-
 returns-in_err-verified-clause-device c =
     let bay = c.args.bay in
     let program : Checked = checked_view c.args.typed in
-    let upper : HaveUpperNames bay.points = subst (λ (ps : List Point). HaveUpperNames ps) (sym c.requires.bay.points) (all_upper bay.switches bay.inputs bay.meters) in
-    let fits : IsVerified bay.points c.in_ok-image.image = verified bay.points c.requires.checked.0 program upper c.requires.checked.1 (typed_of bay.points c.requires.checked.0 program c.requires.checked.1) c.in_ok-image.image c.in_ok-image.ensures.image in
+    let fits : IsVerified bay.points c.in_ok-image.image = verified bay.points c.requires.checked.0 program c.requires.checked.1 (typed_of bay.points c.requires.checked.0 program c.requires.checked.1) c.in_ok-image.image c.in_ok-image.ensures.image in
     let p = err_from_is_err_and c.from_residual-in_err-verified.result c.from_residual-in_err-verified.ensures.1 in
     rw (p.1, p.2) (inl (only-memory _ (λ m. c.in_err-verified.ensures.exact m (rw c.as_slice.ensures fits))))
 

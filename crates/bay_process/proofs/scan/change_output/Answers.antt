@@ -1,7 +1,7 @@
 use Rattle.std.proofs.Common.{◌≡◌, subst, ap, sym, ◌∙◌}
 use Rattle.bay_process.specs.Values.{with_enabled}
 use Rattle.bay_process.specs.Layout.{Layout, layout_of, status_in}
-use Rattle.bay_process.specs.Names.{StatusNames, opening_of, closing_of}
+use Rattle.bay_nodes.specs.Names.{StatusNames, opening_of, closing_of}
 use Rattle.bay_process.specs.Told.{Stands}
 use Rattle.bay_process.proofs.ToldLemmas.{closing-stands, stands-valued, told-here}
 use Rattle.bay_process.proofs.scan.change_output.Goals as goal

@@ -3,7 +3,7 @@ use Rattle.std.proofs.lemmas.Option.{slice_get-map}
 use Rattle.bay_device.specs.Device.{contact_outcome}
 use Rattle.bay_process.specs.Values.{rows_after_contact}
 use Rattle.bay_process.specs.Layout.{layout_of, switch_in, switches_of}
-use Rattle.bay_process.specs.Names.{switch_names}
+use Rattle.bay_nodes.specs.Names.{switch_names}
 use Rattle.bay_device.specs.StateView.{state_view}
 use Rattle.bay_process.specs.declared.switch.BoundSwitch.{BoundSwitch}
 use Rattle.bay_device.proofs.StepLemmas.{contact-done}

@@ -4,7 +4,7 @@ use Rattle.std.proofs.lemmas.Option.{slice_get-map, slice_get_within}
 use Rattle.bay_tree.specs.Rows.{leaf_of}
 use Rattle.bay_process.specs.Values.{is_truth}
 use Rattle.bay_device.specs.LookUps.{enabled_of, may_open, may_close}
-use Rattle.bay_process.specs.Names.{SwitchNames}
+use Rattle.bay_nodes.specs.Names.{SwitchNames}
 use Rattle.bay_device.specs.StateView.{state_view}
 use Rattle.bay_process.specs.Layout.{switches_of}
 use Rattle.bay_device.specs.declared.state.DeviceState.{DeviceState}

@@ -4,7 +4,8 @@ use Rattle.std.proofs.lemmas.Option.{slice_get-map}
 use Rattle.bay_device.specs.Device.{measure_outcome}
 use Rattle.bay_process.specs.Values.{rows_after_measure}
 use Rattle.bay_process.specs.Layout.{layout_of, status_in, meters_of}
-use Rattle.bay_process.specs.Names.{field_names, meter_names}
+use Rattle.bay_nodes.specs.Names.{meter_names}
+use Rattle.bay_process.specs.Names.{field_names}
 use Rattle.bay_device.specs.StateView.{state_view}
 use Rattle.bay_process.specs.declared.meter.BoundMeter.{BoundMeter}
 use Rattle.bay_process.proofs.FieldLemmas.{field-kinded, field-named}

@@ -1,4 +1,4 @@
-use Rattle.std.proofs.Common.{arith, ℕ, List, Result, Ok, Err, sym, subst, ◌∙◌}
+use Rattle.std.proofs.Common.{arith, ℕ, List, sym, subst}
 use Rattle.std.proofs.lemmas.List.{map-append}
 use Rattle.il_text.specs.ListingViews.{read_of}
 use Rattle.il_text.specs.Runs.{IsPiece}

@@ -1,0 +1,46 @@
+-- How long errors and rejects are.
+use Rattle.std.proofs.Common.{ℕ, ℤ, pos, ◌≤◌, Option, Some, None, List, ◌++◌, length, arith}
+use Rattle.std.proofs.lemmas.List.{length-append}
+use Rattle.bay_ber.specs.Writing.{element, integer_octets}
+use Rattle.bay_ber.specs.declared.tag.Tag.{Tag}
+use Rattle.bay_ber.proofs.SizeLemmas.{length-element, length-integer_octets}
+use Rattle.bay_mms.specs.Tags.{context, constructed}
+use Rattle.bay_mms.specs.Responses.{class_text, error_text, id_text, reason_text, reject_text}
+use Rattle.bay_mms.specs.declared.response.ErrorClass.{ErrorClass}
+use Rattle.bay_mms.specs.declared.response.ErrorClass.TheVariants.{NoSuchObject, Resource}
+use Rattle.bay_mms.specs.declared.response.RejectReason.{RejectReason}
+use Rattle.bay_mms.specs.declared.response.RejectReason.TheVariants.{UnrecognizedService, InvalidPdu}
+
+number_short : (tag : Tag) (value : ℤ) → length (element tag (integer_octets value)) ≤ 14
+number_short tag value = omega (arith, length-element tag (integer_octets value), length-integer_octets value)
+
+class_short : (class : ErrorClass) → length (class_text class) ≤ 14
+class_short NoSuchObject = number_short (context 7) (pos 2)
+class_short Resource = number_short (context 3) (pos 0)
+
+pub error_short : (id : ℕ) (class : ErrorClass) → length (error_text id class) ≤ 60
+error_short id class =
+    let number = element (context 0) (integer_octets (pos id)) in
+    let inner = element (constructed 0) (class_text class) in
+    let reason = element (constructed 2) inner in
+    omega (
+      arith,
+      length-element (constructed 2) (number ++ reason),
+      length-append number reason,
+      length-element (constructed 2) inner,
+      length-element (constructed 0) (class_text class),
+      class_short class,
+      number_short (context 0) (pos id),
+    )
+
+id_short : (id : Option ℕ) → length (id_text id) ≤ 14
+id_short None = omega arith
+id_short (Some id) = number_short (context 0) (pos id)
+
+reason_short : (reason : RejectReason) → length (reason_text reason) ≤ 14
+reason_short UnrecognizedService = number_short (context 1) (pos 1)
+reason_short InvalidPdu = number_short (context 5) (pos 1)
+
+pub reject_short : (id : Option ℕ) (reason : RejectReason) → length (reject_text id reason) ≤ 60
+reject_short id reason =
+    omega (arith, length-element (constructed 4) (id_text id ++ reason_text reason), length-append (id_text id) (reason_text reason), id_short id, reason_short reason)

@@ -1,0 +1,142 @@
+-- The names of the rows that are found by them (IEC 61850-7-4: XCBR, XSWI, CSWI, CILO and MMXU; IEC 61850-8-1: names of
+-- variables).
+use Rattle.std.specs.Prelude.{ℕ, ◌+◌, List, ◌++◌, codes}
+use Rattle.bay_nodes.specs.declared.paths.StatusPaths.{StatusPaths}
+use Rattle.bay_nodes.specs.declared.switch.Switch.{Switch}
+use Rattle.bay_nodes.specs.Node.{class_of, node_name, node_number}
+
+-- the names of a value, its quality and its moment (IEC 61850-7-3)
+pub record StatusNames : Type 0 where
+  pub value : List ℕ
+  pub quality : List ℕ
+  pub time : List ℕ
+
+-- those that stand at these paths from a node
+abbrev pub names_at : List ℕ → StatusPaths → StatusNames
+names_at node paths = record {
+  value = node ++ paths.value.now;
+  quality = node ++ paths.quality.now;
+  time = node ++ paths.time.now;
+}
+
+-- those of a data object of a node, whose value has this name in it
+abbrev pub value_names : List ℕ → List ℕ → List ℕ → StatusNames
+value_names node object value = record {
+  value = node ++ (object ++ value);
+  quality = node ++ (object ++ codes "$q");
+  time = node ++ (object ++ codes "$t");
+}
+
+-- those of a status value
+abbrev pub status_names : List ℕ → List ℕ → StatusNames
+status_names node object = value_names node object (codes "$stVal")
+
+-- the names of a switch's position, below XCBR or XSWI, and below CSWI, which repeats it
+abbrev pub position_names : List ℕ → StatusNames
+position_names node = status_names node (codes "$ST$Pos")
+
+-- the names of the count of its operations, below XCBR or XSWI
+abbrev pub operation_names : List ℕ → StatusNames
+operation_names node = status_names node (codes "$ST$OpCnt")
+
+-- the names of its two interlocking values, below CILO
+abbrev pub opening_names : List ℕ → StatusNames
+opening_names node = status_names node (codes "$ST$EnaOpn")
+
+abbrev pub closing_names : List ℕ → StatusNames
+closing_names node = status_names node (codes "$ST$EnaCls")
+
+-- the names of a switch's position, of its position as its control repeats it, of the count of its operations and of
+-- its two interlocking values
+pub record SwitchNames : Type 0 where
+  pub position : StatusNames
+  pub control : StatusNames
+  pub operations : StatusNames
+  pub ena_opn : StatusNames
+  pub ena_cls : StatusNames
+
+-- those of a node XCBR or XSWI, a node CSWI and a node CILO
+abbrev pub names_by_nodes : List ℕ → List ℕ → List ℕ → SwitchNames
+names_by_nodes node control interlocking = record {
+  position = position_names node;
+  control = position_names control;
+  operations = operation_names node;
+  ena_opn = opening_names interlocking;
+  ena_cls = closing_names interlocking;
+}
+
+-- a switch's node is XCBR or XSWI, with its number among the switches of its class
+abbrev pub node_of : List Switch → ℕ → Switch → List ℕ
+node_of switches k switch = node_name (class_of switch.kind) (node_number switches switch k)
+
+-- the nodes of its control and of its interlocking have the number of its place, from 1
+abbrev pub control_of : ℕ → List ℕ
+control_of k = node_name (codes "CSWI") (k + 1)
+
+abbrev pub interlocking_of : ℕ → List ℕ
+interlocking_of k = node_name (codes "CILO") (k + 1)
+
+-- the names of the two interlocking values of the switch at a place
+abbrev pub opening_of : ℕ → StatusNames
+opening_of k = opening_names (interlocking_of k)
+
+abbrev pub closing_of : ℕ → StatusNames
+closing_of k = closing_names (interlocking_of k)
+
+-- the names of the switch at a place
+abbrev pub switch_names : List Switch → ℕ → Switch → SwitchNames
+switch_names switches k switch = names_by_nodes (node_of switches k switch) (control_of k) (interlocking_of k)
+
+-- the names of a control: whether its switch is selected, and the rows by which it is selected, selected with a value and
+-- operated, and its selection given up (IEC 61850-7-2, control; IEC 61850-8-1, SBO, SBOw, Oper and Cancel)
+pub record ControlNames : Type 0 where
+  pub selected : List ℕ
+  pub select : List ℕ
+  pub select_with_value : List ℕ
+  pub operate : List ℕ
+  pub cancel : List ℕ
+
+-- those of a node CSWI
+abbrev pub control_names_of : List ℕ → ControlNames
+control_names_of node = record {
+  selected = node ++ codes "$ST$Pos$stSeld";
+  select = node ++ codes "$CO$Pos$SBO";
+  select_with_value = node ++ codes "$CO$Pos$SBOw";
+  operate = node ++ codes "$CO$Pos$Oper";
+  cancel = node ++ codes "$CO$Pos$Cancel";
+}
+
+-- those of the switch at a place
+abbrev pub control_names : ℕ → ControlNames
+control_names k = control_names_of (control_of k)
+
+-- the names of a measured value, and of that of a phase (IEC 61850-7-3, MV and CMV)
+abbrev pub total_names : List ℕ → List ℕ → StatusNames
+total_names node object = value_names node object (codes "$mag$i")
+
+abbrev pub phase_names : List ℕ → List ℕ → StatusNames
+phase_names node object = value_names node object (codes "$cVal$mag$i")
+
+-- the names of a meter's values
+pub record MeterNames : Type 0 where
+  pub tot_w : StatusNames
+  pub tot_var : StatusNames
+  pub hz : StatusNames
+  pub phase_a : StatusNames
+  pub phase_b : StatusNames
+  pub phase_c : StatusNames
+
+-- those of a node MMXU
+abbrev pub meter_names_of : List ℕ → MeterNames
+meter_names_of node = record {
+  tot_w = total_names node (codes "$MX$TotW");
+  tot_var = total_names node (codes "$MX$TotVAr");
+  hz = total_names node (codes "$MX$Hz");
+  phase_a = phase_names node (codes "$MX$A$phsA");
+  phase_b = phase_names node (codes "$MX$A$phsB");
+  phase_c = phase_names node (codes "$MX$A$phsC");
+}
+
+-- those of the meter at a place, whose node has its number, from 1
+abbrev pub meter_names : ℕ → MeterNames
+meter_names k = meter_names_of (node_name (codes "MMXU") (k + 1))

@@ -1,0 +1,100 @@
+// The paths of the rows that are found by their names: what stands behind a node's name (IEC 61850-8-1, names of variables).
+
+/// The paths of a data object, and of its value with the value's quality and moment (IEC 61850-7-3).
+#[derive(Clone, Copy)]
+pub struct StatusPaths {
+    pub object: &'static str,
+    pub value: &'static str,
+    pub quality: &'static str,
+    pub time: &'static str,
+}
+
+/// A switch's position, below its own node and below that of its control.
+pub const POSITION: StatusPaths = StatusPaths {
+    object: "$ST$Pos",
+    value: "$ST$Pos$stVal",
+    quality: "$ST$Pos$q",
+    time: "$ST$Pos$t",
+};
+
+/// How often a switch reached an end position.
+pub const OPERATIONS: StatusPaths = StatusPaths {
+    object: "$ST$OpCnt",
+    value: "$ST$OpCnt$stVal",
+    quality: "$ST$OpCnt$q",
+    time: "$ST$OpCnt$t",
+};
+
+/// Whether a switch may be opened.
+pub const OPENING: StatusPaths = StatusPaths {
+    object: "$ST$EnaOpn",
+    value: "$ST$EnaOpn$stVal",
+    quality: "$ST$EnaOpn$q",
+    time: "$ST$EnaOpn$t",
+};
+
+/// Whether a switch may be closed.
+pub const CLOSING: StatusPaths = StatusPaths {
+    object: "$ST$EnaCls",
+    value: "$ST$EnaCls$stVal",
+    quality: "$ST$EnaCls$q",
+    time: "$ST$EnaCls$t",
+};
+
+/// The active power of all phases.
+pub const ACTIVE_POWER: StatusPaths = StatusPaths {
+    object: "$MX$TotW",
+    value: "$MX$TotW$mag$i",
+    quality: "$MX$TotW$q",
+    time: "$MX$TotW$t",
+};
+
+/// The reactive power of all phases.
+pub const REACTIVE_POWER: StatusPaths = StatusPaths {
+    object: "$MX$TotVAr",
+    value: "$MX$TotVAr$mag$i",
+    quality: "$MX$TotVAr$q",
+    time: "$MX$TotVAr$t",
+};
+
+/// The frequency.
+pub const FREQUENCY: StatusPaths = StatusPaths {
+    object: "$MX$Hz",
+    value: "$MX$Hz$mag$i",
+    quality: "$MX$Hz$q",
+    time: "$MX$Hz$t",
+};
+
+/// The current of each phase.
+pub const PHASE_A: StatusPaths = StatusPaths {
+    object: "$MX$A$phsA",
+    value: "$MX$A$phsA$cVal$mag$i",
+    quality: "$MX$A$phsA$q",
+    time: "$MX$A$phsA$t",
+};
+
+pub const PHASE_B: StatusPaths = StatusPaths {
+    object: "$MX$A$phsB",
+    value: "$MX$A$phsB$cVal$mag$i",
+    quality: "$MX$A$phsB$q",
+    time: "$MX$A$phsB$t",
+};
+
+pub const PHASE_C: StatusPaths = StatusPaths {
+    object: "$MX$A$phsC",
+    value: "$MX$A$phsC$cVal$mag$i",
+    quality: "$MX$A$phsC$q",
+    time: "$MX$A$phsC$t",
+};
+
+/// Whether a switch is selected (IEC 61850-7-3, stSeld).
+pub const SELECTED: &str = "$ST$Pos$stSeld";
+
+/// By which a switch is selected, or selected with a value, operated, and its selection given up (IEC 61850-8-1).
+pub const SELECT: &str = "$CO$Pos$SBO";
+
+pub const SELECT_WITH_VALUE: &str = "$CO$Pos$SBOw";
+
+pub const OPERATE: &str = "$CO$Pos$Oper";
+
+pub const CANCEL: &str = "$CO$Pos$Cancel";

@@ -1,0 +1,94 @@
+// Where the controls of a bay's switches stand in its tree (IEC 61850-8-1: stSeld, SBO, SBOw, Oper and Cancel).
+ghost use Rattle.std.specs.Prelude.{◌≡◌, ◌++◌, ℕ, List, codes, length, Some, IfOk};
+ghost use Rattle.bay_tree.specs.Rows.{place_of};
+ghost use Rattle.bay_tree.specs.declared.leaf.Kind.TheVariants as kind;
+ghost use Rattle.bay_tree.specs.declared.row.Row.{Row};
+ghost use Rattle.bay_nodes.specs.Names.{ControlNames, control_names_of};
+ghost use Rattle.bay_process.specs.Controls.{HaveSelected, AreControlRows, AreAllControlRows};
+ghost use Rattle.bay_process.specs.Layout.{layout_of};
+ghost use Rattle.bay_process.specs.Nodes.{HasLeaf};
+ghost use Rattle.bay_process.specs.declared.controls.ControlRows as declared;
+
+use bay_config::bay::Switch;
+use bay_nodes::names::{CONTROL, node_name};
+use bay_nodes::paths::{CANCEL, OPERATE, SELECT, SELECT_WITH_VALUE, SELECTED};
+use bay_tree::tree::{Handle, Tree};
+use std::alloc::{AllocError, Global};
+
+/// Where the rows of a switch's control stand: the one that tells whether the switch is selected, and those by which it is
+/// controlled, as many as its kind of control has.
+#[derive(Clone, Copy, Debug)]
+pub struct ControlRows {
+    /// Whether the switch is selected: `stSeld`.
+    pub selected: Handle,
+    /// By which it is selected: `SBO`.
+    pub select: Option<Handle>,
+    /// By which it is selected with a value: `SBOw`.
+    pub select_with_value: Option<Handle>,
+    /// By which it is operated: `Oper`.
+    pub operate: Option<Handle>,
+    /// By which its selection is given up: `Cancel`.
+    pub cancel: Option<Handle>,
+}
+
+/// The handle of the row at a path from a node, if the tree has it.
+fn handle_at(
+    alloc: Global,
+    tree: &Tree,
+    node: &str,
+    path: &str,
+) -> Result<Option<Handle>, AllocError>
+    ensures { IfOk result (λ handle. handle ≡ place_of tree.now (node.now ++ path.now)) }
+{
+    let name = format!(in alloc; "{node}{path}")?;
+    match tree.find(name.as_str()) {
+        Ok(handle) => Ok(Some(handle)),
+        Err(_) => Ok(None),
+    }
+}
+
+/// The handle of the row that tells whether the switch of a control is selected.
+fn selected_at(alloc: Global, tree: &Tree, node: &str) -> Result<Handle, AllocError>
+    requires { HasLeaf tree.now (control_names_of node.now).selected kind.Truth }
+    ensures { IfOk result (λ handle. place_of tree.now (control_names_of node.now).selected ≡ Some handle) }
+{
+    match handle_at(alloc, tree, node, SELECTED)? {
+        Some(handle) => Ok(handle),
+        None => unreachable!(),
+    }
+}
+
+/// The rows of the controls of these switches, in their order.
+pub fn control_rows(
+    alloc: Global,
+    tree: &Tree,
+    switches: &[Switch],
+) -> Result<Vec<ControlRows>, AllocError>
+    requires { HaveSelected tree.now (length switches.now) }
+    ensures sized { IfOk result (λ controls. length controls.items ≡ length switches.now) }
+    ensures named { IfOk result (λ controls. AreAllControlRows tree.now controls.items) }
+{
+    let mut controls = Vec::new(alloc);
+    for place in 0..switches.len() {
+        let name = node_name(alloc, CONTROL, place + 1)?;
+        let node = name.as_str();
+        let selected = selected_at(alloc, tree, node)?;
+        let select = handle_at(alloc, tree, node, SELECT)?;
+        let select_with_value = handle_at(alloc, tree, node, SELECT_WITH_VALUE)?;
+        let operate = handle_at(alloc, tree, node, OPERATE)?;
+        let cancel = handle_at(alloc, tree, node, CANCEL)?;
+        controls.push(ControlRows {
+            selected,
+            select,
+            select_with_value,
+            operate,
+            cancel,
+        })?;
+    }
+    Ok(controls)
+}
+
+/// The rows of a control stay where they are with each new value of a row. Does nothing; its contract is the law.
+pub fn control_rows_stay()
+    ensures { (before after : List Row) (names : ControlNames) (handles : declared.ControlRows) → layout_of before ≡ layout_of after → AreControlRows before names handles → AreControlRows after names handles }
+{}

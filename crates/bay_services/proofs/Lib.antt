@@ -1,0 +1,11 @@
+pub mod AnswerLemmas
+pub mod DecisionLemmas
+pub mod NameLemmas
+pub mod PlaceLemmas
+pub mod ReadLemmas
+pub mod ReplyLemmas
+pub mod ShortLemmas
+pub mod ShownLemmas
+pub mod StandingLemmas
+pub mod ViewLemmas
+pub mod WriteLemmas

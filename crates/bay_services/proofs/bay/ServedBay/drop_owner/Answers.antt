@@ -1,0 +1,20 @@
+use Rattle.std.proofs.Common.{refl, sym}
+use Rattle.bay_services.proofs.PlaceLemmas.{rows_kept}
+use Rattle.bay_services.proofs.DecisionLemmas.{decided, shows}
+use Rattle.bay_services.proofs.bay.ServedBay.drop_owner.Goals as goal
+
+pub show_selection-requires : goal.show_selection-requires
+show_selection-requires c = c.args.self.now.controlled
+
+pub invariant_of-self : goal.invariant_of-self
+invariant_of-self c =
+    let d = c.args.self.now in
+    record {
+      placed = rw c.show_selection.ensures.layout d.placed;
+      controlled = rows_kept _ d.tree d.control_rows (sym c.show_selection.ensures.layout) d.controlled;
+      sized = d.sized;
+      shows = shows c.drop_owner.new.self _ _ _ _ d.sized c.show_selection.ensures.rows;
+    }
+
+pub returns : goal.returns
+returns c = decided c.args.self.now _ _ _ _ c.args.self.now.sized c.show_selection.ensures.rows c.drop_owner.ensures

@@ -1,0 +1,104 @@
+-- What a PDU of a client is answered, and what it does (ISO 9506-2).
+use Rattle.std.specs.Prelude.{ℕ, ◌≤◌, Bool, false, List, [], ◌∷◌, ◌++◌, length, nat_le, Option, Some, None, Result, Ok, Err, if◌then◌else◌}
+use Rattle.bay_ber.specs.Writing.{element, truth_octets}
+use Rattle.bay_mms.specs.Data.{Datum}
+use Rattle.bay_mms.specs.Grammar.{answer_to}
+use Rattle.bay_mms.specs.Nodes.{type_at}
+use Rattle.bay_mms.specs.Requests.{Naming, Asking, identify, names, attributes, read, write, Message, initiate, conclude, confirmed}
+use Rattle.bay_mms.specs.Responses as response
+use Rattle.bay_mms.specs.Responses.{concluded_text, error_text, identity_text, read_text, reject_text, write_text}
+use Rattle.bay_mms.specs.Tags.{context, constructed}
+use Rattle.bay_mms.specs.Types.{type_text}
+use Rattle.bay_mms.specs.declared.fault.MmsFault.{MmsFault}
+use Rattle.bay_mms.specs.declared.fault.MmsFault.TheVariants.{BadPdu, UnknownService, TooMany, OutOfMemory}
+use Rattle.bay_mms.specs.declared.response.ErrorClass.TheVariants.{NoSuchObject, Resource}
+use Rattle.bay_mms.specs.declared.response.RejectReason.{RejectReason}
+use Rattle.bay_mms.specs.declared.response.RejectReason.TheVariants.{UnrecognizedService, InvalidPdu}
+use Rattle.bay_services.specs.Bay.{Bay}
+use Rattle.bay_services.specs.Names.{listing}
+use Rattle.bay_services.specs.Reads.{Reading, nothing_read, read_all}
+use Rattle.bay_services.specs.Rows.{row_named}
+use Rattle.bay_services.specs.Writes.{Writing, nothing_written, write_all}
+use Rattle.bay_services.specs.declared.answer.Command.{Command}
+use Rattle.bay_services.specs.declared.answer.Ending.{Ending}
+use Rattle.bay_services.specs.declared.client.Client.{Client}
+
+-- what a PDU comes to: the PDUs that are sent, in their order, the commands, the reports of the end of what is
+-- operating, and the bay after it
+pub record Answered : Type 0 where
+  pub sent : List (List ℕ)
+  pub commands : List Command
+  pub ending : Option Ending
+  pub after : Bay
+
+-- an answer that does nothing
+abbrev pub said : List ℕ → Bay → Answered
+said pdu b = record { sent = pdu ∷ []; commands = []; ending = None; after = b }
+
+-- A response of more octets than are agreed is answered by an error of the class resource, and nothing is done.
+abbrev pub within : Client → ℕ → Bay → List ℕ → Answered → Answered
+within c id b response answer = if nat_le (length response) c.size then answer else said (error_text id Resource) b
+
+-- a response that does nothing else
+abbrev pub responded : Client → ℕ → Bay → List ℕ → Answered
+responded c id b response = within c id b response (said response b)
+
+-- ---- the services
+
+abbrev pub identified : Client → ℕ → Bay → Answered
+identified c id b = responded c id b (response.confirmed id (element (constructed 2) (identity_text b.vendor b.model b.revision)))
+
+-- the type of a variable, which can't be deleted by a client
+abbrev pub attributes_at : Client → ℕ → Bay → Option ℕ → Answered
+attributes_at c id b None = said (error_text id NoSuchObject) b
+attributes_at c id b (Some place) =
+    responded c id b (response.confirmed id (element (constructed 6) (element (context 0) (truth_octets false) ++ element (constructed 2) (type_text (type_at b.rows place)))))
+
+-- what is read, if its response fits
+abbrev pub read_done : Client → ℕ → Bay → Reading → Answered
+read_done c id b r = within c id b (read_text id r.results) (record { sent = read_text id r.results ∷ []; commands = []; ending = None; after = r.bay })
+
+abbrev pub read_asked : Client → ℕ → Bay → List Naming → Answered
+read_asked c id b ns = read_done c id b (read_all c ns (nothing_read b))
+
+-- what is written, if its response fits; the reports of refusals come before it
+abbrev pub write_done : Client → ℕ → Bay → Writing → Answered
+write_done c id b w = within c id b (write_text id w.results)
+    (record { sent = w.reports ++ write_text id w.results ∷ []; commands = w.commands; ending = w.ending; after = w.bay })
+
+abbrev pub write_asked : Client → ℕ → Bay → List Naming → List Datum → Answered
+write_asked c id b ns values =
+    write_done c id b (write_all c ns values (nothing_written b))
+
+abbrev pub served : Client → ℕ → Bay → Asking → Answered
+served c id b identify = identified c id b
+served c id b (names class place after) = responded c id b (listing c id class place after b)
+served c id b (attributes name) = attributes_at c id b (row_named b name)
+served c id b (read ns) = read_asked c id b ns
+served c id b (write ns values) = write_asked c id b ns values
+
+-- ---- the PDUs
+
+-- a reject, with the invoke id where it was read
+abbrev pub rejected : Option ℕ → RejectReason → Bay → Answered
+rejected id reason b = said (reject_text id reason) b
+
+-- An association is opened elsewhere: an initiate here is no PDU that is served, and has no invoke id.
+abbrev pub asked : Client → Bay → Message → Answered
+asked c b (initiate proposal) = rejected None InvalidPdu b
+asked c b conclude = said concluded_text b
+asked c b (confirmed id asking) = served c id b asking
+
+abbrev pub refused : MmsFault → Bay → Answered
+refused (BadPdu known) b = rejected known InvalidPdu b
+refused (UnknownService id) b = rejected (Some id) UnrecognizedService b
+refused (TooMany id) b = said (error_text id Resource) b
+refused OutOfMemory b = rejected None InvalidPdu b
+
+abbrev pub answer_of : Client → Bay → Result Message MmsFault → Answered
+answer_of c b (Ok message) = asked c b message
+answer_of c b (Err fault) = refused fault b
+
+-- What octets that a client sent as a PDU of MMS are answered, and what they do.
+abbrev pub answered : Client → List ℕ → Bay → Answered
+answered c pdu b = answer_of c b (answer_to pdu)

@@ -1,0 +1,12 @@
+pub mod Answers
+pub mod Bay
+pub mod Controls
+pub mod Entries
+pub mod Names
+pub mod Reads
+pub mod Replies
+pub mod Places
+pub mod Rows
+pub mod Targets
+pub mod Views
+pub mod Writes

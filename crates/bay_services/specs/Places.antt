@@ -1,0 +1,37 @@
+-- Where the values of controls stand in a tree.
+use Rattle.std.specs.Prelude.{◌≡◌, ℕ, ◌==◌, Bool, false, List, Option, Some, None, slice_get, if◌then◌else◌}
+use Rattle.bay_tree.specs.Rows.{IsHandle, name_at, place_of}
+use Rattle.bay_tree.specs.declared.row.Row.{Row}
+use Rattle.bay_process.specs.Layout.{Layout, switch_in, switches_of, AreSwitchRows}
+use Rattle.bay_nodes.specs.Names.{switch_names}
+use Rattle.bay_process.specs.declared.controls.ControlRows.{ControlRows}
+use Rattle.bay_process.specs.declared.switch.BoundSwitch.{BoundSwitch}
+use Rattle.bay_services.specs.declared.target.ControlPart.{ControlPart}
+use Rattle.bay_services.specs.declared.target.ControlPart.TheVariants.{Select, SelectWith, Operate, Cancel}
+
+-- a row is this one
+abbrev pub is_place : ℕ → Option ℕ → Bool
+is_place place None = false
+is_place place (Some p) = p == place
+
+-- the part of a switch's control that a row is, by the rows of the control
+abbrev pub part_by : ControlRows → ℕ → Option ControlPart
+part_by rows place =
+    if is_place place rows.select then Some Select
+    else if is_place place rows.select_with_value then Some SelectWith
+    else if is_place place rows.operate then Some Operate
+    else if is_place place rows.cancel then Some Cancel
+    else None
+
+-- the rows of the switch at a place have its names and their kinds
+pub record IsPlaced (layout : Layout) (switches : List BoundSwitch) (k : ℕ) (bound : BoundSwitch) : Type 0 where
+  pub named : switch_in layout bound.rows ≡ switch_names (switches_of switches) k bound.switch
+  pub kinded : AreSwitchRows layout bound.rows
+
+abbrev pub ArePlaced : Layout → List BoundSwitch → Type 0
+ArePlaced layout switches = (k : ℕ) (b : BoundSwitch) → slice_get switches k ≡ Some b → IsPlaced layout switches k b
+
+-- a row that a tree gives for its own name
+pub record IsFound (rows : List Row) (row : ℕ) : Type 0 where
+  pub there : IsHandle rows row
+  pub first : place_of rows (name_at rows row) ≡ Some row

@@ -1,0 +1,12 @@
+-- The variable that a client names.
+use Rattle.std.specs.Prelude.{ℕ, List, Option, Some, None, if◌then◌else◌}
+use Rattle.std.specs.Str.{bytes_eq}
+use Rattle.bay_tree.specs.Rows.{place_of}
+use Rattle.bay_mms.specs.Requests.{Naming, vmd, domain, association}
+use Rattle.bay_services.specs.Bay.{Bay}
+
+-- the place of the row of a name: of a name by the bay's domain alone
+abbrev pub row_named : Bay → Naming → Option ℕ
+row_named b (vmd name) = None
+row_named b (domain d item) = if bytes_eq d b.domain then place_of b.rows item else None
+row_named b (association name) = None

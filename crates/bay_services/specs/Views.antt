@@ -1,0 +1,43 @@
+-- What the fields of the code mean.
+use Rattle.std.specs.Prelude.{ℕ, ◌≡◌, List, Result, Ok, Err}
+use Rattle.bay_mms.specs.RequestViews.{message}
+use Rattle.bay_mms.specs.Requests.{Message}
+use Rattle.bay_mms.specs.declared.fault.MmsFault.{MmsFault}
+use Rattle.bay_mms.specs.declared.request.Request.{Request}
+use Rattle.bay_process.specs.Layout.{switches_of}
+use Rattle.bay_services.specs.Answers.{Answered}
+use Rattle.bay_services.specs.Bay.{Bay}
+use Rattle.bay_services.specs.Reads.{Reading}
+use Rattle.bay_services.specs.Writes.{Writing}
+use Rattle.bay_services.specs.declared.answer.Answer.{Answer}
+use Rattle.bay_services.specs.declared.bay.ServedBay.{ServedBay}
+use Rattle.bay_services.specs.declared.writing.Written.{Written}
+
+abbrev pub bay_view : ServedBay → Bay
+bay_view b = record {
+  domain = b.domain;
+  vendor = b.vendor;
+  model = b.model;
+  revision = b.revision;
+  switches = switches_of b.switches;
+  rows = b.tree;
+  controls = b.controls;
+}
+
+abbrev pub reading : ServedBay → List ℕ → Reading
+reading b results = record { bay = bay_view b; results = results }
+
+abbrev pub writing : ServedBay → Written → Writing
+writing b w = record { bay = bay_view b; results = w.response; reports = w.reports.items; commands = w.commands.items; ending = w.ending }
+
+-- The answer, and the bay after it, are these.
+pub record AnswersAs (answer : Answer) (after : Bay) (answered : Answered) : Type 0 where
+  pub sent : answer.sent.items ≡ answered.sent
+  pub commands : answer.commands.items ≡ answered.commands
+  pub ending : answer.ending ≡ answered.ending
+  pub left : after ≡ answered.after
+
+-- what was read of a PDU
+abbrev pub read_as : Result Request MmsFault → Result Message MmsFault
+read_as (Ok request) = Ok (message request)
+read_as (Err fault) = Err fault

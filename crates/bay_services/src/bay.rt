@@ -1,0 +1,34 @@
+// What clients see of a bay and do to it.
+ghost use Rattle.std.specs.Prelude.{◌≡◌, length};
+ghost use Rattle.bay_process.specs.Controls.{AreAllControlRows};
+ghost use Rattle.bay_process.specs.Layout.{layout_of, switches_of};
+ghost use Rattle.bay_services.specs.Bay.{ShowSelection};
+ghost use Rattle.bay_services.specs.Places.{ArePlaced};
+
+use bay_base::listing::Listing;
+use bay_base::text::Text;
+use bay_control::controls::Controls;
+use bay_process::controls::ControlRows;
+use bay_process::switch::BoundSwitch;
+use bay_tree::tree::Tree;
+
+/// A bay as its clients see it: its name and its nameplate, the tree of its values, its switches and their controls. The tree shows
+/// which switch is selected.
+#[derive(Drop)]
+pub struct ServedBay {
+    /// The name of the logical device.
+    pub domain: Text,
+    pub vendor: Text,
+    pub model: Text,
+    pub revision: Text,
+    pub tree: Tree,
+    /// The switches, in the order of the bay file.
+    pub switches: Listing<BoundSwitch>,
+    /// Where the values of their controls stand, in the same order.
+    pub control_rows: Listing<ControlRows>,
+    pub controls: Controls,
+    ghost placed: { ArePlaced (layout_of tree) switches },
+    ghost controlled: { AreAllControlRows tree control_rows },
+    ghost sized: { length control_rows ≡ length (switches_of switches) },
+    ghost shows: { ShowSelection controls (length (switches_of switches)) tree },
+}

@@ -1,0 +1,19 @@
+// What a PDU of MMS that a client sends makes of a bay: its answer, and what it does to the controls (ISO 9506-2; IEC 61850-8-1).
+// Nothing here knows of connections.
+//
+// `bay` (what clients see of a bay and do to it), `client` (who asks, and when), `answer` (what a
+// PDU comes to), `services` (which answers and does it). Within: `target` tells which control a row is, `decisions` hands
+// what is asked of controls to them and lets the rows show the selection, `reading` and `writing` do the variables of a read and of a
+// write, `listing` answers with names, and `reply` keeps answers within the size of a PDU.
+#![tactic(auto)]
+
+pub mod answer;
+pub mod bay;
+pub mod client;
+mod decisions;
+mod listing;
+mod reading;
+mod reply;
+pub mod services;
+mod target;
+mod writing;

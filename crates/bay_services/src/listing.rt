@@ -1,0 +1,149 @@
+// The names that a client asks for.
+ghost use Rattle.std.specs.Prelude.{◌≡◌, ◌≤◌, false};
+ghost use Rattle.std.specs.Option.{option_copied};
+ghost use Rattle.bay_base.specs.Exact.{Gives};
+ghost use Rattle.bay_mms.specs.RequestViews.{place};
+ghost use Rattle.bay_mms.specs.Requests.{in_domain};
+ghost use Rattle.bay_mms.specs.Responses.{error_text, page_text};
+ghost use Rattle.bay_mms.specs.declared.response.ErrorClass.TheVariants.{NoSuchObject};
+ghost use Rattle.bay_mms.specs.Writing.{written};
+ghost use Rattle.bay_services.specs.Names.{domain_names, listing, no_names, variable_names};
+ghost use Rattle.bay_services.specs.Views.{bay_view};
+
+use crate::bay::ServedBay;
+use crate::client::Client;
+use bay_base::text::Text;
+use bay_mms::fault::WriteFault;
+use bay_mms::page::write_page;
+use bay_mms::request::Scope;
+use bay_mms::response::{ErrorClass, Response, Service, write_error, write_response};
+use bay_tree::fault::NamesFault;
+use std::alloc::Global;
+
+// Classes of objects (ISO 9506-2, GetNameList, objectClass: namedVariable and domain).
+const NAMED_VARIABLE: i64 = 0;
+
+const DOMAIN: i64 = 9;
+
+// The error that there is no such object.
+fn write_unknown(alloc: Global, id: u32) -> Result<Vec<u8>, WriteFault>
+    ensures { Gives WriteFault.OutOfMemory (λ octets. octets.items) result (written (error_text id NoSuchObject)) }
+{
+    let error = write_error(alloc, id, ErrorClass::NoSuchObject)?;
+    Ok(error)
+}
+
+// A list of these names, behind which no more stand.
+fn write_names(alloc: Global, id: u32, names: &[Text]) -> Result<Vec<u8>, WriteFault>
+    ensures { Gives WriteFault.OutOfMemory (λ octets. octets.items) result (written (page_text id names.now false)) }
+{
+    let service = Service::Names { names, more: false };
+    write_response(alloc, &Response::Confirmed { id, service })
+}
+
+// No names.
+fn write_none(alloc: Global, id: u32, after: Option<&[u8]>) -> Result<Vec<u8>, WriteFault>
+    ensures { Gives WriteFault.OutOfMemory (λ octets. octets.items) result (written (no_names id (option_copied after.entry))) }
+{
+    match after {
+        None => write_names(alloc, id, &[]),
+        Some(_) => write_unknown(alloc, id),
+    }
+}
+
+impl ServedBay {
+    // The one domain.
+    fn write_domain(
+        &self,
+        alloc: Global,
+        id: u32,
+        after: Option<&[u8]>,
+    ) -> Result<Vec<u8>, WriteFault>
+        ensures { Gives WriteFault.OutOfMemory (λ octets. octets.items) result (written (domain_names id (bay_view self.now) (option_copied after.entry))) }
+    {
+        match after {
+            None => {
+                let domain = Text::from_str(alloc, self.domain.as_str())?;
+                write_names(alloc, id, &[domain])
+            }
+            Some(name) => {
+                if name == self.domain.as_str().as_bytes() {
+                    write_names(alloc, id, &[])
+                } else {
+                    write_unknown(alloc, id)
+                }
+            }
+        }
+    }
+
+    // A page of the names of the domain's variables.
+    fn write_variables(
+        &self,
+        alloc: Global,
+        client: Client,
+        id: u32,
+        after: Option<&[u8]>,
+    ) -> Result<Vec<u8>, WriteFault>
+        requires least { 256 ≤ client.size }
+        requires most { client.size ≤ 65_000 }
+        ensures { Gives WriteFault.OutOfMemory (λ octets. octets.items) result (written (variable_names client id (bay_view self.now) (option_copied after.entry))) }
+    {
+        match write_page(alloc, id, &self.tree, after, client.size) {
+            Ok(page) => Ok(page),
+            Err(NamesFault::NoSuchName) => write_unknown(alloc, id),
+            Err(NamesFault::OutOfMemory) => Err(WriteFault::OutOfMemory),
+        }
+    }
+
+    // The names of a domain of this name.
+    fn write_in_domain(
+        &self,
+        alloc: Global,
+        client: Client,
+        id: u32,
+        class: i64,
+        domain: &[u8],
+        after: Option<&[u8]>,
+    ) -> Result<Vec<u8>, WriteFault>
+        requires least { 256 ≤ client.size }
+        requires most { client.size ≤ 65_000 }
+        ensures { Gives WriteFault.OutOfMemory (λ octets. octets.items) result (written (listing client id class (in_domain domain.now) (option_copied after.entry) (bay_view self.now))) }
+    {
+        if domain != self.domain.as_str().as_bytes() {
+            return write_unknown(alloc, id);
+        }
+        if class == NAMED_VARIABLE {
+            self.write_variables(alloc, client, id, after)
+        } else {
+            write_none(alloc, id, after)
+        }
+    }
+
+    /// The names of a class behind a name, under an invoke id.
+    pub(crate) fn write_listing(
+        &self,
+        alloc: Global,
+        client: Client,
+        id: u32,
+        class: &i64,
+        scope: &Scope<'_>,
+        after: Option<&[u8]>,
+    ) -> Result<Vec<u8>, WriteFault>
+        requires least { 256 ≤ client.size }
+        requires most { client.size ≤ 65_000 }
+        ensures { Gives WriteFault.OutOfMemory (λ octets. octets.items) result (written (listing client id class.now (place scope.now) (option_copied after.entry) (bay_view self.now))) }
+    {
+        let class = *class;
+        match scope {
+            Scope::Vmd => {
+                if class == DOMAIN {
+                    self.write_domain(alloc, id, after)
+                } else {
+                    write_none(alloc, id, after)
+                }
+            }
+            Scope::Domain(domain) => self.write_in_domain(alloc, client, id, class, domain, after),
+            Scope::Association => write_none(alloc, id, after),
+        }
+    }
+}

@@ -1,0 +1,288 @@
+// A PDU of a client, answered and done.
+ghost use Rattle.std.specs.Prelude.{◌≡◌, ◌≢◌, ◌≤◌, ◌∷◌, [], All, List, ℕ, length, map, option_map, IfOk, OnOk, OnErr, None, Some, Err};
+ghost use Rattle.bay_base.specs.Exact.{Gives};
+ghost use Rattle.bay_control.specs.declared.selection.Standing.{Standing};
+ghost use Rattle.bay_mms.specs.RequestViews.{asking, naming};
+ghost use Rattle.bay_mms.specs.Responses.{concluded_text, error_text, read_text};
+ghost use Rattle.bay_mms.specs.Views.{data_in};
+ghost use Rattle.bay_mms.specs.Writing.{written};
+ghost use Rattle.bay_services.specs.Answers.{Answered, answer_of, answered, attributes_at, identified, read_asked, refused, rejected, responded, said, served, write_asked};
+ghost use Rattle.bay_services.specs.Bay.{Bay, standing_again};
+ghost use Rattle.bay_services.specs.Rows.{row_named};
+ghost use Rattle.bay_mms.specs.declared.fault.MmsFault.TheVariants as MmsFault;
+ghost use Rattle.bay_services.specs.Controls.{IsShort};
+ghost use Rattle.bay_services.specs.Reads.{nothing_read, read_all};
+ghost use Rattle.bay_services.specs.Views.{bay_view, read_as, AnswersAs};
+
+use crate::answer::Answer;
+use crate::bay::ServedBay;
+use crate::client::Client;
+use crate::reply::fitting;
+use crate::writing::Written;
+use bay_base::listing::Listing;
+use bay_mms::data::Data;
+use bay_mms::fault::{MmsFault, WriteFault};
+use bay_mms::request::{Call, Name, Request, read_request};
+use bay_mms::response::{
+    ErrorClass, RejectReason, Response, Service, write_conclude, write_error, write_reject,
+    write_response,
+};
+use bay_mms::results::{ReadResponse, WriteResponse};
+use std::alloc::{AllocError, Global};
+
+// An answer that does nothing.
+fn said(alloc: Global, pdu: Listing<u8>) -> Result<Answer, AllocError>
+    ensures { IfOk result (λ answer. (b : Bay) → AnswersAs answer b (said pdu b)) }
+{
+    Ok(Answer {
+        sent: vec![in alloc; pdu]?,
+        commands: Vec::new(alloc),
+        ending: None,
+    })
+}
+
+// An error, which does nothing.
+fn failed(alloc: Global, id: u32, class: ErrorClass) -> Result<Answer, AllocError>
+    ensures { IfOk result (λ answer. (b : Bay) → AnswersAs answer b (said (error_text id class) b)) }
+{
+    let error = write_error(alloc, id, class)?;
+    said(alloc, Listing::new(error))
+}
+
+// A reject, which does nothing.
+fn rejected(alloc: Global, id: Option<u32>, reason: RejectReason) -> Result<Answer, AllocError>
+    ensures { IfOk result (λ answer. (b : Bay) → AnswersAs answer b (rejected id reason b)) }
+{
+    let reject = write_reject(alloc, id, reason)?;
+    said(alloc, Listing::new(reject))
+}
+
+// The answer to a conclude, which does nothing.
+fn concluded(alloc: Global) -> Result<Answer, AllocError>
+    ensures { IfOk result (λ answer. (b : Bay) → AnswersAs answer b (said concluded_text b)) }
+{
+    let conclude = write_conclude(alloc)?;
+    said(alloc, Listing::new(conclude))
+}
+
+// What answers octets that ask for nothing that is served.
+fn refused(alloc: Global, fault: MmsFault) -> Result<Answer, AllocError>
+    ensures told { IfOk result (λ answer. (b : Bay) → AnswersAs answer b (refused fault b)) }
+    ensures memory { IfOk result (λ _. fault ≢ MmsFault.OutOfMemory) }
+{
+    match fault {
+        MmsFault::BadPdu(known) => rejected(alloc, known, RejectReason::InvalidPdu),
+        MmsFault::UnknownService(id) => {
+            rejected(alloc, Some(id), RejectReason::UnrecognizedService)
+        }
+        MmsFault::TooMany(id) => failed(alloc, id, ErrorClass::Resource),
+        MmsFault::OutOfMemory => Err(AllocError),
+    }
+}
+
+// A response that does nothing; an error in its place where it has more octets than are agreed.
+fn responded(
+    alloc: Global,
+    client: Client,
+    id: u32,
+    response: Result<Vec<u8>, WriteFault>,
+) -> Result<Answer, AllocError>
+    ensures { (pdu : List ℕ) (b : Bay) → Gives WriteFault.OutOfMemory (λ octets. octets.items) response (written pdu) → IfOk result (λ answer. AnswersAs answer b (responded client id b pdu)) }
+{
+    match fitting(client.size, response)? {
+        Some(pdu) => said(alloc, pdu),
+        None => failed(alloc, id, ErrorClass::Resource),
+    }
+}
+
+impl ServedBay {
+    fn identify(&self, alloc: Global, client: Client, id: u32) -> Result<Answer, AllocError>
+        ensures { IfOk result (λ answer. AnswersAs answer (bay_view self.now) (identified client id (bay_view self.now))) }
+    {
+        let service = Service::Identify {
+            vendor: self.vendor.as_str(),
+            model: self.model.as_str(),
+            revision: self.revision.as_str(),
+        };
+        let response = write_response(alloc, &Response::Confirmed { id, service });
+        responded(alloc, client, id, response)
+    }
+
+    // The type of a variable.
+    fn attributes(
+        &self,
+        alloc: Global,
+        client: Client,
+        id: u32,
+        name: &Name<'_>,
+    ) -> Result<Answer, AllocError>
+        ensures { IfOk result (λ answer. AnswersAs answer (bay_view self.now) (attributes_at client id (bay_view self.now) (row_named (bay_view self.now) (naming name.now)))) }
+    {
+        match self.row_named(name) {
+            Some(handle) => {
+                let tree = &self.tree;
+                let service = Service::Attributes { tree, handle };
+                let response = write_response(alloc, &Response::Confirmed { id, service });
+                responded(alloc, client, id, response)
+            }
+            None => failed(alloc, id, ErrorClass::NoSuchObject),
+        }
+    }
+
+    // The response to a read.
+    fn read_response(
+        &mut self,
+        alloc: Global,
+        client: Client,
+        id: u32,
+        names: &[Name<'_>],
+    ) -> Result<Vec<u8>, WriteFault>
+        ensures response { Gives WriteFault.OutOfMemory (λ octets. octets.items) result (written (read_text id (read_all client (map naming names.now) (nothing_read (bay_view self.old))).results)) }
+        ensures after { OnOk result (bay_view self.new ≡ (read_all client (map naming names.now) (nothing_read (bay_view self.old))).bay) }
+        ensures back { (standing : Standing) → standing_again standing (bay_view self.new) ≡ standing_again standing (bay_view self.old) }
+    {
+        let mut response = ReadResponse::new(alloc);
+        self.read_all(alloc, client, names, &mut response)?;
+        response.finish(id)
+    }
+
+    fn read(
+        &mut self,
+        alloc: Global,
+        client: Client,
+        id: u32,
+        names: &[Name<'_>],
+    ) -> Result<Answer, AllocError>
+        ensures ok { IfOk result (λ answer. AnswersAs answer (bay_view self.new) (read_asked client id (bay_view self.old) (map naming names.now))) }
+        ensures back { (standing : Standing) → standing_again standing (bay_view self.new) ≡ standing_again standing (bay_view self.old) }
+    {
+        let before = self.standing();
+        let response = self.read_response(alloc, client, id, names);
+        match fitting(client.size, response)? {
+            Some(pdu) => said(alloc, pdu),
+            None => {
+                self.restore(before);
+                failed(alloc, id, ErrorClass::Resource)
+            }
+        }
+    }
+
+    fn write(
+        &mut self,
+        alloc: Global,
+        client: Client,
+        id: u32,
+        names: &[Name<'_>],
+        values: &[Data<'_>],
+    ) -> Result<Answer, AllocError>
+        ensures ok { IfOk result (λ answer. AnswersAs answer (bay_view self.new) (write_asked client id (bay_view self.old) (map naming names.now) (data_in values.now))) }
+        ensures back { (standing : Standing) → standing_again standing (bay_view self.new) ≡ standing_again standing (bay_view self.old) }
+    {
+        let before = self.standing();
+        let mut done = Written {
+            response: WriteResponse::new(alloc),
+            reports: Vec::new(alloc),
+            commands: Vec::new(alloc),
+            ending: None,
+        };
+        self.write_all(alloc, client, names, values, &mut done)?;
+        let Written {
+            response,
+            mut reports,
+            commands,
+            ending,
+        } = done;
+        match fitting(client.size, response.finish(id))? {
+            Some(pdu) => {
+                reports.push(pdu)?;
+                Ok(Answer {
+                    sent: reports,
+                    commands,
+                    ending,
+                })
+            }
+            None => {
+                self.restore(before);
+                failed(alloc, id, ErrorClass::Resource)
+            }
+        }
+    }
+
+    // A service that is asked for under an invoke id.
+    fn serve(
+        &mut self,
+        alloc: Global,
+        client: Client,
+        id: u32,
+        call: &Call<'_>,
+    ) -> Result<Answer, AllocError>
+        requires least { 256 ≤ client.size }
+        requires most { client.size ≤ 65_000 }
+        ensures ok { IfOk result (λ answer. AnswersAs answer (bay_view self.new) (served client id (bay_view self.old) (asking call.now))) }
+        ensures back { (standing : Standing) → standing_again standing (bay_view self.new) ≡ standing_again standing (bay_view self.old) }
+    {
+        match call {
+            Call::Identify => self.identify(alloc, client, id),
+            Call::Names {
+                class,
+                scope,
+                after,
+            } => {
+                let response = self.write_listing(alloc, client, id, class, scope, *after);
+                responded(alloc, client, id, response)
+            }
+            Call::Attributes(name) => self.attributes(alloc, client, id, name),
+            Call::Read(names) => self.read(alloc, client, id, names),
+            Call::Write { names, values } => self.write(alloc, client, id, names, values),
+        }
+    }
+
+    // What is asked, or why nothing is.
+    fn respond(
+        &mut self,
+        alloc: Global,
+        client: Client,
+        request: Result<Request<'_>, MmsFault>,
+    ) -> Result<Answer, AllocError>
+        requires least { 256 ≤ client.size }
+        requires most { client.size ≤ 65_000 }
+        ensures ok { IfOk result (λ answer. AnswersAs answer (bay_view self.new) (answer_of client (bay_view self.old) (read_as request.entry))) }
+        ensures memory { IfOk result (λ _. request.entry ≢ Err MmsFault.OutOfMemory) }
+        ensures back { (standing : Standing) → standing_again standing (bay_view self.new) ≡ standing_again standing (bay_view self.old) }
+    {
+        match request {
+            Ok(Request::Initiate(_)) => rejected(alloc, None, RejectReason::InvalidPdu),
+            Ok(Request::Conclude) => concluded(alloc),
+            Ok(Request::Confirmed { id, call }) => self.serve(alloc, client, id, &call),
+            Err(fault) => refused(alloc, fault),
+        }
+    }
+
+    /// Answers the octets that a client sent as a PDU of MMS, and does what they ask for.
+    ///
+    /// Each PDU of the answer has at most 65,000 octets, and so have the reports of an end. A response of more octets than are agreed is an error of the class resource in
+    /// its place, and then nothing is done. Where there is no memory, nothing is done and nothing is to be sent.
+    pub fn answer(
+        &mut self,
+        alloc: Global,
+        client: Client,
+        pdu: &[u8],
+    ) -> Result<Answer, AllocError>
+        requires least { 256 ≤ client.size }
+        requires most { client.size ≤ 65_000 }
+        ensures ok { IfOk result (λ answer. AnswersAs answer (bay_view self.new) (answered client pdu.now (bay_view self.old))) }
+        ensures short { IfOk result (λ answer. All (λ pdu. length pdu ≤ 65_000) answer.sent.items) }
+        ensures ending { IfOk result (λ answer. IsShort answer.ending) }
+        ensures err { OnErr result (bay_view self.new ≡ bay_view self.old) }
+        // What it did can be undone, where what it is to send finds no memory.
+        ensures back { (standing : Standing) → standing_again standing (bay_view self.new) ≡ standing_again standing (bay_view self.old) }
+    {
+        let before = self.standing();
+        let request = read_request(alloc, pdu);
+        let answer = self.respond(alloc, client, request);
+        if answer.is_err() {
+            self.restore(before);
+        }
+        answer
+    }
+}

@@ -1,0 +1,385 @@
+// The variables of a write, one after the other.
+ghost use Rattle.std.specs.Prelude.{◌≡◌, ◌≤◌, ◌<◌, ◌++◌, Some, Ok, Err, map, length, IfOk, OnOk};
+ghost use Rattle.bay_mms.specs.ControlViews.{cancelling, operating};
+ghost use Rattle.bay_mms.specs.Controls.{cancel_in, operate_in};
+ghost use Rattle.bay_tree.specs.Rows.{IsHandle, name_at};
+ghost use Rattle.bay_services.specs.Controls.{ask_of, ending_of, endings, has_reports, object_of, refusal_reports};
+ghost use Rattle.bay_services.specs.Places.{IsFound};
+ghost use Rattle.bay_services.specs.Writes.{cancel_asked, commands_for, decision_result, later_ending, operate_asked, select_with_asked, write_all, write_one, write_row};
+ghost use Rattle.bay_control.specs.declared.selection.Standing.{Standing};
+ghost use Rattle.bay_mms.specs.RequestViews.{naming};
+ghost use Rattle.bay_mms.specs.Responses.{failure_result, success_result};
+ghost use Rattle.bay_mms.specs.Views.{data_in, datum_of};
+ghost use Rattle.bay_services.specs.Bay.{standing_again};
+ghost use Rattle.bay_services.specs.Views.{bay_view, writing};
+
+use crate::answer::{Command, Ending};
+use crate::bay::ServedBay;
+use crate::client::Client;
+use crate::reply::fitting;
+use crate::target::{ControlPart, Target};
+use arrayvec::ArrayVec;
+use bay_base::listing::Listing;
+use bay_base::text::Text;
+use bay_control::cause::AddCause;
+use bay_control::request::{Ask, Origin};
+use bay_mms::control::{Cancel, Operate, cancel_of, operate_of};
+use bay_mms::data::Data;
+use bay_mms::fault::WriteFault;
+use bay_mms::report::{ControlError, write_failed_termination, write_failure, write_termination};
+use bay_mms::request::Name;
+use bay_mms::results::WriteResponse;
+use bay_tree::tree::Handle;
+use std::alloc::{AllocError, Global};
+
+// Errors by their numbers (ISO 9506-2, DataAccessError): no such variable, and a write that is denied.
+const NO_SUCH_OBJECT: u8 = 10;
+
+const DENIED: u8 = 3;
+
+/// A part of a switch's control, by the row that names it.
+#[derive(Clone, Copy)]
+struct Part {
+    /// The place of the switch in the bay file, from 0.
+    switch: usize,
+    row: Handle,
+}
+
+/// What a write has made so far, beside what it did to the bay.
+#[derive(Drop)]
+pub struct Written {
+    /// The results of the variables.
+    pub response: WriteResponse,
+    /// The reports that controls are refused.
+    pub reports: Vec<Listing<u8>>,
+    pub commands: Vec<Command>,
+    pub ending: Option<Ending>,
+}
+
+// Puts down that a variable is written.
+fn succeed(response: &mut WriteResponse) -> Result<(), AllocError>
+    ensures { OnOk result (response.new ≡ response.old ++ success_result) }
+{
+    match response.success() {
+        Ok(()) => Ok(()),
+        Err(WriteFault::OutOfMemory) => Err(AllocError),
+        Err(WriteFault::TooLong) => unreachable!(),
+    }
+}
+
+// Puts down that it is not, by the number of the error.
+fn fail(response: &mut WriteResponse, cause: u8) -> Result<(), AllocError>
+    ensures { OnOk result (response.new ≡ response.old ++ failure_result cause) }
+{
+    match response.failure(cause) {
+        Ok(()) => Ok(()),
+        Err(WriteFault::OutOfMemory) => Err(AllocError),
+        Err(WriteFault::TooLong) => unreachable!(),
+    }
+}
+
+// What is asked of the controls.
+fn ask_of(operate: &Operate<'_>) -> Ask
+    requires { length operate.now.origin.or_ident.now ≤ 64 }
+    ensures { result ≡ ask_of (operating operate.now) }
+{
+    let mut ident = ArrayVec::new();
+    let _ = ident.try_extend_from_slice(operate.origin.or_ident);
+    Ask {
+        on: operate.ctl_val,
+        test: operate.test,
+        origin: Origin {
+            cat: operate.origin.or_cat,
+            ident,
+        },
+    }
+}
+
+// What an operate has of a control.
+fn control_of<'a>(operate: &Operate<'a>) -> Cancel<'a>
+    ensures { cancelling result ≡ (operating operate.now).control }
+{
+    Cancel {
+        ctl_val: operate.ctl_val,
+        origin: operate.origin,
+        ctl_num: operate.ctl_num,
+        t: operate.t,
+        test: operate.test,
+    }
+}
+
+impl ServedBay {
+    /// The object that a row is, as a control is named: its domain, `/` and its item.
+    pub(crate) fn object(&self, alloc: Global, row: Handle) -> Result<Text, AllocError>
+        requires { IsHandle self.now.tree row }
+        ensures { IfOk result (λ object. object ≡ object_of (bay_view self.now) (name_at self.now.tree row)) }
+    {
+        let domain = self.domain.as_str();
+        let item = self.tree.name(row);
+        Ok(Text::new(format!(in alloc; "{domain}/{item}")?))
+    }
+
+    // Whether clients are told of the end of what they ask of a switch.
+    fn has_reports(&self, switch: usize) -> bool
+        ensures { result ≡ has_reports (bay_view self.now) switch }
+    {
+        self.controls.is_enhanced(switch)
+    }
+
+    // Puts down the report that a control is refused.
+    fn report_refusal(
+        &self,
+        alloc: Global,
+        client: Client,
+        part: Part,
+        control: &Cancel<'_>,
+        why: AddCause,
+        reports: &mut Vec<Listing<u8>>,
+    ) -> Result<(), AllocError>
+        requires { IsHandle self.now.tree part.row }
+        ensures { OnOk result (reports.new.items ≡ reports.old.items ++ refusal_reports client part.switch (name_at self.now.tree part.row) (cancelling control.now) (bay_view self.now) (Err why)) }
+    {
+        if !self.has_reports(part.switch) {
+            return Ok(());
+        }
+        let object = self.object(alloc, part.row)?;
+        let error = ControlError {
+            object: object.as_str(),
+            origin: control.origin,
+            ctl_num: control.ctl_num,
+            add_cause: why.code(),
+        };
+        if let Some(report) = fitting(client.size, write_failure(alloc, &error))? {
+            reports.push(report)?;
+        }
+        Ok(())
+    }
+
+    // Puts down that a control is refused.
+    fn refuse(
+        &self,
+        alloc: Global,
+        client: Client,
+        part: Part,
+        control: &Cancel<'_>,
+        why: AddCause,
+        written: &mut Written,
+    ) -> Result<(), AllocError>
+        requires { IsHandle self.now.tree part.row }
+        ensures response { OnOk result (written.new.response ≡ written.old.response ++ failure_result 3) }
+        ensures reports { OnOk result (written.new.reports.items ≡ written.old.reports.items ++ refusal_reports client part.switch (name_at self.now.tree part.row) (cancelling control.now) (bay_view self.now) (Err why)) }
+        ensures commands { written.new.commands ≡ written.old.commands }
+        ensures ending { written.new.ending ≡ written.old.ending }
+    {
+        fail(&mut written.response, DENIED)?;
+        self.report_refusal(alloc, client, part, control, why, &mut written.reports)
+    }
+
+    // Puts down what a decision on a control answers.
+    fn put_decision(
+        &self,
+        alloc: Global,
+        client: Client,
+        part: Part,
+        control: &Cancel<'_>,
+        answer: Result<(), AddCause>,
+        written: &mut Written,
+    ) -> Result<(), AllocError>
+        requires { IsHandle self.now.tree part.row }
+        ensures response { OnOk result (written.new.response ≡ written.old.response ++ decision_result answer) }
+        ensures reports { OnOk result (written.new.reports.items ≡ written.old.reports.items ++ refusal_reports client part.switch (name_at self.now.tree part.row) (cancelling control.now) (bay_view self.now) answer) }
+        ensures commands { written.new.commands ≡ written.old.commands }
+        ensures ending { written.new.ending ≡ written.old.ending }
+    {
+        match answer {
+            Ok(()) => succeed(&mut written.response),
+            Err(why) => self.refuse(alloc, client, part, control, why, written),
+        }
+    }
+
+    // Does a select with value that was written.
+    fn write_select_with(
+        &mut self,
+        alloc: Global,
+        client: Client,
+        part: Part,
+        given: &Data<'_>,
+        written: &mut Written,
+    ) -> Result<(), AllocError>
+        requires { IsHandle self.old.tree part.row }
+        ensures ok { OnOk result (writing self.new written.new ≡ select_with_asked client part.switch (name_at self.old.tree part.row) (writing self.old written.old) (operate_in (datum_of given.now))) }
+        ensures back { (standing : Standing) → standing_again standing (bay_view self.new) ≡ standing_again standing (bay_view self.old) }
+    {
+        let operate = match operate_of(given) {
+            Ok(operate) => operate,
+            Err(fault) => return fail(&mut written.response, fault.code()),
+        };
+        let answer = self.select_with(client, part.switch, ask_of(&operate));
+        self.put_decision(alloc, client, part, &control_of(&operate), answer, written)
+    }
+
+    // Does a cancel that was written.
+    fn write_cancel(
+        &mut self,
+        alloc: Global,
+        client: Client,
+        part: Part,
+        given: &Data<'_>,
+        written: &mut Written,
+    ) -> Result<(), AllocError>
+        requires { IsHandle self.old.tree part.row }
+        ensures ok { OnOk result (writing self.new written.new ≡ cancel_asked client part.switch (name_at self.old.tree part.row) (writing self.old written.old) (cancel_in (datum_of given.now))) }
+        ensures back { (standing : Standing) → standing_again standing (bay_view self.new) ≡ standing_again standing (bay_view self.old) }
+    {
+        let cancel = match cancel_of(given) {
+            Ok(cancel) => cancel,
+            Err(fault) => return fail(&mut written.response, fault.code()),
+        };
+        let answer = self.cancel(client, part.switch);
+        self.put_decision(alloc, client, part, &cancel, answer, written)
+    }
+
+    // The reports of the end of an operate.
+    fn ending(
+        &self,
+        alloc: Global,
+        client: Client,
+        row: Handle,
+        operate: &Operate<'_>,
+    ) -> Result<Ending, AllocError>
+        requires { IsHandle self.now.tree row }
+        ensures { IfOk result (λ ending. ending ≡ ending_of client (name_at self.now.tree row) (operating operate.now) (bay_view self.now)) }
+    {
+        let domain = self.domain.as_str();
+        let item = self.tree.name(row);
+        let object = self.object(alloc, row)?;
+        let error = ControlError {
+            object: object.as_str(),
+            origin: operate.origin,
+            ctl_num: operate.ctl_num,
+            add_cause: AddCause::TimeLimitOver.code(),
+        };
+        let positive = write_termination(alloc, domain, item, operate);
+        let negative = write_failed_termination(alloc, &error, domain, item, operate);
+        Ok(Ending {
+            positive: fitting(client.size, positive)?,
+            negative: fitting(client.size, negative)?,
+        })
+    }
+
+    // Puts down that an operate is accepted: its command, and the reports of its end.
+    fn accept(
+        &self,
+        alloc: Global,
+        client: Client,
+        part: Part,
+        operate: &Operate<'_>,
+        written: &mut Written,
+    ) -> Result<(), AllocError>
+        requires { IsHandle self.now.tree part.row }
+        ensures response { OnOk result (written.new.response ≡ written.old.response ++ success_result) }
+        ensures reports { written.new.reports ≡ written.old.reports }
+        ensures commands { OnOk result (written.new.commands.items ≡ written.old.commands.items ++ commands_for part.switch (operating operate.now) (Ok tt)) }
+        ensures ending { OnOk result (written.new.ending ≡ later_ending written.old.ending (endings client part.switch (name_at self.now.tree part.row) (operating operate.now) (bay_view self.now) (Ok tt))) }
+    {
+        succeed(&mut written.response)?;
+        written.commands.push(Command {
+            switch: part.switch,
+            on: operate.ctl_val,
+        })?;
+        if self.has_reports(part.switch) {
+            let ending = self.ending(alloc, client, part.row, operate)?;
+            written.ending = Some(ending);
+        }
+        Ok(())
+    }
+
+    // Does an operate that was written.
+    fn write_operate(
+        &mut self,
+        alloc: Global,
+        client: Client,
+        part: Part,
+        given: &Data<'_>,
+        written: &mut Written,
+    ) -> Result<(), AllocError>
+        requires there { IsHandle self.old.tree part.row }
+        requires switch { part.switch < length self.old.switches }
+        ensures ok { OnOk result (writing self.new written.new ≡ operate_asked client part.switch (name_at self.old.tree part.row) (writing self.old written.old) (operate_in (datum_of given.now))) }
+        ensures back { (standing : Standing) → standing_again standing (bay_view self.new) ≡ standing_again standing (bay_view self.old) }
+    {
+        let operate = match operate_of(given) {
+            Ok(operate) => operate,
+            Err(fault) => return fail(&mut written.response, fault.code()),
+        };
+        match self.operate(client, part.switch, ask_of(&operate)) {
+            Ok(()) => self.accept(alloc, client, part, &operate, written),
+            Err(why) => self.refuse(alloc, client, part, &control_of(&operate), why, written),
+        }
+    }
+
+    // Writes a variable that is there.
+    fn write_row(
+        &mut self,
+        alloc: Global,
+        client: Client,
+        row: Handle,
+        given: &Data<'_>,
+        written: &mut Written,
+    ) -> Result<(), AllocError>
+        requires { IsFound self.old.tree row }
+        ensures ok { OnOk result (writing self.new written.new ≡ write_row client (datum_of given.now) (writing self.old written.old) (Some row)) }
+        ensures back { (standing : Standing) → standing_again standing (bay_view self.new) ≡ standing_again standing (bay_view self.old) }
+    {
+        let target = match self.target(row) {
+            Some(target) => target,
+            None => return fail(&mut written.response, DENIED),
+        };
+        let part = Part {
+            switch: target.switch,
+            row,
+        };
+        match target.part {
+            ControlPart::Select => fail(&mut written.response, DENIED),
+            ControlPart::SelectWith => self.write_select_with(alloc, client, part, given, written),
+            ControlPart::Operate => self.write_operate(alloc, client, part, given, written),
+            ControlPart::Cancel => self.write_cancel(alloc, client, part, given, written),
+        }
+    }
+
+    // Writes a variable.
+    fn write_one(
+        &mut self,
+        alloc: Global,
+        client: Client,
+        name: &Name<'_>,
+        given: &Data<'_>,
+        written: &mut Written,
+    ) -> Result<(), AllocError>
+        ensures ok { OnOk result (writing self.new written.new ≡ write_one client (naming name.now) (datum_of given.now) (writing self.old written.old)) }
+        ensures back { (standing : Standing) → standing_again standing (bay_view self.new) ≡ standing_again standing (bay_view self.old) }
+    {
+        match self.row_named(name) {
+            Some(row) => self.write_row(alloc, client, row, given, written),
+            None => fail(&mut written.response, NO_SUCH_OBJECT),
+        }
+    }
+
+    /// Writes variables in their order; each sees what those before it did.
+    pub(crate) fn write_all(
+        &mut self,
+        alloc: Global,
+        client: Client,
+        names: &[Name<'_>],
+        values: &[Data<'_>],
+        written: &mut Written,
+    ) -> Result<(), AllocError>
+        ensures ok { OnOk result (writing self.new written.new ≡ write_all client (map naming names.now) (data_in values.now) (writing self.old written.old)) }
+        ensures back { (standing : Standing) → standing_again standing (bay_view self.new) ≡ standing_again standing (bay_view self.old) }
+    {
+        for i in 0..names.len().min(values.len()) {
+            self.write_one(alloc, client, &names[i], &values[i], written)?;
+        }
+        Ok(())
+    }
+}

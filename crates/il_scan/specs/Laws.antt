@@ -1,0 +1,23 @@
+-- Verified code, from any state that its types allow.
+use Rattle.std.specs.Prelude.{ℕ, List, length}
+use Rattle.il_image.specs.declared.timer.Timer.{Timer}
+use Rattle.il_image.specs.declared.value.Value.{Value}
+use Rattle.il_image.specs.Images.{Image}
+use Rattle.il_image.specs.Octets.{AreOctets}
+use Rattle.il_image.specs.Tables.{slot_types}
+use Rattle.il_verify.specs.Verdicts.{IsSafe}
+use Rattle.il_scan.specs.Scans.{AreInputs, Held, Scans, outputs_of}
+use Rattle.il_scan.specs.Standing.{Typed}
+
+-- A scan with these inputs at this moment comes to an end: there are a state and a number of steps after it.
+pub record Ends (old : Held) (inputs : List Value) (now : ℕ) : Type 0 where
+  pub new : Held
+  pub steps : ℕ
+  pub scans : Scans old inputs now new steps (outputs_of old.image.points new.slots)
+
+-- Code of octets with an agreeing table, which writes what it may, ends in each scan: from all slots and timers of its types, with all
+-- inputs that fit, at each moment.
+abbrev pub NeverGoesWrong : Type 0
+NeverGoesWrong =
+    (image : Image) (slots : List Value) (timers : List Timer) (inputs : List Value) (now : ℕ) → AreOctets image.code → IsSafe image
+    → Typed (slot_types image) (length image.timers) slots timers → AreInputs image.points inputs → Ends (record { image = image; slots = slots; timers = timers }) inputs now

@@ -1,0 +1,5 @@
+use Rattle.il_text.proofs.ProductionLemmas.{lines_are_produced}
+use Rattle.il_text.proofs.laws.lines_are_produced.Goals as goal
+
+pub returns : goal.returns
+returns c = lines_are_produced

@@ -1,0 +1,173 @@
+"""A scenario and what bayctl printed for it, step by step."""
+import pathlib
+import re
+import subprocess
+import sys
+import tomllib
+from dataclasses import dataclass, field
+
+from .conversation import Conversation, replies_to, report_in
+from .words import Bay
+
+TOP = pathlib.Path(__file__).resolve().parent.parent.parent
+BAYCTL = TOP / 'crates' / 'bayctl' / 'out' / 'bayctl'
+LATEST = 4_294_967_295_999
+REASONS = {110: 'before the last event', 111: 'no such association', 112: 'already open', 113: 'no such switch, input or meter',
+           114: 'the moment is too large'}
+CODES = {0: 'ended', 10: 'no TPKT', 11: 'no TPDU that may come now', 12: 'another transport class', 13: 'a TSDU that is too long',
+         20: 'no SPDU', 21: 'no value of the presentation', 22: 'a context that is not served', 23: 'no value of ACSE', 24: 'it can\'t come now',
+         25: 'too small a PDU size'}
+
+ENDINGS = ('end', 'abort', 'fault', 'finish', 'release')
+
+
+@dataclass
+class Step:
+    """A line of the trace with what was printed for it: the number of its refusal, what was sent (association, octets), a command, the line
+    of a scan, and an association that was closed with its code. `heard` is what the octets of a recv complete."""
+    number: int
+    line: str
+    moment: int
+    words: list
+    refused: int | None = None
+    heard: list = field(default_factory=list)
+    sent: list = field(default_factory=list)
+    command: tuple = ()
+    scan: str = ''
+    closed: tuple = ()
+
+
+class Replay:
+    """All of a scenario: its bay, its report, its steps, and how it ended where that was early."""
+
+    def __init__(self, octets, printed):
+        bay, _, trace = parts_of(octets)
+        self.file = bay_file(bay)
+        self.bay = Bay(bay)
+        self.report, *lines = printed.splitlines()
+        self.lines = [line.split(' ') for line in reversed(lines)]
+        self.trace, self.last, self.ending = trace, 0, ''
+        self.conversations = {}
+        self.known = {'contact': {s['id'].upper() for s in self.file['switch']}, 'input': {i['name'].upper() for i in self.file.get('input', [])},
+                      'measure': {m['id'].upper() for m in self.file.get('meter', [])}}
+
+    def steps(self):
+        """Each line of the trace in turn, up to that at which the replay ended."""
+        for number, line in enumerate(self.trace, 1):
+            if self.ended_at(number):
+                return
+            if line:
+                yield self.readable_step(number, line)
+
+    def ended_at(self, number):
+        """Whether the replay ended at this line of the trace or before it."""
+        if not self.lines or self.lines[-1][0] != 'fault':
+            return False
+        line = self.lines[-1]
+        self.ending = ' '.join(line)
+        return line[1] != '120' or number >= int(line[3])
+
+    def readable_step(self, number, line):
+        try:
+            return self.step(number, line)
+        except (ValueError, LookupError):
+            sys.exit(f'line {number} of the trace can\'t be read, or the report is not that of this scenario')
+
+    def step(self, number, line):
+        first, *words = line.split(' ')
+        step = Step(number, line, int(first), words)
+        code = self.refusal(step)
+        if code is not None:
+            if not self.lines or self.lines.pop()[1:] != ['refused', str(code)]:
+                sys.exit(f'line {number} of the trace: bayctl answers otherwise than {code}')
+            step.refused = code
+            return step
+        self.last = step.moment
+        self.take(step)
+        return step
+
+    def refusal(self, step):
+        """The number with which the device refuses an event, or None."""
+        verb, *rest = step.words
+        if step.moment > LATEST:
+            return 114
+        if step.moment < self.last:
+            return 110
+        if verb in ('open', 'recv', 'close'):
+            place = int(rest[0])
+            if not 1 <= place <= 8 or (verb != 'open' and place not in self.conversations):
+                return 111
+            return 112 if verb == 'open' and place in self.conversations else None
+        return 113 if verb in self.known and rest[0].upper() not in self.known[verb] else None
+
+    def take(self, step):
+        """What was printed for an accepted event."""
+        verb, *rest = step.words
+        place = int(rest[0]) if verb in ('open', 'recv', 'close') else None
+        self.take_ending(step, verb)
+        if verb == 'open':
+            self.conversations[place] = Conversation(self.bay)
+        elif verb == 'close':
+            del self.conversations[place]
+        elif verb == 'recv':
+            step.heard = self.conversations[place].hear(bytes.fromhex(rest[1]))
+            self.take_replies(step, place)
+        elif verb == 'scan' and self.is_next(step, 'scan'):
+            step.scan = ' '.join(self.lines.pop())
+
+    def is_next(self, step, *words):
+        """Whether the next line was printed at this moment, and goes on so."""
+        return bool(self.lines) and self.lines[-1][:len(words) + 1] == [str(step.moment), *words]
+
+    def take_ending(self, step, verb):
+        """The report of an operate that ends with this event: by a contact, or since its time is over."""
+        report = report_in(bytes.fromhex(self.lines[-1][3])) if self.is_next(step, 'send') else None
+        if report and report.names[-1].endswith('$Oper') and (verb == 'contact' or len(report.names) == 2):
+            self.take_sent(step)
+
+    def take_sent(self, step):
+        line = self.lines.pop()
+        step.sent.append((int(line[2]), bytes.fromhex(line[3])))
+
+    def take_replies(self, step, place):
+        """What the messages of a client were answered, and what they did."""
+        replies = sum(map(replies_to, step.heard))
+        while replies and self.is_next(step, 'send', str(place)):
+            replies -= report_in(bytes.fromhex(self.lines[-1][3])) is None
+            self.take_sent(step)
+        if self.is_next(step, 'command'):
+            step.command = tuple(self.lines.pop()[2:])
+        ends = replies or any(got.kind in ENDINGS for got in step.heard)
+        if ends and self.is_next(step, 'closed', str(place)):
+            step.closed = (place, self.lines.pop()[3])
+            del self.conversations[place]
+
+
+def parts_of(octets):
+    """The bay file, the program and the lines of the trace of a scenario."""
+    text = octets.decode('utf-8', 'backslashreplace')
+    parts = re.split(r'(?m)^%%\r?(?:\n|\Z)', text, maxsplit=2)
+    if len(parts) < 3:
+        sys.exit('a part of the scenario is missing')
+    lines = [line.removesuffix('\r') for line in parts[2].split('\n')]
+    return parts[0].removeprefix('\ufeff'), parts[1], lines
+
+
+def bay_file(text):
+    """The tables of a bay file."""
+    try:
+        return tomllib.loads(text)
+    except tomllib.TOMLDecodeError as error:
+        sys.exit(f'the bay file has TOML that Python can\'t read: {error}')
+
+
+def replayed(octets, bayctl, report=None):
+    """What bayctl prints for a scenario: the report in a file, or a run of the program."""
+    try:
+        if report:
+            printed = sys.stdin.read() if str(report) == '-' else pathlib.Path(report).read_text(encoding='utf-8')
+            return printed, 0
+        run = subprocess.run([bayctl, 'replay'], input=octets, stdout=subprocess.PIPE)
+    except OSError as error:
+        sys.exit(str(error))
+    return run.stdout.decode(), run.returncode
