@@ -3,7 +3,7 @@ use Rattle.std.proofs.Math.ListN.{drop_of_length-le}
 use Rattle.std.proofs.lemmas.Grind.{common_steps}
 use Rattle.bay_device.specs.Meaning.{Runs}
 use Rattle.bay_device.specs.declared.event.Event.{Event}
-use Rattle.bay_device.specs.declared.event.Event.TheVariants.{Scan}
+use Rattle.bay_device.specs.declared.event.Event.TheVariants.{Open}
 use Rattle.bay_device.proofs.MeaningLemmas.{all-mean, all-run}
 use Rattle.bay_device.proofs.RunLemmas.{leads-none, leads-step, runs-all}
 use Rattle.bay_device.proofs.device.Device.run.Goals as goal
@@ -25,8 +25,8 @@ pub loop-now-preserved : goal.loop-now-preserved
 loop-now-preserved c =
     let events = c.args.events.now in
     let i = c.loop-now.now-index in
-    let e : ℕ × Event = get_or events i (0, Scan) in
-    let here = rest-more events i (0, Scan) c.loop-now-test.true in
+    let e : ℕ × Event = get_or events i (0, Open 0) in
+    let here = rest-more events i (0, Open 0) c.loop-now-test.true in
     let room = rw c.unwrap.ensures at c.push.ensures in
     record {
       counted = omega (arith, room.len, c.loop-now.invariant.counted);
