@@ -1,4 +1,5 @@
 pub mod Laws
+pub mod Loan
 pub mod Places
 pub mod Scans
 pub mod Standing
