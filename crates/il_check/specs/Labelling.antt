@@ -113,7 +113,7 @@ ActionFlows labels r t c = (c.now ≡ Some t) × IsRight c.passed r t × Jumps l
 
 -- A parenthesis is reached by a result of this type, and is right on it.
 abbrev pub BlockFlows : Names → text.Entry → Option ElementaryType → Carried → Type 0
-BlockFlows names block t c = (c.now ≡ Some t) × IsRightEntry names 16 c.passed block t
+BlockFlows names b t c = (c.now ≡ Some t) × IsRightEntry names 16 c.passed b t
 
 -- Each instruction is reached, and right on the result that comes to it; and each way to a label brings the label's type, or
 -- the label is unset.

@@ -1,9 +1,10 @@
 // The machine, which runs a verified image scan by scan.
 ghost use Rattle.std.specs.Prelude.{◌≡◌, ◌↔◌, IfErr, IfOk, IsTrue, map};
 ghost use Rattle.std.specs.Borrow.{sem};
-ghost use Rattle.il_scan.specs.Places.{read_places};
+ghost use Rattle.il_scan.specs.PointPlaces.{read_places};
 ghost use Rattle.il_scan.specs.Scans.{AreInputs, Scans, TakesMemory, held_first, outputs_of, read_only, type_of_point};
-ghost use Rattle.il_scan.specs.Standing.{IsHeld, IsKept, held};
+ghost use Rattle.il_scan.specs.Standing.{IsHeld, IsKept};
+ghost use Rattle.il_scan.specs.Scans.{held};
 ghost use Rattle.il_scan.specs.Words.{values_of};
 ghost use Rattle.il_image.specs.Tables.{slot_types};
 ghost use Rattle.il_verify.specs.Verdicts.{IsSafe};
@@ -33,7 +34,8 @@ pub struct Machine {
 
 impl Model for Machine {
     ghost use Rattle.il_scan.specs.Scans.{Held};
-    ghost use Rattle.il_scan.specs.Standing.{IsKept, held};
+    ghost use Rattle.il_scan.specs.Standing.{IsKept};
+    ghost use Rattle.il_scan.specs.Scans.{held};
 
     ghost Value = { Held };
 

@@ -1,28 +1,30 @@
 pub mod Characters
 pub mod Code
-pub mod Declaring
-pub mod Durations
 pub mod Falling
-pub mod FormViews
 pub mod Forms
 pub mod Grammar
 pub mod ItemViews
 pub mod LetterCase
 pub mod Listing
-pub mod ListingViews
 pub mod Literals
 pub mod Parts
 pub mod Pieces
 pub mod Places
 pub mod Productions
-pub mod ReaderViews
 pub mod Reading
 pub mod Respelling
-pub mod Runs
 pub mod Steps
 pub mod Symbols
 pub mod Texts
-pub mod TokenViews
 pub mod Tokens
 pub mod Views
+
+-- Inner ones, which private functions, invariants and proofs cite, and no public clause.
+pub mod Declaring
+pub mod Durations
+pub mod FormViews
+pub mod ListingViews
+pub mod ReaderViews
+pub mod Runs
+pub mod TokenViews
 pub mod Words
