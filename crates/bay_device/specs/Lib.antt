@@ -5,7 +5,7 @@ pub use Rattle.il_check.specs.Program
 pub use Rattle.il_image.specs.Decoding
 pub use Rattle.il_image.specs.Images
 pub use Rattle.il_text.specs.Reading
-
+-- Its own definitions.
 pub mod Code
 pub mod Device
 pub mod Load

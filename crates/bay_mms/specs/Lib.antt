@@ -5,7 +5,7 @@ pub use Rattle.bay_ber.specs.Spelling
 pub use Rattle.bay_ber.specs.Values
 pub use Rattle.bay_tree.specs.Page
 pub use Rattle.bay_tree.specs.Rows
-
+-- Its own definitions.
 pub mod Answers
 pub mod Asks
 pub mod Code

@@ -2,7 +2,7 @@
 pub use Rattle.bay_base.specs.Exact
 pub use Rattle.il_text.specs.Listing
 pub use Rattle.il_text.specs.Views
-
+-- Its own definitions.
 pub mod Checking
 pub mod Code
 pub mod Contents
@@ -19,7 +19,6 @@ pub mod Sound
 pub mod TypedProgram
 pub mod Typing
 pub mod WellTyped
-
 -- Inner ones, which private functions, invariants and proofs cite, and no public clause.
 pub mod LabelsView
 pub mod NamesView

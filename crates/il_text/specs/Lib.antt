@@ -18,7 +18,6 @@ pub mod Symbols
 pub mod Texts
 pub mod Tokens
 pub mod Views
-
 -- Inner ones, which private functions, invariants and proofs cite, and no public clause.
 pub mod Declaring
 pub mod Durations
