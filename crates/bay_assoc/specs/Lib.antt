@@ -1,3 +1,6 @@
+-- What public clauses cite of the crates below.
+pub use Rattle.bay_ber.specs.Octets
+-- Its own definitions.
 pub mod Acse
 pub mod Code
 pub mod Hearing

@@ -1,3 +1,11 @@
+-- What public clauses cite of the crates below.
+pub use Rattle.bay_base.specs.Exact
+pub use Rattle.bay_config.specs.Bay
+pub use Rattle.il_check.specs.Program
+pub use Rattle.il_image.specs.Decoding
+pub use Rattle.il_image.specs.Images
+pub use Rattle.il_text.specs.Reading
+-- Its own definitions.
 pub mod Code
 pub mod Connections
 pub mod Device

@@ -11,8 +11,8 @@ use Rattle.bay_ber.proofs.SizeLemmas.{length-element-is}
 use Rattle.bay_ber.proofs.WriteLemmas.{element-header}
 use Rattle.bay_mms.specs.Tags.{context, constructed, sequence, int_tag}
 use Rattle.bay_mms.specs.Reports.{variable_text}
-use Rattle.bay_mms.specs.Pages.{list_length}
-use Rattle.bay_mms.specs.Responses.{names_text, page_text, flag_text, list_text}
+use Rattle.bay_mms.specs.Pages.{content_length, list_length}
+use Rattle.bay_mms.specs.Responses.{confirmed, names_text, page_text, flag_text, list_text}
 use Rattle.bay_mms.proofs.PutLemmas.{part_fault, around_over}
 
 -- What was written since a front, and what remains to be written, are the whole.
@@ -184,3 +184,28 @@ never_long text short (inr long) = let e : Ok text ≡ Err TooLong = sym (gives_
 pub gives_fault : (fault : WriteFault) (text : List ℕ) → IsFaultOf fault text → (fault ≡ OutOfMemory) ⊎ (written text ≡ Err fault)
 gives_fault TooLong text long = inr (rw (le-ltb (length text) 4294967296 long) refl)
 gives_fault OutOfMemory text memory = inl refl
+
+-- ---- a response around a content
+
+pub content_is : (id number : ℕ) (content : List ℕ) → length (confirmed id (element (constructed number) content)) ≡ content_length id (length content)
+content_is id number content =
+    let name : List ℕ = element int_tag (integer_octets (pos id)) in
+    let service : List ℕ = element (constructed number) content in
+    length-element-is (constructed 1) (name ++ service)
+    ∙ ap element_length (length-append name service ∙ ap (λ (n : ℕ). n + length service) (length-element-is int_tag (integer_octets (pos id)))
+    ∙ ap (λ (n : ℕ). element_length (length (integer_octets (pos id))) + n) (length-element-is (constructed number) content))
+
+-- what is written forward, the head first
+pub contained : (id number response : ℕ) (content head named whole : List ℕ) → response ≡ element_length (length (integer_octets (pos id))) + element_length (length content)
+    → head ≡ header (constructed 1) response → named ≡ head ++ element int_tag (integer_octets (pos id)) → whole ≡ named ++ element (constructed number) content → whole ≡ confirmed id (element (constructed number) content)
+contained id number response content head named whole r h n w =
+    let name : List ℕ = element int_tag (integer_octets (pos id)) in
+    let service : List ℕ = element (constructed number) content in
+    let size : length (name ++ service) ≡ response =
+    length-append name service ∙ ap (λ (k : ℕ). k + length service) (length-element-is int_tag (integer_octets (pos id)))
+    ∙ ap (λ (k : ℕ). element_length (length (integer_octets (pos id))) + k) (length-element-is (constructed number) content) ∙ sym r in
+    let all : confirmed id service ≡ header (constructed 1) response ++ (name ++ service) = element-header (constructed 1) (name ++ service) ∙ ap (λ (k : ℕ). header (constructed 1) k ++ (name ++ service)) size in
+    w ∙ ap (λ (xs : List ℕ). xs ++ service) (n ∙ ap (λ (xs : List ℕ). xs ++ name) h) ∙ append_assoc (header (constructed 1) response) name service ∙ sym all
+
+pub confirmed_fault : (fault : WriteFault) (id number : ℕ) (content : List ℕ) → IsFaultOf fault content → IsFaultOf fault (confirmed id (element (constructed number) content))
+confirmed_fault fault id number content f = last_fault fault (constructed 1) (element int_tag (integer_octets (pos id))) _ (around_fault fault (constructed number) content f)

@@ -1,3 +1,11 @@
+-- What public clauses cite of the crates below.
+pub use Rattle.bay_base.specs.Exact
+pub use Rattle.bay_ber.specs.Octets
+pub use Rattle.bay_ber.specs.Spelling
+pub use Rattle.bay_ber.specs.Values
+pub use Rattle.bay_tree.specs.Page
+pub use Rattle.bay_tree.specs.Rows
+-- Its own definitions.
 pub mod Answers
 pub mod Asks
 pub mod Code

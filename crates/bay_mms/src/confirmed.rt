@@ -1,10 +1,10 @@
-// Confirmed responses around a list whose length is known: the heads by their lengths, into room that is taken once, and behind
-// them the list, which is moved once.
+// Confirmed responses around a content whose length is known: the heads by their lengths, into room that is taken once, and behind
+// them the content, which is moved once.
 ghost use Rattle.std.specs.Prelude.{◌≡◌, ◌≤◌, ◌<◌, ◌^◌, ◌++◌, ◌+◌, pos, length, OnOk, IfOk, IfErr};
 ghost use Rattle.bay_base.specs.Exact.{Gives};
 ghost use Rattle.bay_ber.specs.Writing.{element, element_length, header, integer_octets};
-ghost use Rattle.bay_mms.specs.Pages.{list_length};
-ghost use Rattle.bay_mms.specs.Responses.{flag_text, list_text};
+ghost use Rattle.bay_mms.specs.Pages.{content_length, list_length};
+ghost use Rattle.bay_mms.specs.Responses.{confirmed, flag_text, list_text};
 ghost use Rattle.bay_mms.specs.Tags.{constructed, int_tag};
 ghost use Rattle.bay_mms.specs.Writing.{written};
 
@@ -35,6 +35,24 @@ fn length_around(count: u64) -> Result<u32, WriteFault>
     Ok(element_length(count as u32) as u32)
 }
 
+// The lengths of a response whose service has so many octets.
+fn lengths_of(id: u32, service: u64) -> Result<Lengths, WriteFault>
+    ensures service { IfOk result (λ lengths. lengths.service ≡ service) }
+    ensures response { IfOk result (λ lengths. lengths.response ≡ element_length (length (integer_octets (pos id))) + element_length service) }
+    ensures whole { IfOk result (λ lengths. lengths.whole ≡ content_length id service) }
+    ensures fits { IfOk result (λ lengths. lengths.whole < 2 ^ 32) }
+    ensures err { IfErr result (λ fault. (fault ≡ WriteFault.TooLong) × (2 ^ 32 ≤ content_length id service)) }
+{
+    let number = element_length(integer_length(i64::from(id)) as u32);
+    let response = number + u64::from(length_around(service)?);
+    let whole = length_around(response)?;
+    Ok(Lengths {
+        service: service as u32,
+        response: response as u32,
+        whole,
+    })
+}
+
 // The lengths around a list of so many octets with so many behind it.
 fn lengths_around(id: u32, list: usize, more: u8) -> Result<Lengths, WriteFault>
     ensures service { IfOk result (λ lengths. lengths.service ≡ element_length list + more) }
@@ -44,14 +62,7 @@ fn lengths_around(id: u32, list: usize, more: u8) -> Result<Lengths, WriteFault>
     ensures err { IfErr result (λ fault. (fault ≡ WriteFault.TooLong) × (2 ^ 32 ≤ list_length id list more)) }
 {
     let service = u64::from(length_around(list as u64)?) + u64::from(more);
-    let number = element_length(integer_length(i64::from(id)) as u32);
-    let response = number + u64::from(length_around(service)?);
-    let whole = length_around(response)?;
-    Ok(Lengths {
-        service: service as u32,
-        response: response as u32,
-        whole,
-    })
+    lengths_of(id, service)
 }
 
 // Writes the heads of a response and of its service, and between them the invoke id.
@@ -104,5 +115,24 @@ pub(crate) fn write_list(
     put_heads(&mut writer, id, number, &lengths)?;
     writer.octets(Tag::context_constructed(tag), list)?;
     put_flag(&mut writer, flag)?;
+    Ok(writer.finish())
+}
+
+/// The response of the service of this number and this content.
+pub(crate) fn write_content(
+    alloc: Global,
+    id: u32,
+    number: u8,
+    content: &[u8],
+) -> Result<Vec<u8>, WriteFault>
+    requires { number < 31 }
+    ensures { Gives WriteFault.OutOfMemory (λ octets. octets.items) result (written (confirmed id (element (constructed number) content.now))) }
+{
+    let lengths = lengths_of(id, content.len() as u64)?;
+    let room = Vec::with_capacity(alloc, lengths.whole as usize)?;
+    let mut writer = Writer::behind(room);
+    writer.head(Tag::context_constructed(1), lengths.response)?;
+    put_id(&mut writer, id)?;
+    writer.octets(Tag::context_constructed(number), content)?;
     Ok(writer.finish())
 }

@@ -6,11 +6,12 @@ ghost use Rattle.bay_tree.specs.Rows.{IsHandle};
 ghost use Rattle.bay_mms.specs.Tags.{context, constructed, int_tag};
 ghost use Rattle.bay_mms.specs.Types.{type_text};
 ghost use Rattle.bay_mms.specs.Nodes.{type_at};
-ghost use Rattle.bay_mms.specs.Responses.{nesting_text, parameters_text, services_text, limits_text, detail_text, agreed_text, confirmed, error_text, identity_text, names_text, class_text, id_text, reason_text, reject_text, concluded_text, service_number, content_text, service_text, response_text, IsOfTree, IsAnswerable};
+ghost use Rattle.bay_mms.specs.Responses.{nesting_text, parameters_text, services_text, limits_text, detail_text, agreed_text, confirmed, error_text, identity_text, names_text, page_text, class_text, id_text, reason_text, reject_text, concluded_text, service_text, response_text, IsOfTree, IsAnswerable};
 ghost use Rattle.bay_mms.specs.Writing.{Adds, Appends, written};
 
+use crate::confirmed::{write_content, write_list};
 use crate::fault::WriteFault;
-use crate::put::{put_around, put_octets, put_truth};
+use crate::put::{put_around, put_octets};
 use crate::value::put_type;
 use bay_base::text::Text;
 use bay_ber::content::Bits;
@@ -96,23 +97,6 @@ pub enum Response<'a> {
     },
 }
 
-// Makes a confirmed response of what was written since a place: the invoke id, and from the second place on the content of
-// the service of this number.
-fn put_confirmed_around(
-    writer: &mut Writer,
-    start: usize,
-    inner: usize,
-    service: u8,
-) -> Result<(), WriteFault>
-    requires start { start ≤ inner }
-    requires inner { inner ≤ length writer.old }
-    requires low { service < 31 }
-    ensures { Appends (take start writer.old) result writer.new (element (constructed 1) (drop start (take inner writer.old) ++ element (constructed service) (drop inner writer.old))) }
-{
-    put_around(writer, inner, Tag::context_constructed(service))?;
-    put_around(writer, start, Tag::context_constructed(1))
-}
-
 fn put_identity(
     writer: &mut Writer,
     vendor: &str,
@@ -135,15 +119,6 @@ fn put_names(writer: &mut Writer, names: &[Text]) -> Result<(), WriteFault>
     Ok(())
 }
 
-fn put_name_list(writer: &mut Writer, names: &[Text], more: bool) -> Result<(), WriteFault>
-    ensures { Adds writer.old result writer.new (element (constructed 0) (names_text names.now) ++ element (context 1) (truth_octets more)) }
-{
-    let start = writer.len();
-    put_names(writer, names)?;
-    put_around(writer, start, Tag::context_constructed(0))?;
-    put_truth(writer, 1, more)
-}
-
 fn put_attributes(writer: &mut Writer, tree: &Tree, handle: &Handle) -> Result<(), WriteFault>
     requires { IsHandle tree.now handle.now }
     ensures { Adds writer.old result writer.new (element (context 0) (truth_octets false) ++ element (constructed 2) (type_text (type_at tree.now handle.now))) }
@@ -152,33 +127,6 @@ fn put_attributes(writer: &mut Writer, tree: &Tree, handle: &Handle) -> Result<(
     let start = writer.len();
     put_type(writer, tree, *handle)?;
     put_around(writer, start, Tag::context_constructed(2))
-}
-
-// The number of a service's tag.
-fn service_number(service: &Service<'_>) -> u8
-    ensures number { result ≡ service_number service.now }
-    ensures low { result < 31 }
-{
-    match service {
-        Service::Identify { .. } => 2,
-        Service::Names { .. } => 1,
-        Service::Attributes { .. } => 6,
-    }
-}
-
-fn put_content(writer: &mut Writer, service: &Service<'_>) -> Result<(), WriteFault>
-    requires { IsOfTree service.now }
-    ensures { Adds writer.old result writer.new (content_text service.now) }
-{
-    match service {
-        Service::Identify {
-            vendor,
-            model,
-            revision,
-        } => put_identity(writer, vendor, model, revision),
-        Service::Names { names, more } => put_name_list(writer, names, *more),
-        Service::Attributes { tree, handle } => put_attributes(writer, tree, handle),
-    }
 }
 
 /// Writes an invoke id.
@@ -196,15 +144,59 @@ fn put_number(writer: &mut Writer, number: u8, value: u32) -> Result<(), AllocEr
     writer.int(Tag::context(number), i64::from(value))
 }
 
-fn put_confirmed(writer: &mut Writer, id: u32, service: &Service<'_>) -> Result<(), WriteFault>
-    requires { IsOfTree service.now }
-    ensures { Appends writer.old result writer.new (confirmed id (service_text service.now)) }
+// The response that tells who makes the device, which model it is, and of which revision.
+fn write_identity(
+    alloc: Global,
+    id: u32,
+    vendor: &str,
+    model: &str,
+    revision: &str,
+) -> Result<Vec<u8>, WriteFault>
+    ensures { Gives WriteFault.OutOfMemory (λ octets. octets.items) result (written (confirmed id (element (constructed 2) (identity_text vendor.now model.now revision.now)))) }
 {
-    let start = writer.len();
-    put_id(writer, id)?;
-    let inner = writer.len();
-    put_content(writer, service)?;
-    put_confirmed_around(writer, start, inner, service_number(service))
+    let mut content = Writer::new(alloc);
+    put_identity(&mut content, vendor, model, revision)?;
+    write_content(alloc, id, 2, content.finish().as_slice())
+}
+
+// The response with these names, and whether more follow.
+fn write_names(alloc: Global, id: u32, names: &[Text], more: bool) -> Result<Vec<u8>, WriteFault>
+    ensures { Gives WriteFault.OutOfMemory (λ octets. octets.items) result (written (page_text id names.now more)) }
+{
+    let mut list = Writer::new(alloc);
+    put_names(&mut list, names)?;
+    write_list(alloc, id, 1, 0, list.finish().as_slice(), Some(more))
+}
+
+// The response with the type of a row.
+fn write_attributes(
+    alloc: Global,
+    id: u32,
+    tree: &Tree,
+    handle: &Handle,
+) -> Result<Vec<u8>, WriteFault>
+    requires { IsHandle tree.now handle.now }
+    ensures { Gives WriteFault.OutOfMemory (λ octets. octets.items) result (written (confirmed id (element (constructed 6) (element (context 0) (truth_octets false) ++ element (constructed 2) (type_text (type_at tree.now handle.now)))))) }
+{
+    let mut content = Writer::new(alloc);
+    put_attributes(&mut content, tree, handle)?;
+    write_content(alloc, id, 6, content.finish().as_slice())
+}
+
+// The response to a confirmed request.
+fn write_confirmed(alloc: Global, id: u32, service: &Service<'_>) -> Result<Vec<u8>, WriteFault>
+    requires { IsOfTree service.now }
+    ensures { Gives WriteFault.OutOfMemory (λ octets. octets.items) result (written (confirmed id (service_text service.now))) }
+{
+    match service {
+        Service::Identify {
+            vendor,
+            model,
+            revision,
+        } => write_identity(alloc, id, vendor, model, revision),
+        Service::Names { names, more } => write_names(alloc, id, names, *more),
+        Service::Attributes { tree, handle } => write_attributes(alloc, id, tree, handle),
+    }
 }
 
 // The class of an error, and the error's number.
@@ -308,28 +300,19 @@ fn put_agreed(writer: &mut Writer, agreed: Agreed) -> Result<(), WriteFault>
     put_around(writer, start, Tag::context_constructed(9))
 }
 
-fn put_response(writer: &mut Writer, response: &Response<'_>) -> Result<(), WriteFault>
-    requires { IsAnswerable response.now }
-    ensures { Appends writer.old result writer.new (response_text response.now) }
-{
-    match response {
-        Response::Initiate(agreed) => put_agreed(writer, *agreed),
-        Response::Conclude => put_octets(writer, Tag::context(12), &[]),
-        Response::Confirmed { id, service } => put_confirmed(writer, *id, service),
-        Response::Error { id, class } => put_error(writer, *id, *class),
-        Response::Reject { id, reason } => put_reject(writer, *id, *reason),
-    }
-}
-
 /// The text of a response, which is the one canonical spelling (ISO 9506-2); TooLong where it would have 2^32 octets or
 /// more. The handles in it are of its trees.
 pub fn write_response(alloc: Global, response: &Response<'_>) -> Result<Vec<u8>, WriteFault>
     requires { IsAnswerable response.now }
     ensures { Gives WriteFault.OutOfMemory (λ octets. octets.items) result (written (response_text response.now)) }
 {
-    let mut writer = Writer::new(alloc);
-    put_response(&mut writer, response)?;
-    Ok(writer.finish())
+    match response {
+        Response::Initiate(agreed) => Ok(write_agreed(alloc, *agreed)?),
+        Response::Conclude => Ok(write_conclude(alloc)?),
+        Response::Confirmed { id, service } => write_confirmed(alloc, *id, service),
+        Response::Error { id, class } => Ok(write_error(alloc, *id, *class)?),
+        Response::Reject { id, reason } => Ok(write_reject(alloc, *id, *reason)?),
+    }
 }
 
 /// The answer to an initiate (ISO 9506-2, InitiateResponsePDU), which is the one canonical spelling and has at most 200 octets.

@@ -1,44 +1,21 @@
 // The responses to reads and writes, made variable by variable (ISO 9506-2, Read-Response and Write-Response).
 ghost use Rattle.std.specs.Prelude.{◌≡◌, ◌<◌, ◌++◌, []};
 ghost use Rattle.bay_base.specs.Exact.{Gives};
-ghost use Rattle.bay_ber.specs.Writing.{element};
 ghost use Rattle.bay_tree.specs.Rows.{IsHandle};
-ghost use Rattle.bay_mms.specs.Tags.{constructed};
 ghost use Rattle.bay_mms.specs.Data.{datum_text};
 ghost use Rattle.bay_mms.specs.Nodes.{data_at};
-ghost use Rattle.bay_mms.specs.Responses.{confirmed, text_result, failure_result, success_result, read_text, write_text};
-ghost use Rattle.bay_mms.specs.Writing.{Adds, Appends, written};
+ghost use Rattle.bay_mms.specs.Responses.{text_result, failure_result, success_result, read_text, write_text};
+ghost use Rattle.bay_mms.specs.Writing.{Adds, written};
 
-use crate::confirmed::write_list;
+use crate::confirmed::{write_content, write_list};
 use crate::fault::WriteFault;
-use crate::put::{put_around, put_integer, put_octets};
-use crate::response::put_id;
+use crate::put::{put_integer, put_octets};
 use crate::value::put_value;
 use bay_ber::tag::Tag;
 use bay_ber::writer::Writer;
 use bay_tree::tree::{Handle, Tree};
 use std::alloc::Global;
 use std::marker::Model;
-
-fn put_service(writer: &mut Writer, id: u32, number: u8, content: &[u8]) -> Result<(), WriteFault>
-    requires { number < 31 }
-    ensures { Appends writer.old result writer.new (confirmed id (element (constructed number) content.now)) }
-{
-    let start = writer.len();
-    put_id(writer, id)?;
-    put_octets(writer, Tag::context_constructed(number), content)?;
-    put_around(writer, start, Tag::context_constructed(1))
-}
-
-// The confirmed response of a service of this number and this content.
-fn write_service(alloc: Global, id: u32, number: u8, content: &[u8]) -> Result<Vec<u8>, WriteFault>
-    requires { number < 31 }
-    ensures { Gives WriteFault.OutOfMemory (λ octets. octets.items) result (written (confirmed id (element (constructed number) content.now))) }
-{
-    let mut writer = Writer::new(alloc);
-    put_service(&mut writer, id, number, content)?;
-    Ok(writer.finish())
-}
 
 /// The results of a read so far, which contracts see as their octets. Each call appends one result, in the order of the
 /// variables; after a call that fails the results are given up.
@@ -145,6 +122,6 @@ impl WriteResponse {
         ensures { Gives WriteFault.OutOfMemory (λ octets. octets.items) result (written (write_text id self)) }
     {
         let WriteResponse { alloc, results } = self;
-        write_service(alloc, id, 5, results.finish().as_slice())
+        write_content(alloc, id, 5, results.finish().as_slice())
     }
 }

@@ -1,3 +1,8 @@
+-- What public clauses cite of the crates below.
+pub use Rattle.bay_nodes.specs.Names as NodeNames
+pub use Rattle.bay_tree.specs.Kinds
+pub use Rattle.bay_tree.specs.Rows
+-- Its own definitions.
 pub mod Controls
 pub mod Layout
 pub mod Names

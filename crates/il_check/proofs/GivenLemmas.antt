@@ -22,11 +22,11 @@ use Rattle.il_image.specs.declared.value.Value.TheVariants as value
 use Rattle.il_image.proofs.KindLemmas.{same_is, same_self}
 use Rattle.il_image.proofs.ValueLemmas.{value_is}
 use Rattle.il_check.specs.Given.{Names, known, literal_given, variable_given, output_given, place_given, source_given, is_zero, is_nonzero_literal, is_nonzero, called_of, arguments_given, resolved}
-use Rattle.il_check.specs.Labelling.{Becomes, IsRight, behind_action}
+use Rattle.il_check.specs.Labelling.{Becomes, IsRight, coming_behind_action}
 use Rattle.il_check.specs.Program.{Checked, Item}
 use Rattle.il_check.specs.Rules as rules
 use Rattle.il_check.specs.Rules.{operand_in, number_in, own_type, load_type, fits, works, may_negate, is_plain, is_conditional, is_boolean, divides, gives, converted_from, input_type, argument_fits, arguments_fit, is_timer, allows, uses_result, is_wrong, is_unset, type_after, misses_label, goes_on}
-use Rattle.il_check.specs.TypedProgram.{slot_type, may_write, is_writable, IsOperand, is_divisor, IsOperation, IsArgument, AreArguments, Decides, has_label, IsTransfer, target_of, behind_condition, behind_transfer}
+use Rattle.il_check.specs.TypedProgram.{slot_type, may_write, is_writable, IsOperand, is_divisor, IsOperation, IsArgument, AreArguments, Decides, has_label, IsTransfer, target_of, coming_behind_condition, coming_behind_transfer}
 use Rattle.il_check.specs.Typing.{loaded, load_in, slot_in, target_slot, stored, combined, operation_in, typed_argument, one_argument, two_arguments, arguments_in, call_with, transfer_in}
 use Rattle.il_check.specs.declared.given.Meaning.{Meaning}
 use Rattle.il_check.specs.declared.given.Meaning.TheVariants as meaning
@@ -390,7 +390,7 @@ decides_return IfTrue (Some kind) ok set = ap Some (sym (same_is elementary.Bool
 decides_return IfFalse None ok set = absurd (cc)
 decides_return IfFalse (Some kind) ok set = ap Some (sym (same_is elementary.Bool kind (not_false _ ok)))
 
-behind_same : (condition : Condition) (t : Option ElementaryType) → behind_condition condition t ≡ cond (is_conditional condition) (Some t) None
+behind_same : (condition : Condition) (t : Option ElementaryType) → coming_behind_condition condition t ≡ cond (is_conditional condition) (Some t) None
 behind_same Always t = refl
 behind_same IfTrue t = refl
 behind_same IfFalse t = refl
@@ -399,7 +399,7 @@ behind_same IfFalse t = refl
 pub record IsMoved (c : Checked) (below : List Item) (r : Resolved) (t : Option ElementaryType) (x : Transfer) : Type 0 where
   pub right : IsTransfer c below x t
   pub target : target_of x ≡ rules.target_of r
-  pub goes : behind_transfer x t ≡ behind_action r t
+  pub goes : coming_behind_transfer x t ≡ coming_behind_action r t
 
 call_case : (c : Checked) (below : List Item) (n : ℕ) (args : GivenArguments) (w : Option TypedArguments) (t : Option ElementaryType) (x : Transfer) → n < length c.timers → AreGiven c args → arguments_in args ≡ w → call_with n w ≡ Some x
     → IsMoved c below (Call (called.Timer n) args) t x
@@ -447,7 +447,7 @@ call_some n (Some x) e = refl
 
 -- where nothing at all is left of an instruction that is right, it goes on with the same result, and jumps nowhere
 pub nothing_left : (c : Checked) (passed : ℕ) (r : Resolved) (t : Option ElementaryType) → IsFound c r → IsRight passed r t → transfer_in r ≡ None → operation_in r t ≡ None
-    → (rules.target_of r ≡ None) × (behind_action r t ≡ Some t)
+    → (rules.target_of r ≡ None) × (coming_behind_action r t ≡ Some t)
 nothing_left c passed (Load negated g) t is ok none e = absurd (none_some _ e (load_some c negated g is (allows_any (Load negated g) t refl ok.allowed)))
 nothing_left c passed (Store how g) t is ok none e = (refl, refl)
 nothing_left c passed (Combine operator negated g nonzero) None is ok none e = absurd (let k = ok.set in cc)

@@ -16,7 +16,7 @@ use Rattle.il_check.specs.Checking.{start}
 use Rattle.il_check.specs.Declaring.{labels_from, names_in, looked_up}
 use Rattle.il_check.specs.Faults.{fault_if}
 use Rattle.il_check.specs.Given.{Names, resolved}
-use Rattle.il_check.specs.Labelling.{Labelling, Becomes, IsRight, IsJoined, IsRightEntry, AreRightEntries, Coming, Falls, Jumps, is_named, with_target, behind_label, behind_action, with_result, Flows, IsWellTyped, behind_all, coming_behind}
+use Rattle.il_check.specs.Labelling.{Labelling, Becomes, IsRight, IsJoined, IsRightEntry, AreRightEntries, Coming, Falls, Jumps, is_named, with_target, Carried, carried, beginning, coming_behind_label, coming_behind_action, with_result, Flows, IsWellTyped, behind_all, coming_behind}
 use Rattle.il_check.specs.Rules.{is_wrong, is_unset, type_after, allows, uses_result, any_type, joins_unset, jumps_back, gives, goes_on, target_of}
 use Rattle.il_check.specs.WellTyped.{Standing, is_first, type_behind, type_behind_all, instruction_faults, entry_faults, entries_faults, items_faults, same_result, met_type, met, unreached, arrival, arrived, moved, behind}
 use Rattle.il_check.specs.declared.reach.Reach.{Reach}
@@ -464,7 +464,7 @@ falls_in labels number kind None falls is typed = absurd (cc)
 falls_in labels number kind (Some t) falls is typed = becomes_along kind t (labels number) (typed t refl) falls
 
 stands_behind_label : (labels : Labelling) (count line : ℕ) (names : Names) (name : List ℕ) (named : List ℕ) (s : Standing) (now : Coming) → Falls labels s.passed now → Stands labels count named s now
-    → Stands labels count named (behind names (text.label line name) s) (behind_label labels s.passed named now)
+    → Stands labels count named (behind names (text.label line name) s) (coming_behind_label labels (carried s.passed named now))
 stands_behind_label labels count line names name named s now falls st =
     let come = arrival (slice_get s.arrivals s.passed) in
     let either : (met s.now come).is_reached ≡ is_some now || is_named named s.passed =
@@ -481,7 +481,7 @@ stands_behind_label labels count line names name named s now falls st =
     }
 
 stands_behind_action : (labels : Labelling) (count : ℕ) (r : Resolved) (t : Option ElementaryType) (named : List ℕ) (s : Standing) (now : Coming) → now ≡ Some t → Jumps labels (target_of r) t → ((n : ℕ) → target_of r ≡ Some n → n < count)
-    → Stands labels count named s now → Stands labels count (with_target (target_of r) named) (moved r s) (behind_action r t)
+    → Stands labels count named s now → Stands labels count (with_target (target_of r) named) (moved r s) (coming_behind_action r t)
 stands_behind_action labels count r t named s now is jumps range st =
     let reached : s.now.is_reached ≡ true = st.reached ∙ ap is_some is in
     let goes : s.now.is_reached && goes_on r ≡ goes_on r = ap (λ (x : Bool). x && goes_on r) reached in
@@ -501,20 +501,20 @@ stands_behind_block labels count names line operator negated items end t named s
   under = st.under;
 }
 
-flows_to : (names : Names) (labels : Labelling) (count : ℕ) → InRange names count → (es : List text.Entry) (s : Standing) (named : List ℕ) (now : Coming) → Flows names labels es s.passed named now → Stands labels count named s now
+flows_to : (names : Names) (labels : Labelling) (count : ℕ) → InRange names count → (es : List text.Entry) (s : Standing) (named : List ℕ) (now : Coming) → Flows names labels es (carried s.passed named now) → Stands labels count named s now
     → items_faults names es s ≡ []
 flows_to names labels count range [] s named now f st = refl
 flows_to names labels count range (text.label line name ∷ es) s named now f st =
     none_both _ _
     (none_both _ _ (none_if _ _ (ap not f.0.0)) (none_if _ _ (few s.passed f.0.1)))
-    (flows_to names labels count range es (behind names (text.label line name) s) named (behind_label labels s.passed named now) f.1
+    (flows_to names labels count range es (behind names (text.label line name) s) named (coming_behind_label labels (carried s.passed named now)) f.1
     (stands_behind_label labels count line names name named s now f.0.2 st))
 flows_to names labels count range (text.action line a ∷ es) s named now f st =
     let r = resolved names a in
     let reached : s.now.is_reached ≡ true = st.reached ∙ ap is_some f.1.0 in
     none_both _ _
     (right_to s.now.is_reached s.passed line r s.now.kind reached (right_under s.passed r s.now.kind f.0 (st.typed f.0 f.1.0) f.1.1))
-    (flows_to names labels count range es (moved r s) (with_target (target_of r) named) (behind_action r f.0) f.2
+    (flows_to names labels count range es (moved r s) (with_target (target_of r) named) (coming_behind_action r f.0) f.2
     (stands_behind_action labels count r f.0 named s now f.1.0 f.1.2 (λ n e. target_in names count a n range e) st))
 flows_to names labels count range (text.block line operator negated items end ∷ es) s named now f st =
     let b = text.block line operator negated items end in
@@ -523,20 +523,20 @@ flows_to names labels count range (text.block line operator negated items end �
     (entry_to names 16 s.now.is_reached s.passed b s.now.kind reached (entry_under names 16 s.passed b s.now.kind f.0 (st.typed f.0 f.1.0) f.1.1))
     (flows_to names labels count range es (behind names b s) named (Some (option_map (gives operator) f.0)) f.2 (stands_behind_block labels count names line operator negated items end f.0 named s now f.1.0 st))
 
-stands_behind_all : (names : Names) (labels : Labelling) (count : ℕ) → InRange names count → (es : List text.Entry) (s : Standing) (named : List ℕ) (now : Coming) (t : Option ElementaryType) → Flows names labels es s.passed named now → Stands labels count named s now
-    → coming_behind names labels es s.passed named now ≡ Some t → Becomes (behind_all names es s).now.kind t
+stands_behind_all : (names : Names) (labels : Labelling) (count : ℕ) → InRange names count → (es : List text.Entry) (s : Standing) (named : List ℕ) (now : Coming) (t : Option ElementaryType) → Flows names labels es (carried s.passed named now) → Stands labels count named s now
+    → coming_behind names labels es (carried s.passed named now) ≡ Some t → Becomes (behind_all names es s).now.kind t
 stands_behind_all names labels count range [] s named now t f st is = st.typed t is
 stands_behind_all names labels count range (text.label line name ∷ es) s named now t f st is =
-    stands_behind_all names labels count range es (behind names (text.label line name) s) named (behind_label labels s.passed named now) t f.1 (stands_behind_label labels count line names name named s now f.0.2 st) is
+    stands_behind_all names labels count range es (behind names (text.label line name) s) named (coming_behind_label labels (carried s.passed named now)) t f.1 (stands_behind_label labels count line names name named s now f.0.2 st) is
 stands_behind_all names labels count range (text.action line a ∷ es) s named now t f st is =
     let r = resolved names a in
-    stands_behind_all names labels count range es (moved r s) (with_target (target_of r) named) (behind_action r f.0) t f.2
+    stands_behind_all names labels count range es (moved r s) (with_target (target_of r) named) (coming_behind_action r f.0) t f.2
     (stands_behind_action labels count r f.0 named s now f.1.0 f.1.2 (λ n e. target_in names count a n range e) st)
-    (subst (λ (c : Coming). coming_behind names labels es s.passed (with_target (target_of r) named) (with_result (behind_action r) c) ≡ Some t) f.1.0 is)
+    (subst (λ (c : Coming). coming_behind names labels es (carried s.passed (with_target (target_of r) named) (with_result (coming_behind_action r) c)) ≡ Some t) f.1.0 is)
 stands_behind_all names labels count range (text.block line operator negated items end ∷ es) s named now t f st is =
     stands_behind_all names labels count range es (behind names (text.block line operator negated items end) s) named (Some (option_map (gives operator) f.0)) t f.2
     (stands_behind_block labels count names line operator negated items end f.0 named s now f.1.0 st)
-    (subst (λ (c : Coming). coming_behind names labels es s.passed named (with_result (λ u. Some (option_map (gives operator) u)) c) ≡ Some t) f.1.0 is)
+    (subst (λ (c : Coming). coming_behind names labels es (carried s.passed named (with_result (λ u. Some (option_map (gives operator) u)) c)) ≡ Some t) f.1.0 is)
 
 -- ---- without a fault there is a labelling
 
@@ -627,7 +627,7 @@ least_behind_label names labels line name es s same n le =
     same n (less_one s.passed n le) ∙ ap (λ (b : Bool). cond b (met s.now come).kind (least names es after n)) (other_number n s.passed (not_before s.passed n le))
 
 pub exact_behind_label : (names : Names) (labels : Labelling) (count : ℕ) (line : ℕ) (name : List ℕ) (es : List text.Entry) (s : Standing) (named : List ℕ) (now : Coming)
-    → AreLeast labels names (text.label line name ∷ es) s → Exact count named s now → Exact count named (behind names (text.label line name) s) (behind_label labels s.passed named now)
+    → AreLeast labels names (text.label line name ∷ es) s → Exact count named s now → Exact count named (behind names (text.label line name) s) (coming_behind_label labels (carried s.passed named now))
 exact_behind_label names labels count line name es s named now same x =
     let come = arrival (slice_get s.arrivals s.passed) in
     let here = label_least names labels line name es s same in
@@ -639,7 +639,7 @@ exact_behind_label names labels count line name es s named now same x =
     }
 
 pub exact_behind_action : (names : Names) (count : ℕ) (range : InRange names count) (a : text.Action) (s : Standing) (named : List ℕ) (now : Coming) → s.now.is_reached ≡ true → Exact count named s now
-    → Exact count (with_target (target_of (resolved names a)) named) (moved (resolved names a) s) (behind_action (resolved names a) s.now.kind)
+    → Exact count (with_target (target_of (resolved names a)) named) (moved (resolved names a) s) (coming_behind_action (resolved names a) s.now.kind)
 exact_behind_action names count range a s named now reached x =
     let r = resolved names a in
     record {
@@ -655,7 +655,7 @@ exact_behind_block names count line operator negated items end s named now reach
 }
 
 pub flows_from : (names : Names) (labels : Labelling) (count : ℕ) → InRange names count → (es : List text.Entry) (s : Standing) (named : List ℕ) (now : Coming) → AreLeast labels names es s → items_faults names es s ≡ []
-    → Exact count named s now → Flows names labels es s.passed named now
+    → Exact count named s now → Flows names labels es (carried s.passed named now)
 flows_from names labels count range [] s named now same none x = tt
 flows_from names labels count range (text.label line name ∷ es) s named now same none x =
     let h = both_none _ _ none in
@@ -664,7 +664,7 @@ flows_from names labels count range (text.label line name ∷ es) s named now sa
     let fall = λ (r : s.now.is_reached ≡ true). subst (λ (u : Option ElementaryType). Becomes s.now.kind u) (sym here) (met_left s.now (arrival (slice_get s.arrivals s.passed)) r) in
     let falls : Falls labels s.passed now = subst (Falls labels s.passed) (sym x.is) (falls_out labels s.passed s.now s.now.is_reached refl fall) in (
       (not_false (is_first s.passed (names.label name)) (if_none _ _ own.0), few_back s.passed (if_none _ _ own.1), falls),
-      flows_from names labels count range es (behind names (text.label line name) s) named (behind_label labels s.passed named now) (least_behind_label names labels line name es s same) h.1
+      flows_from names labels count range es (behind names (text.label line name) s) named (coming_behind_label labels (carried s.passed named now)) (least_behind_label names labels line name es s same) h.1
           (exact_behind_label names labels count line name es s named now same x),
     )
 flows_from names labels count range (text.action line a ∷ es) s named now same none x =
@@ -674,7 +674,7 @@ flows_from names labels count range (text.action line a ∷ es) s named now same
     let range_here = λ (n : ℕ) (e : target_of r ≡ Some n). target_in names count a n range e in (
       s.now.kind,
       (exact_now count named s now x right.0, right.1, jumps_out labels names es count r s named (target_of r) refl right.0 right.1 range_here x.brought same),
-      flows_from names labels count range es (moved r s) (with_target (target_of r) named) (behind_action r s.now.kind) same h.1 (exact_behind_action names count range a s named now right.0 x),
+      flows_from names labels count range es (moved r s) (with_target (target_of r) named) (coming_behind_action r s.now.kind) same h.1 (exact_behind_action names count range a s named now right.0 x),
     )
 flows_from names labels count range (text.block line operator negated items end ∷ es) s named now same none x =
     let b = text.block line operator negated items end in
@@ -711,7 +711,7 @@ begins points program labels = record {
 }
 
 pub least_types : (points : List Point) (program : text.PlainProgram) (front more : List text.Entry) (labels : Labelling) (t : Option ElementaryType)
-    → program.items ≡ front ++ more → Flows (names_in points program) labels front 0 [] (Some None) → coming_behind (names_in points program) labels front 0 [] (Some None) ≡ Some t
+    → program.items ≡ front ++ more → Flows (names_in points program) labels front beginning → coming_behind (names_in points program) labels front beginning ≡ Some t
     → Becomes (behind_all (names_in points program) front (start program)).now.kind t
 least_types points program front more labels t parts f is =
     stands_behind_all (names_in points program) labels (length (labels_from 0 program.items)) (λ name n e. first_labels program.items (upper name) n e) front (start program) [] (Some None) t f (begins points program labels) is

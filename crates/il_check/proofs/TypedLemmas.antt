@@ -15,11 +15,11 @@ use Rattle.il_check.specs.Checking.{start, faults_of, checked_program, checked_o
 use Rattle.il_check.specs.Declaring.{labels_from, names_in, declarations_faults}
 use Rattle.il_check.specs.Faults.{least_fault}
 use Rattle.il_check.specs.Given.{Names, resolved}
-use Rattle.il_check.specs.Labelling.{Labelling, IsRight, IsJoined, IsRightEntry, AreRightEntries, Coming, Jumps, with_target, behind_label, behind_action}
+use Rattle.il_check.specs.Labelling.{Labelling, IsRight, IsJoined, IsRightEntry, AreRightEntries, Coming, Jumps, with_target, carried, coming_behind_label, coming_behind_action}
 use Rattle.il_check.specs.Program.{Entry, operation, block, Entries, no_entries, entry, Item, label, transfer, plain, Checked, entry_before}
 use Rattle.il_check.specs.Rules as rules
 use Rattle.il_check.specs.Rules.{gives, works, may_be, joins_wrong, joins_unset, type_after, goes_on}
-use Rattle.il_check.specs.TypedProgram.{IsEntry, AreEntries, entry_depth, entries_depth, has_label, behind_transfer, AreItems, IsTyped}
+use Rattle.il_check.specs.TypedProgram.{IsEntry, AreEntries, entry_depth, entries_depth, has_label, coming_behind_transfer, AreItems, IsTyped}
 use Rattle.il_check.specs.Typing.{operation_in, transfer_in, or_entry, block_in}
 use Rattle.il_check.specs.WellTyped.{Standing, type_behind, type_behind_all, items_faults, entry_left, entries_left, item_left, items_left, behind, moved}
 use Rattle.il_check.specs.declared.fault.CheckFault.{CheckFault}
@@ -161,43 +161,43 @@ labels_below names (text.block line operator negated items end ∷ es) s n le lt
 -- what is left of an instruction, before what is left below
 item_case : (c : Checked) (labels : Labelling) (passed : ℕ) (named : List ℕ) (now : Coming) (r : Resolved) (t : Option ElementaryType) (is : List Item) (x : Option Transfer) (o : Option Operation)
     → IsFound c r → IsRight passed r t → now ≡ Some t → Jumps labels (rules.target_of r) t → ((n : ℕ) → rules.target_of r ≡ Some n → has_label is n ≡ true)
-    → transfer_in r ≡ x → operation_in r t ≡ o → AreItems c labels is passed (with_target (rules.target_of r) named) (behind_action r t)
-    → AreItems c labels (cons_option (or_entry x (option_map operation o)) is) passed named now
+    → transfer_in r ≡ x → operation_in r t ≡ o → AreItems c labels is (carried passed (with_target (rules.target_of r) named) (coming_behind_action r t))
+    → AreItems c labels (cons_option (or_entry x (option_map operation o)) is) (carried passed named now)
 item_case c labels passed named now r t is (Some x) o known ok at jumps there goes leaves more =
     let m = transfer_typed c is passed r t x known ok there goes in (
       t,
       (at, m.right, subst (λ (n : Option ℕ). Jumps labels n t) (sym m.target) jumps),
-      subst (λ (n : Option ℕ). AreItems c labels is passed (with_target n named) (behind_transfer x t)) (sym m.target)
-          (subst (λ (w : Coming). AreItems c labels is passed (with_target (rules.target_of r) named) w) (sym m.goes) more),
+      subst (λ (n : Option ℕ). AreItems c labels is (carried passed (with_target n named) (coming_behind_transfer x t))) (sym m.target)
+          (subst (λ (w : Coming). AreItems c labels is (carried passed (with_target (rules.target_of r) named) w)) (sym m.goes) more),
     )
 item_case c labels passed named now r t is None (Some o) known ok at jumps there goes leaves more =
     let on = operation_goes_on r t o leaves in (
       t,
       type_after r t,
       (at, operation_typed c passed r t o known ok leaves, omega arith),
-      subst (λ (n : Option ℕ). AreItems c labels is passed (with_target n named) (Some (type_after r t))) on.0
-          (subst (λ (b : Bool). AreItems c labels is passed (with_target (rules.target_of r) named) (cond b (Some (type_after r t)) None)) on.1 more),
+      subst (λ (n : Option ℕ). AreItems c labels is (carried passed (with_target n named) (Some (type_after r t)))) on.0
+          (subst (λ (b : Bool). AreItems c labels is (carried passed (with_target (rules.target_of r) named) (cond b (Some (type_after r t)) None))) on.1 more),
     )
 item_case c labels passed named now r t is None None known ok at jumps there goes leaves more =
     let on = nothing_left c passed r t known ok goes leaves in
-    subst (λ (w : Coming). AreItems c labels is passed named w) (on.1 ∙ sym at)
-    (subst (λ (n : Option ℕ). AreItems c labels is passed (with_target n named) (behind_action r t)) on.0 more)
+    subst (λ (w : Coming). AreItems c labels is (carried passed named w)) (on.1 ∙ sym at)
+    (subst (λ (n : Option ℕ). AreItems c labels is (carried passed (with_target n named) (coming_behind_action r t))) on.0 more)
 
 block_case : (c : Checked) (labels : Labelling) (passed : ℕ) (named : List ℕ) (now : Coming) (t u : Option ElementaryType) (is : List Item) (o : Option Entry)
-    → now ≡ Some t → option_depth o ≤ 16 → IsBlock c o t u → AreItems c labels is passed named (Some u) → AreItems c labels (cons_option (option_map plain o) is) passed named now
+    → now ≡ Some t → option_depth o ≤ 16 → IsBlock c o t u → AreItems c labels is (carried passed named (Some u)) → AreItems c labels (cons_option (option_map plain o) is) (carried passed named now)
 block_case c labels passed named now t u is o at depth b more =
     let deep : entry_depth b.what ≤ 16 = subst (λ (x : Option Entry). option_depth x ≤ 16) b.is depth in
-    subst (λ (x : Option Entry). AreItems c labels (cons_option (option_map plain x) is) passed named now) (sym b.is) (t, u, (at, b.right, deep), more)
+    subst (λ (x : Option Entry). AreItems c labels (cons_option (option_map plain x) is) (carried passed named now)) (sym b.is) (t, u, (at, b.right, deep), more)
 
 module _ (c : Checked) (names : Names) (meant : AreNamed c names) (labels : Labelling) (count : ℕ) (range : InRange names count) where
   items_typed : (es : List text.Entry) (s : Standing) (named : List ℕ) (now : Coming) → AreLeast labels names es s → items_faults names es s ≡ [] → Exact count named s now
-      → s.passed + length (labels_from s.passed es) ≡ count → AreItems c labels (items_left names es s) s.passed named now
+      → s.passed + length (labels_from s.passed es) ≡ count → AreItems c labels (items_left names es s) (carried s.passed named now)
   items_typed [] s named now same none x size = tt
   items_typed (text.label line name ∷ es) s named now same none x size =
       let f = flows_from names labels count range (text.label line name ∷ es) s named now same none x in
       let later = (both_none _ _ none).1 in (
         (refl, f.0.1, f.0.2),
-        items_typed es (behind names (text.label line name) s) named (behind_label labels s.passed named now) (least_behind_label names labels line name es s same) later
+        items_typed es (behind names (text.label line name) s) named (coming_behind_label labels (carried s.passed named now)) (least_behind_label names labels line name es s same) later
             (exact_behind_label names labels count line name es s named now same x) (omega arith),
       )
   items_typed (text.action line a ∷ es) s named now same none x size =
@@ -209,7 +209,7 @@ module _ (c : Checked) (names : Names) (meant : AreNamed c names) (labels : Labe
       labels_below names es (moved r s) n (target_ahead s.passed r n e right.1.forward) (let k : n < count = within n e in omega arith) in
       let jumps = jumps_out labels names es count r s named (rules.target_of r) refl right.0 right.1 within x.brought same in
       item_case c labels s.passed named now r s.now.kind (items_left names es (moved r s)) (transfer_in r) (operation_in r s.now.kind) (found c names meant a) right.1 (exact_now count named s now x right.0) jumps below refl refl
-      (items_typed es (moved r s) (with_target (rules.target_of r) named) (behind_action r s.now.kind) same h.1 (exact_behind_action names count range a s named now right.0 x) size)
+      (items_typed es (moved r s) (with_target (rules.target_of r) named) (coming_behind_action r s.now.kind) same h.1 (exact_behind_action names count range a s named now right.0 x) size)
   items_typed (text.block line operator negated items end ∷ es) s named now same none x size =
       let b = text.block line operator negated items end in
       let h = both_none _ _ none in

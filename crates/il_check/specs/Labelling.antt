@@ -53,6 +53,19 @@ abbrev mutual
 abbrev pub Coming : Type 0
 Coming = Option (Option ElementaryType)
 
+-- what is known before an item: how many labels stand above, which labels were jumped to, and what comes from above
+pub record Carried : Type 0 where
+  pub passed : ℕ
+  pub named : List ℕ
+  pub now : Coming
+
+abbrev pub carried : ℕ → List ℕ → Coming → Carried
+carried passed named now = record { passed = passed; named = named; now = now }
+
+-- A program begins with a result that is not set.
+abbrev pub beginning : Carried
+beginning = carried 0 [] (Some None)
+
 -- A way that leads to a label brings its type, or the label is unset.
 abbrev pub Falls : Labelling → ℕ → Coming → Type 0
 Falls labels number None = Unit {0}
@@ -72,32 +85,49 @@ abbrev pub with_target : Option ℕ → List ℕ → List ℕ
 with_target None named = named
 with_target (Some number) named = number ∷ named
 
--- behind a label, to which a way leads from above, or by a jump
-abbrev pub behind_label : Labelling → ℕ → List ℕ → Coming → Coming
-behind_label labels number named now = if is_some now || is_named named number then Some (labels number) else None
+-- what comes behind a label, to which a way leads from above, or by a jump
+abbrev pub coming_behind_label : Labelling → Carried → Coming
+coming_behind_label labels c = if is_some c.now || is_named c.named c.passed then Some (labels c.passed) else None
 
-abbrev pub behind_action : Resolved → Option ElementaryType → Coming
-behind_action r t = if goes_on r then Some (type_after r t) else None
+abbrev pub behind_label : Labelling → Carried → Carried
+behind_label labels c = carried (c.passed + 1) c.named (coming_behind_label labels c)
+
+-- what comes behind an instruction on a result of this type
+abbrev pub coming_behind_action : Resolved → Option ElementaryType → Coming
+coming_behind_action r t = if goes_on r then Some (type_after r t) else None
+
+abbrev pub behind_action : Resolved → Option ElementaryType → Carried → Carried
+behind_action r t c = carried c.passed (with_target (target_of r) c.named) (coming_behind_action r t)
+
+-- behind a parenthesis whose operator works on a result of this type
+abbrev pub behind_block : Operator → Option ElementaryType → Carried → Carried
+behind_block operator t c = carried c.passed c.named (Some (option_map (gives operator) t))
+
+-- A label is the first of its name and one of 256 at most, and what falls into it brings its type.
+abbrev pub LabelFlows : Names → Labelling → List ℕ → Carried → Type 0
+LabelFlows names labels name c = (is_first c.passed (names.label name) ≡ true) × (c.passed < 256) × Falls labels c.passed c.now
+
+-- An instruction is reached by a result of this type, is right on it, and brings it where it jumps.
+abbrev pub ActionFlows : Labelling → Resolved → Option ElementaryType → Carried → Type 0
+ActionFlows labels r t c = (c.now ≡ Some t) × IsRight c.passed r t × Jumps labels (target_of r) t
+
+-- A parenthesis is reached by a result of this type, and is right on it.
+abbrev pub BlockFlows : Names → text.Entry → Option ElementaryType → Carried → Type 0
+BlockFlows names b t c = (c.now ≡ Some t) × IsRightEntry names 16 c.passed b t
 
 -- Each instruction is reached, and right on the result that comes to it; and each way to a label brings the label's type, or
 -- the label is unset.
-abbrev pub Flows : Names → Labelling → List text.Entry → ℕ → List ℕ → Coming → Type 0
-Flows names labels [] passed named now = Unit {0}
-Flows names labels (text.label line name ∷ es) passed named now =
-    ((is_first passed (names.label name) ≡ true) × (passed < 256) × Falls labels passed now)
-    × Flows names labels es (passed + 1) named (behind_label labels passed named now)
-Flows names labels (text.action line a ∷ es) passed named now =
-    (t : Option ElementaryType)
-    × ((now ≡ Some t) × IsRight passed (resolved names a) t × Jumps labels (target_of (resolved names a)) t)
-    × Flows names labels es passed (with_target (target_of (resolved names a)) named) (behind_action (resolved names a) t)
-Flows names labels (text.block line operator negated items end ∷ es) passed named now =
-    (t : Option ElementaryType)
-    × ((now ≡ Some t) × IsRightEntry names 16 passed (text.block line operator negated items end) t)
-    × Flows names labels es passed named (Some (option_map (gives operator) t))
+abbrev pub Flows : Names → Labelling → List text.Entry → Carried → Type 0
+Flows names labels [] c = Unit {0}
+Flows names labels (text.label line name ∷ es) c = LabelFlows names labels name c × Flows names labels es (behind_label labels c)
+Flows names labels (text.action line a ∷ es) c =
+    (t : Option ElementaryType) × ActionFlows labels (resolved names a) t c × Flows names labels es (behind_action (resolved names a) t c)
+Flows names labels (text.block line operator negated items end ∷ es) c =
+    (t : Option ElementaryType) × BlockFlows names (text.block line operator negated items end) t c × Flows names labels es (behind_block operator t c)
 
--- With some labelling every instruction is right. A program begins with a result that is not set.
+-- With some labelling every instruction is right.
 abbrev pub IsWellTyped : Names → List text.Entry → Type 0
-IsWellTyped names items = (labels : Labelling) × Flows names labels items 0 [] (Some None)
+IsWellTyped names items = (labels : Labelling) × Flows names labels items beginning
 
 -- ---- what comes behind items
 
@@ -105,14 +135,14 @@ abbrev pub with_result : (Option ElementaryType → Coming) → Coming → Comin
 with_result f None = None
 with_result f (Some t) = f t
 
-abbrev pub coming_behind : Names → Labelling → List text.Entry → ℕ → List ℕ → Coming → Coming
-coming_behind names labels [] passed named now = now
-coming_behind names labels (text.label line name ∷ es) passed named now =
-    coming_behind names labels es (passed + 1) named (behind_label labels passed named now)
-coming_behind names labels (text.action line a ∷ es) passed named now =
-    coming_behind names labels es passed (with_target (target_of (resolved names a)) named) (with_result (behind_action (resolved names a)) now)
-coming_behind names labels (text.block line operator negated items end ∷ es) passed named now =
-    coming_behind names labels es passed named (with_result (λ t. Some (option_map (gives operator) t)) now)
+abbrev pub coming_behind : Names → Labelling → List text.Entry → Carried → Coming
+coming_behind names labels [] c = c.now
+coming_behind names labels (text.label line name ∷ es) c = coming_behind names labels es (behind_label labels c)
+coming_behind names labels (text.action line a ∷ es) c =
+    coming_behind names labels es
+    (carried c.passed (with_target (target_of (resolved names a)) c.named) (with_result (coming_behind_action (resolved names a)) c.now))
+coming_behind names labels (text.block line operator negated items end ∷ es) c =
+    coming_behind names labels es (carried c.passed c.named (with_result (λ t. Some (option_map (gives operator) t)) c.now))
 
 -- what the checks know behind items
 abbrev pub behind_all : Names → List text.Entry → Standing → Standing

@@ -1,4 +1,4 @@
--- The labels of a program in the code.
+-- Inner: the labels of a program in the code.
 use Rattle.std.specs.Prelude.{◌≡◌, ℕ, List, [], ◌∷◌, ◌++◌, map, Option}
 use Rattle.std.specs.BTreeMap.{get_by_text}
 use Rattle.bay_base.specs.Names.{upper}

@@ -1,3 +1,8 @@
+-- What public clauses cite of the crates below.
+pub use Rattle.bay_base.specs.Exact
+pub use Rattle.il_text.specs.Listing
+pub use Rattle.il_text.specs.Views
+-- Its own definitions.
 pub mod Checking
 pub mod Code
 pub mod Contents
@@ -5,17 +10,18 @@ pub mod Declaring
 pub mod Faults
 pub mod Given
 pub mod Labelling
-pub mod LabelsView
-pub mod NamesView
-pub mod PartsView
 pub mod OwnPlaces
 pub mod Program
 pub mod ProgramViews
 pub mod RightProgram
 pub mod Rules
 pub mod Sound
-pub mod Standing
 pub mod TypedProgram
 pub mod Typing
-pub mod WalkView
 pub mod WellTyped
+-- Inner ones, which private functions, invariants and proofs cite, and no public clause.
+pub mod LabelsView
+pub mod NamesView
+pub mod PartsView
+pub mod Standing
+pub mod WalkView

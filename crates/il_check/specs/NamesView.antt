@@ -1,4 +1,4 @@
--- The names of a program in the code.
+-- Inner: the names of a program in the code.
 use Rattle.std.specs.Prelude.{ℕ, ◌&&◌, is_none, List, Option, Some, if◌then◌else◌}
 use Rattle.std.specs.BTreeMap.{get_by_text}
 use Rattle.std.specs.Str.{bytes_eq}

@@ -1,4 +1,4 @@
--- What the parts of a checked program hold.
+-- Inner: what the parts of a checked program hold.
 use Rattle.il_check.specs.Contents.{Contents}
 use Rattle.il_check.specs.declared.program.Parts.{Parts}
 

@@ -1,4 +1,4 @@
--- What is known of the names declared so far, in the code.
+-- Inner: what is known of the names declared so far, in the code.
 use Rattle.std.specs.Prelude.{◌≡◌, ℕ, List, ◌++◌, Option, None, Some, is_some, vec_len}
 use Rattle.std.specs.Option.{option_to_list}
 use Rattle.std.specs.BTreeMap.{get_by_text}

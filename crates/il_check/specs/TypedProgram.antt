@@ -9,7 +9,7 @@ use Rattle.il_text.specs.declared.program.Condition.TheVariants.{Always, IfTrue,
 use Rattle.il_image.specs.Images.{Each, IsName, IsValue}
 use Rattle.il_image.specs.Values.{number_of, type_of}
 use Rattle.il_check.specs.Given.{output_type}
-use Rattle.il_check.specs.Labelling.{Labelling, Coming, Falls, Jumps, with_target, behind_label}
+use Rattle.il_check.specs.Labelling.{Labelling, Coming, Carried, carried, beginning, Falls, Jumps, with_target, behind_label}
 use Rattle.il_check.specs.Program.{Entry, operation, block, Entries, no_entries, entry, Item, label, transfer, plain, Checked}
 use Rattle.il_check.specs.Rules.{may_negate, is_plain, works, gives, divides, input_type, converted_from, converted_to}
 use Rattle.il_check.specs.declared.typed.External.{External}
@@ -118,33 +118,46 @@ target_of (go.Jump condition number) = Some number
 target_of (go.Return condition) = None
 target_of (go.Call timer args) = None
 
-abbrev pub behind_condition : Condition → Option ElementaryType → Coming
-behind_condition Always t = None
-behind_condition IfTrue t = Some t
-behind_condition IfFalse t = Some t
+-- what comes behind a jump or a return on a result of this type
+abbrev pub coming_behind_condition : Condition → Option ElementaryType → Coming
+coming_behind_condition Always t = None
+coming_behind_condition IfTrue t = Some t
+coming_behind_condition IfFalse t = Some t
 
-abbrev pub behind_transfer : Transfer → Option ElementaryType → Coming
-behind_transfer (go.Jump condition number) t = behind_condition condition t
-behind_transfer (go.Return condition) t = behind_condition condition t
-behind_transfer (go.Call timer args) t = Some None
+abbrev pub coming_behind_transfer : Transfer → Option ElementaryType → Coming
+coming_behind_transfer (go.Jump condition number) t = coming_behind_condition condition t
+coming_behind_transfer (go.Return condition) t = coming_behind_condition condition t
+coming_behind_transfer (go.Call timer args) t = Some None
 
 -- ---- the items
 
--- Behind so many labels, with jumps to these ones, and with this coming from above, each item is reached and right; labels
--- stand in the order of their numbers.
-abbrev pub AreItems : Checked → Labelling → List Item → ℕ → List ℕ → Coming → Type 0
-AreItems c labels [] passed named now = Unit {0}
-AreItems c labels (label n ∷ is) passed named now =
-    ((n ≡ passed) × (passed < 256) × Falls labels passed now)
-    × AreItems c labels is (passed + 1) named (behind_label labels passed named now)
-AreItems c labels (transfer x ∷ is) passed named now =
-    (t : Option ElementaryType)
-    × ((now ≡ Some t) × IsTransfer c is x t × Jumps labels (target_of x) t)
-    × AreItems c labels is passed (with_target (target_of x) named) (behind_transfer x t)
-AreItems c labels (plain e ∷ is) passed named now =
-    (t : Option ElementaryType) × (u : Option ElementaryType)
-    × ((now ≡ Some t) × IsEntry c e t u × (entry_depth e ≤ 16))
-    × AreItems c labels is passed named (Some u)
+abbrev pub behind_transfer : Transfer → Option ElementaryType → Carried → Carried
+behind_transfer x t k = carried k.passed (with_target (target_of x) k.named) (coming_behind_transfer x t)
+
+-- behind an operation or a parenthesis that leaves a result of this type
+abbrev pub behind_entry : Option ElementaryType → Carried → Carried
+behind_entry u k = carried k.passed k.named (Some u)
+
+-- A label stands in the order of the numbers and is one of 256 at most, and what falls into it brings its type.
+abbrev pub IsLabel : Labelling → ℕ → Carried → Type 0
+IsLabel labels n k = (n ≡ k.passed) × (k.passed < 256) × Falls labels k.passed k.now
+
+-- A jump, return or call is reached by a result of this type, is right on it, and brings it where it jumps.
+abbrev pub TransferFlows : Checked → Labelling → List Item → Transfer → Option ElementaryType → Carried → Type 0
+TransferFlows c labels below x t k = (k.now ≡ Some t) × IsTransfer c below x t × Jumps labels (target_of x) t
+
+-- An operation or a parenthesis is reached by a result of the first type, and leaves one of the second.
+abbrev pub EntryFlows : Checked → Entry → Option ElementaryType → Option ElementaryType → Carried → Type 0
+EntryFlows c e t u k = (k.now ≡ Some t) × IsEntry c e t u × (entry_depth e ≤ 16)
+
+-- Each item is reached and right on what is known before it.
+abbrev pub AreItems : Checked → Labelling → List Item → Carried → Type 0
+AreItems c labels [] k = Unit {0}
+AreItems c labels (label n ∷ is) k = IsLabel labels n k × AreItems c labels is (behind_label labels k)
+AreItems c labels (transfer x ∷ is) k =
+    (t : Option ElementaryType) × TransferFlows c labels is x t k × AreItems c labels is (behind_transfer x t k)
+AreItems c labels (plain e ∷ is) k =
+    (t : Option ElementaryType) × (u : Option ElementaryType) × EntryFlows c e t u k × AreItems c labels is (behind_entry u k)
 
 abbrev pub HasName : External → Type 0
 HasName e = IsName e.name
@@ -152,12 +165,11 @@ HasName e = IsName e.name
 abbrev pub BeginsRight : Variable → Type 0
 BeginsRight v = IsValue v.initial
 
--- There are 512 slots and 64 timers at most, and with some labelling each item is reached and right. A program begins with
--- a result that is not set.
+-- There are 512 slots and 64 timers at most, and with some labelling each item is reached and right.
 pub record IsTyped (c : Checked) : Type 0 where
   pub slots : length c.externals + length c.variables ≤ 512
   pub timers : length c.timers ≤ 64
   pub names : Each HasName c.externals
   pub initial : Each BeginsRight c.variables
   pub labels : Labelling
-  pub items : AreItems c labels c.items 0 [] (Some None)
+  pub items : AreItems c labels c.items beginning

@@ -1,4 +1,4 @@
--- What is known before an item, in the code.
+-- Inner: what is known before an item, in the code.
 use Rattle.il_check.specs.WellTyped.{Standing}
 use Rattle.il_check.specs.declared.walk.Walk.{Walk}
 

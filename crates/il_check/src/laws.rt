@@ -1,12 +1,12 @@
 // Laws of the definitions. Each function does nothing, and its contract is the law.
-ghost use Rattle.std.specs.Prelude.{◌≡◌, ◌↔◌, ◌++◌, [], List, None, Ok, Option, Some};
+ghost use Rattle.std.specs.Prelude.{◌≡◌, ◌↔◌, ◌++◌, [], List, Ok, Option, Some};
 ghost use Rattle.bay_base.specs.declared.types.ElementaryType.{ElementaryType};
 ghost use Rattle.bay_config.specs.declared.bay.Point.{Point};
 ghost use Rattle.il_text.specs.Listing as text;
 ghost use Rattle.il_check.specs.Checking.{checked_of, start};
 ghost use Rattle.il_check.specs.Declaring.{names_in};
 ghost use Rattle.il_check.specs.Faults.{IsLeast, least_fault};
-ghost use Rattle.il_check.specs.Labelling.{Becomes, Flows, IsWellTyped, Labelling, behind_all, coming_behind};
+ghost use Rattle.il_check.specs.Labelling.{Becomes, Flows, IsWellTyped, Labelling, beginning, behind_all, coming_behind};
 ghost use Rattle.il_check.specs.OwnPlaces.{MeanOwnPlaces};
 ghost use Rattle.il_check.specs.Program.{Checked};
 ghost use Rattle.il_check.specs.RightProgram.{IsRightProgram};
@@ -25,7 +25,7 @@ pub fn some_labelling()
 /// result behind them is the one that the checks have there, or it is unset.
 pub fn least_types()
     ensures { (points : List Point) (program : text.PlainProgram) (front more : List text.Entry) (labels : Labelling) (t : Option ElementaryType) →
-        program.items ≡ front ++ more → Flows (names_in points program) labels front 0 [] (Some None) → coming_behind (names_in points program) labels front 0 [] (Some None) ≡ Some t →
+        program.items ≡ front ++ more → Flows (names_in points program) labels front beginning → coming_behind (names_in points program) labels front beginning ≡ Some t →
         Becomes (behind_all (names_in points program) front (start program)).now.kind t }
 {}
 

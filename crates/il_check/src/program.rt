@@ -34,7 +34,7 @@ impl Model for Typed {
 
 /// What a checked program is made of.
 #[derive(Drop)]
-pub struct Parts {
+pub(crate) struct Parts {
     pub externals: Vec<External>,
     pub variables: Vec<Variable>,
     pub timers: Vec<Timer>,
@@ -91,24 +91,5 @@ impl Typed {
         ensures sound { IsSound (checked_view self.now) }
     {
         self.items.as_slice()
-    }
-
-    /// The parts of the program, which is given up. It takes no memory.
-    pub fn into_parts(self) -> Parts
-        ensures same { parts_view result ≡ self }
-        ensures sound { IsSound (checked_view self) }
-    {
-        let Typed {
-            externals,
-            variables,
-            timers,
-            items,
-        } = self;
-        Parts {
-            externals,
-            variables,
-            timers,
-            items,
-        }
     }
 }

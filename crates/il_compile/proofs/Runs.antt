@@ -14,9 +14,9 @@ use Rattle.il_image.specs.declared.instr.Instr.TheVariants.{Halt, Jump}
 use Rattle.il_image.specs.declared.timer.Timer.{Timer as TimerState}
 use Rattle.il_image.specs.declared.value.Value.{Value}
 use Rattle.il_image.specs.declared.value.Value.TheVariants.{Truth}
-use Rattle.il_check.specs.Labelling.{Labelling, Coming, Becomes, Falls, is_named, with_target, behind_label}
+use Rattle.il_check.specs.Labelling.{Labelling, Coming, Becomes, Falls, carried, is_named, with_target, coming_behind_label}
 use Rattle.il_check.specs.Program.{Checked, Item, label, transfer, plain}
-use Rattle.il_check.specs.TypedProgram.{AreItems, Decides, IsTyped, behind_condition, has_label, target_of}
+use Rattle.il_check.specs.TypedProgram.{AreItems, Decides, IsTyped, coming_behind_condition, has_label, target_of}
 use Rattle.il_check.specs.declared.typed.Transfer.{Transfer}
 use Rattle.il_check.specs.declared.typed.Transfer.TheVariants as go
 use Rattle.il_compile.specs.Code.{unset, entry_code, transfer_code, octets, octets_before, distance, items_code, program_code}
@@ -139,7 +139,7 @@ record Jumps (c : Condition) (now : ℕ) (t : Option ElementaryType) (result : O
   is : goes c result ≡ Some leaves
   does : (d p next : ℕ) (slots : List Value) (timers : List TimerState)
       → act now (Jump (when_of c) d) next (at p (core (cell ∷ []) slots timers)) ≡ Goes (at (if leaves then next + d else next) (core (cell ∷ []) slots timers))
-  behind : leaves ≡ false → behind_condition c t ≡ Some t
+  behind : leaves ≡ false → coming_behind_condition c t ≡ Some t
 
 on_truth : (c : Condition) (now : ℕ) (t : Option ElementaryType) (result : Option Value) (cell : Value) → ((b : Bool) → Jumps c now t (Some (Truth b)) (Truth b)) → t ≡ Some elementary.Bool → Agrees t result cell → Jumps c now t result cell
 on_truth c now t result cell f e ag =
@@ -295,7 +295,7 @@ module _ (c : Checked) (labels : Labelling) (now : ℕ) where
 
   -- ---- all items
 
-  items_finish : (is : List Item) (sought : Option ℕ) (passed : ℕ) (named : List ℕ) (coming : Coming) (s : State) (cell : Value) → AreItems c labels is passed named coming
+  items_finish : (is : List Item) (sought : Option ℕ) (passed : ℕ) (named : List ℕ) (coming : Coming) (s : State) (cell : Value) → AreItems c labels is (carried passed named coming)
       → Comes labels sought is named coming s.result cell → HasTypes c s.memory → Finishes sought is s cell
   items_finish [] None passed named coming s cell ok comes ty = record {
     state = s;
@@ -305,19 +305,19 @@ module _ (c : Checked) (labels : Labelling) (now : ℕ) where
   }
   items_finish [] (Some l) passed named coming s cell ok comes ty = absurd (let e : false ≡ true = comes.0 in cc)
   items_finish (label n ∷ is) None passed named coming s cell ok comes ty =
-      let now_is : behind_label labels passed named coming ≡ Some (labels passed) = rw comes.1 refl in
+      let now_is : coming_behind_label labels (carried passed named coming) ≡ Some (labels passed) = rw comes.1 refl in
       let falls : Becomes comes.0 (labels passed) = subst (λ w. Falls labels passed w) comes.1 ok.0.2 in
-      next_label n is s cell (items_finish is None (passed + 1) named (behind_label labels passed named coming) s cell ok.1 (labels passed, now_is, agrees_less comes.0 (labels passed) s.result cell falls comes.2) ty)
+      next_label n is s cell (items_finish is None (passed + 1) named (coming_behind_label labels (carried passed named coming)) s cell ok.1 (labels passed, now_is, agrees_less comes.0 (labels passed) s.result cell falls comes.2) ty)
   items_finish (label n ∷ is) (Some l) passed named coming s cell ok comes ty =
       elim (n == l) as (λ b. (n == l) ≡ b → Finishes (Some l) (label n ∷ is) s cell) [
         | true ↦ (λ e.
             (let same : passed ≡ l = sym ok.0.0 ∙ eqb-true n l e in
             let named_it : is_named named passed ≡ true = subst (λ k. is_named named k ≡ true) (sym same) comes.1 in
-            let now_is : behind_label labels passed named coming ≡ Some (labels passed) = either_way (is_some coming) (is_named named passed) (labels passed) named_it in
-            found_label n l is s cell e (items_finish is None (passed + 1) named (behind_label labels passed named coming) s cell ok.1 (labels passed, now_is, subst (λ k. Agrees (labels k) s.result cell) (sym same) comes.2) ty)))
+            let now_is : coming_behind_label labels (carried passed named coming) ≡ Some (labels passed) = either_way (is_some coming) (is_named named passed) (labels passed) named_it in
+            found_label n l is s cell e (items_finish is None (passed + 1) named (coming_behind_label labels (carried passed named coming)) s cell ok.1 (labels passed, now_is, subst (λ k. Agrees (labels k) s.result cell) (sym same) comes.2) ty)))
         | false ↦ (λ e.
             (let there : has_label is l ≡ true = subst (λ b. b || has_label is l ≡ true) e comes.0 in
-            other_label n l is s cell e (items_finish is (Some l) (passed + 1) named (behind_label labels passed named coming) s cell ok.1 (there, comes.1, comes.2) ty)))
+            other_label n l is s cell e (items_finish is (Some l) (passed + 1) named (coming_behind_label labels (carried passed named coming)) s cell ok.1 (there, comes.1, comes.2) ty)))
       ] refl
     where
       either_way : (a b : Bool) (t : Option ElementaryType) → b ≡ true → (if a || b then Some t else None) ≡ Some t
@@ -347,13 +347,13 @@ module _ (c : Checked) (labels : Labelling) (now : ℕ) where
       let named_it : is_named (l ∷ named) l ≡ true = itself l (is_named named l) in
       elim j.leaves as (λ b. j.leaves ≡ b → Finishes None (transfer (go.Jump condition l) ∷ is) s cell) [
         | true ↦ (λ e.
-            (let f = items_finish is (Some l) passed (l ∷ named) (behind_condition condition t) s cell ok.2 (ok.1.1.1, named_it, agrees_less t (labels l) s.result cell ok.1.2 ag) ty in
+            (let f = items_finish is (Some l) passed (l ∷ named) (coming_behind_condition condition t) s cell ok.2 (ok.1.1.1, named_it, agrees_less t (labels l) s.result cell ok.1.2 ag) ty in
             took condition (go.Jump condition l) (octets_before externals l is) is s f.state cell t j e refl
             (ap (λ o. o >>= (λ (b : Bool). if b then mean_from now (Some l) is s else mean_from now None is s)) j.is ∙ ap (λ b. if b then mean_from now (Some l) is s else mean_from now None is s) e ∙ f.means) f.typed f.ends))
         | false ↦ (λ e.
             (fell condition (go.Jump condition l) (octets_before externals l is) is s cell t j e refl refl
             (ap (λ o. o >>= (λ (b : Bool). if b then mean_from now (Some l) is s else mean_from now None is s)) j.is ∙ ap (λ b. if b then mean_from now (Some l) is s else mean_from now None is s) e)
-            (items_finish is None passed (l ∷ named) (behind_condition condition t) s cell ok.2 (t, j.behind e, ag) ty)))
+            (items_finish is None passed (l ∷ named) (coming_behind_condition condition t) s cell ok.2 (t, j.behind e, ag) ty)))
       ] refl
     where
       itself : (l : ℕ) (b : Bool) → (l == l) || b ≡ true
@@ -372,7 +372,7 @@ module _ (c : Checked) (labels : Labelling) (now : ℕ) where
         | false ↦ (λ e.
             (fell condition (go.Return condition) d is s cell t j e refl refl
             (ap (λ o. o >>= (λ (b : Bool). if b then Some s else mean_from now None is s)) j.is ∙ ap (λ b. if b then Some s else mean_from now None is s) e)
-            (items_finish is None passed named (behind_condition condition t) s cell ok.2 (t, j.behind e, ag) ty)))
+            (items_finish is None passed named (coming_behind_condition condition t) s cell ok.2 (t, j.behind e, ag) ty)))
       ] refl
 
 -- ---- the whole program

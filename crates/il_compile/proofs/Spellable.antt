@@ -13,7 +13,7 @@ use Rattle.il_image.specs.Spelling.{IsInstr}
 use Rattle.il_image.specs.Values.{type_of}
 use Rattle.il_image.specs.declared.instr.Instr.TheVariants.{Halt, Timer, Jump}
 use Rattle.il_image.specs.declared.opcode.TimerUse.TheVariants.{Run}
-use Rattle.il_check.specs.Labelling.{Labelling, Coming}
+use Rattle.il_check.specs.Labelling.{Labelling, Carried, beginning}
 use Rattle.il_check.specs.Program.{Checked, Entry, operation, block, Entries, no_entries, entry, Item, label, transfer, plain}
 use Rattle.il_check.specs.TypedProgram.{slot_type, IsOperand, IsOperation, IsEntry, AreEntries, IsArgument, AreArguments, AreItems, IsTyped}
 use Rattle.il_check.specs.declared.typed.Operation.{Operation}
@@ -101,17 +101,17 @@ module _ (c : Checked) (few : length c.externals + length c.variables ≤ 512) (
   arguments_are n (arguments.One a) lt h = argument_is n a lt h
   arguments_are n (arguments.Two a b) lt h = each_both IsInstr (argument_code (length c.externals) n a) (argument_code (length c.externals) n b) (argument_is n a lt h.0) (argument_is n b lt h.1)
 
-  items_spellable : (labels : Labelling) (is : List Item) (passed : ℕ) (named : List ℕ) (coming : Coming) → AreItems c labels is passed named coming → AreSpellable (length c.externals) is
-  items_spellable labels [] passed named coming h = tt
-  items_spellable labels (label n ∷ is) passed named coming h = (tt, items_spellable labels is _ _ _ h.1)
-  items_spellable labels (transfer (go.Jump condition l) ∷ is) passed named coming h = (((omega arith), tt), items_spellable labels is _ _ _ h.2)
-  items_spellable labels (transfer (go.Return condition) ∷ is) passed named coming h = (((omega arith), tt), items_spellable labels is _ _ _ h.2)
-  items_spellable labels (transfer (go.Call n args) ∷ is) passed named coming h =
-      (each_both IsInstr (arguments_code (length c.externals) n args) (Timer Run n ∷ []) (arguments_are n args h.1.1.0 h.1.1.1) (timer_is n h.1.1.0, tt), items_spellable labels is _ _ _ h.2)
-  items_spellable labels (plain e ∷ is) passed named coming h = (entry_spellable e h.0 h.1 h.2.1, items_spellable labels is _ _ _ h.3)
+  items_spellable : (labels : Labelling) (is : List Item) (k : Carried) → AreItems c labels is k → AreSpellable (length c.externals) is
+  items_spellable labels [] k h = tt
+  items_spellable labels (label n ∷ is) k h = (tt, items_spellable labels is _ h.1)
+  items_spellable labels (transfer (go.Jump condition l) ∷ is) k h = (((omega arith), tt), items_spellable labels is _ h.2)
+  items_spellable labels (transfer (go.Return condition) ∷ is) k h = (((omega arith), tt), items_spellable labels is _ h.2)
+  items_spellable labels (transfer (go.Call n args) ∷ is) k h =
+      (each_both IsInstr (arguments_code (length c.externals) n args) (Timer Run n ∷ []) (arguments_are n args h.1.1.0 h.1.1.1) (timer_is n h.1.1.0, tt), items_spellable labels is _ h.2)
+  items_spellable labels (plain e ∷ is) k h = (entry_spellable e h.0 h.1 h.2.1, items_spellable labels is _ h.3)
 
 pub all_spellable : (c : Checked) → IsTyped c → AreSpellable (length c.externals) c.items
-all_spellable c ok = items_spellable c ok.slots ok.timers ok.labels c.items 0 [] (Some None) ok.items
+all_spellable c ok = items_spellable c ok.slots ok.timers ok.labels c.items beginning ok.items
 
 -- ---- from what is spellable to instructions
 

@@ -15,9 +15,9 @@ use Rattle.il_image.specs.declared.kind.Kind.{Kind}
 use Rattle.il_image.specs.declared.kind.Kind.TheVariants.{Any}
 use Rattle.il_image.specs.declared.opcode.TimerUse.TheVariants.{Run}
 use Rattle.il_image.proofs.KindLemmas.{within_along, within_any, within_self}
-use Rattle.il_check.specs.Labelling.{Becomes, Coming, Falls, Labelling, behind_label, is_named}
+use Rattle.il_check.specs.Labelling.{Becomes, Coming, Falls, Labelling, carried, coming_behind_label, is_named}
 use Rattle.il_check.specs.Program.{Checked, Item, label, plain, transfer}
-use Rattle.il_check.specs.TypedProgram.{AreItems, Decides, behind_condition}
+use Rattle.il_check.specs.TypedProgram.{AreItems, Decides, coming_behind_condition}
 use Rattle.il_check.specs.declared.typed.Transfer.{Transfer}
 use Rattle.il_check.specs.declared.typed.Transfer.TheVariants as go
 use Rattle.il_compile.specs.Code.{arguments_code, entry_code, items_code, octets, octets_before, transfer_code}
@@ -91,7 +91,7 @@ module _ (c : Checked) where
   -- ---- jumps
 
   jump_right : (condition : Condition) (n : ℕ) (t : Option ElementaryType) (rows : List Row) → Decides condition t → Enters (table_of rows) n (kind_at t ∷ [])
-      → (behind_condition condition t ≡ Some t → Enters (table_of rows) 0 (kind_at t ∷ []))
+      → (coming_behind_condition condition t ≡ Some t → Enters (table_of rows) 0 (kind_at t ∷ []))
       → IsRight (image_of c) (record { instr = Jump (when_of condition) n; kinds = kind_at t ∷ [] }) rows
   jump_right Always n t rows ok far near = record {
     after = kind_at t ∷ [];
@@ -169,7 +169,7 @@ module _ (c : Checked) (labels : Labelling) where
       → items_code (length c.externals) (transfer x ∷ is) ≡ Jump (when_of condition) n ∷ items_code (length c.externals) is
       → octets (transfer_code (length c.externals) x 0) ≡ length (spelling (Jump (when_of condition) n))
       → Decides condition t → ((l : ℕ) → is_named named l ≡ true → is_named more l ≡ true)
-      → (next : Tail is more (behind_condition condition t)) → Enters (table_of next.rows) n (kind_at t ∷ []) → Tail (transfer x ∷ is) named now
+      → (next : Tail is more (coming_behind_condition condition t)) → Enters (table_of next.rows) n (kind_at t ∷ []) → Tail (transfer x ∷ is) named now
   jump_tail x condition n is named more now t comes same size ok still next far =
       let j = Jump (when_of condition) n in
       let row : Row = record { instr = j; kinds = kind_at t ∷ [] } in
@@ -186,17 +186,17 @@ module _ (c : Checked) (labels : Labelling) where
       }
 
   -- behind a label to which a way leads
-  label_comes : (passed : ℕ) (named : List ℕ) (now : Coming) (t : Option ElementaryType) → now ≡ Some t → behind_label labels passed named now ≡ Some (labels passed)
+  label_comes : (passed : ℕ) (named : List ℕ) (now : Coming) (t : Option ElementaryType) → now ≡ Some t → coming_behind_label labels (carried passed named now) ≡ Some (labels passed)
   label_comes passed named now t e = rw e refl
 
-  label_named : (passed : ℕ) (named : List ℕ) (now : Coming) → is_named named passed ≡ true → behind_label labels passed named now ≡ Some (labels passed)
+  label_named : (passed : ℕ) (named : List ℕ) (now : Coming) → is_named named passed ≡ true → coming_behind_label labels (carried passed named now) ≡ Some (labels passed)
   label_named passed named now h = either_way (is_some now) (is_named named passed) h
     where
       either_way : (a b : Bool) → b ≡ true → (if a || b then Some (labels passed) else None) ≡ Some (labels passed)
       either_way true b e = refl
       either_way false b e = rw e refl
 
-  label_tail : (n passed : ℕ) (is : List Item) (named : List ℕ) (now : Coming) → n ≡ passed → Falls labels passed now → Tail is named (behind_label labels passed named now) → Tail (label n ∷ is) named now
+  label_tail : (n passed : ℕ) (is : List Item) (named : List ℕ) (now : Coming) → n ≡ passed → Falls labels passed now → Tail is named (coming_behind_label labels (carried passed named now)) → Tail (label n ∷ is) named now
   label_tail n passed is named now same falls next = record {
     rows = next.rows;
     same = next.same;
@@ -216,9 +216,9 @@ module _ (c : Checked) (labels : Labelling) where
     keeps = next.keeps;
   }
 
-  pub tail : (is : List Item) (passed : ℕ) (named : List ℕ) (now : Coming) → AreItems c labels is passed named now → Tail is named now
+  pub tail : (is : List Item) (passed : ℕ) (named : List ℕ) (now : Coming) → AreItems c labels is (carried passed named now) → Tail is named now
   tail [] passed named now ok = end_tail named now
-  tail (label n ∷ is) passed named now ok = label_tail n passed is named now ok.0.0 ok.0.2 (tail is (passed + 1) named (behind_label labels passed named now) ok.1)
+  tail (label n ∷ is) passed named now ok = label_tail n passed is named now ok.0.0 ok.0.2 (tail is (passed + 1) named (coming_behind_label labels (carried passed named now)) ok.1)
   tail (plain e ∷ is) passed named now ok =
       let f = entry_flows c e ok.0 ok.1 (kind_at ok.0) [] ok.2.1 (within_self (kind_at ok.0)) (let d = ok.2.2 in omega arith) in
       straight_tail (plain e) is (entry_code (length c.externals) e) named now ok.0 ok.1 f.top ok.2.0 refl (λ l. refl) f.flow f.fits (tail is passed named (Some ok.1) ok.3)
@@ -226,9 +226,9 @@ module _ (c : Checked) (labels : Labelling) where
       straight_tail (transfer (go.Call n args)) is (arguments_code (length c.externals) n args ++ Timer Run n ∷ []) named now ok.0 None (kind_at ok.0) ok.1.0 refl (λ l. refl)
       (call_flows c n args (kind_at ok.0 ∷ []) ok.1.1.0 ok.1.1.1 (omega arith)) (within_any (kind_at ok.0)) (tail is passed named (Some None) ok.2)
   tail (transfer (go.Jump condition l) ∷ is) passed named now ok =
-      let next = tail is passed (l ∷ named) (behind_condition condition ok.0) ok.2 in
+      let next = tail is passed (l ∷ named) (coming_behind_condition condition ok.0) ok.2 in
       jump_tail (go.Jump condition l) condition (octets_before (length c.externals) l is) is named (l ∷ named) now ok.0 ok.1.0 refl refl ok.1.1.0 (λ k h. still_named l named k h) next
       (enters_less (table_of next.rows) (octets_before (length c.externals) l is) (kind_at ok.0) (kind_at (labels l)) (become_within ok.0 (labels l) ok.1.2) (next.labelled l (ap (λ b. b || is_named named l) (eq-eqb l l refl))))
   tail (transfer (go.Return condition) ∷ is) passed named now ok =
-      let next = tail is passed named (behind_condition condition ok.0) ok.2 in
+      let next = tail is passed named (coming_behind_condition condition ok.0) ok.2 in
       jump_tail (go.Return condition) condition (octets (items_code (length c.externals) is)) is named named now ok.0 ok.1.0 refl refl ok.1.1 (λ k h. h) next (next.ended (kind_at ok.0))

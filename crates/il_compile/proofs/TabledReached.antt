@@ -9,9 +9,9 @@ use Rattle.il_image.specs.Tables.{LeadsTo}
 use Rattle.il_image.specs.declared.instr.Instr.TheVariants.{Halt, Jump, Timer}
 use Rattle.il_image.specs.declared.opcode.TimerUse.TheVariants.{Run}
 use Rattle.il_image.proofs.KindLemmas.{within_self}
-use Rattle.il_check.specs.Labelling.{Coming, Labelling, behind_label, is_named}
+use Rattle.il_check.specs.Labelling.{Coming, Labelling, carried, coming_behind_label, is_named}
 use Rattle.il_check.specs.Program.{Checked, Item, label, plain, transfer}
-use Rattle.il_check.specs.TypedProgram.{AreItems, behind_condition, has_label}
+use Rattle.il_check.specs.TypedProgram.{AreItems, coming_behind_condition, has_label}
 use Rattle.il_check.specs.declared.typed.Transfer.TheVariants as go
 use Rattle.il_compile.specs.Code.{arguments_code, entry_code, items_code, octets, octets_before}
 use Rattle.il_compile.specs.Senses.{when_of}
@@ -26,7 +26,7 @@ leaps Always n = omega arith
 leaps IfTrue n = inr (omega arith)
 leaps IfFalse n = inr (omega arith)
 
-falls : (condition : Condition) (n : ℕ) (t u : Option ElementaryType) → behind_condition condition t ≡ Some u → LeadsTo (Jump (when_of condition) n) 0 0
+falls : (condition : Condition) (n : ℕ) (t u : Option ElementaryType) → coming_behind_condition condition t ≡ Some u → LeadsTo (Jump (when_of condition) n) 0 0
 falls Always n t u e = absurd cc
 falls IfTrue n t u e = inl refl
 falls IfFalse n t u e = inl refl
@@ -39,16 +39,16 @@ named_before k l named h = elim (k == l) as (λ b. (k == l) ≡ b → b || is_na
 
 module _ (c : Checked) (labels : Labelling) where
   -- labels below have higher numbers
-  no_lower : (is : List Item) (passed : ℕ) (named : List ℕ) (now : Coming) (l : ℕ) → AreItems c labels is passed named now → has_label is l ≡ true → passed ≤ l
+  no_lower : (is : List Item) (passed : ℕ) (named : List ℕ) (now : Coming) (l : ℕ) → AreItems c labels is (carried passed named now) → has_label is l ≡ true → passed ≤ l
   no_lower [] passed named now l ok h = absurd cc
   no_lower (label n ∷ is) passed named now l ok h =
       let same = ok.0.0 in
       elim (n == l) as (λ b. (n == l) ≡ b → b || has_label is l ≡ true → passed ≤ l) [
         | true ↦ (λ e g. (let f = eqb-true n l e in omega arith))
-        | false ↦ (λ e g. (let f = no_lower is (passed + 1) named (behind_label labels passed named now) l ok.1 g in omega arith))
+        | false ↦ (λ e g. (let f = no_lower is (passed + 1) named (coming_behind_label labels (carried passed named now)) l ok.1 g in omega arith))
       ] refl h
-  no_lower (transfer (go.Jump condition k) ∷ is) passed named now l ok h = no_lower is passed (k ∷ named) (behind_condition condition ok.0) l ok.2 h
-  no_lower (transfer (go.Return condition) ∷ is) passed named now l ok h = no_lower is passed named (behind_condition condition ok.0) l ok.2 h
+  no_lower (transfer (go.Jump condition k) ∷ is) passed named now l ok h = no_lower is passed (k ∷ named) (coming_behind_condition condition ok.0) l ok.2 h
+  no_lower (transfer (go.Return condition) ∷ is) passed named now l ok h = no_lower is passed named (coming_behind_condition condition ok.0) l ok.2 h
   no_lower (transfer (go.Call n args) ∷ is) passed named now l ok h = no_lower is passed named (Some None) l ok.2 h
   no_lower (plain e ∷ is) passed named now l ok h = no_lower is passed named (Some ok.1) l ok.3 h
 
@@ -74,7 +74,7 @@ module _ (c : Checked) (labels : Labelling) where
   }
 
   label_led : (P : ℕ → Type 0) (n passed : ℕ) (is : List Item) (named : List ℕ) (now : Coming) → n ≡ passed → ((l : ℕ) → has_label is l ≡ true → passed + 1 ≤ l)
-      → IsLed P (label n ∷ is) named now → IsLed P is named (behind_label labels passed named now)
+      → IsLed P (label n ∷ is) named now → IsLed P is named (coming_behind_label labels (carried passed named now))
   label_led P n passed is named now same above led = record {
     comes = λ t e. by_coming now refl t e;
     jumps = λ l h g. subst (λ b. P (if b then 0 else octets_before (length c.externals) l is)) (ne_eqb n l (λ e. (let a = above l g in omega arith)))
@@ -91,11 +91,11 @@ module _ (c : Checked) (labels : Labelling) where
           let it : (n == passed) ≡ true = eq-eqb n passed same in
           subst (λ b. P (if b then 0 else octets_before (length c.externals) passed is)) it (led.jumps passed h (ap (λ b. b || has_label is passed) it))
 
-      by_coming : (other : Coming) → now ≡ other → (t : Option ElementaryType) → behind_label labels passed named now ≡ Some t → P 0
+      by_coming : (other : Coming) → now ≡ other → (t : Option ElementaryType) → coming_behind_label labels (carried passed named now) ≡ Some t → P 0
       by_coming (Some u) f t e = led.comes u f
       by_coming None f t e =
           elim (is_named named passed) as (λ b. is_named named passed ≡ b → (if b then Some (labels passed) else None) ≡ Some t → P 0)
-          [ true ↦ (λ h g. here h) | false ↦ (λ h g. absurd cc) ] refl (ap (λ w. behind_label labels passed named w) (sym f) ∙ e)
+          [ true ↦ (λ h g. here h) | false ↦ (λ h g. absurd cc) ] refl (ap (λ w. coming_behind_label labels (carried passed named w)) (sym f) ∙ e)
 
       other_label : is_named named passed ≡ false → (l : ℕ) × (is_named named l ≡ true) × (has_label (label n ∷ is) l ≡ true) → (l : ℕ) × (is_named named l ≡ true) × (has_label is l ≡ true)
       other_label not_named x = (
@@ -105,9 +105,9 @@ module _ (c : Checked) (labels : Labelling) where
             [ true ↦ (λ e g. absurd (not_both (is_named named passed) (subst (λ k. is_named named k ≡ true) (sym (sym same ∙ eqb-true n x.0 e)) x.1) not_named)) | false ↦ (λ e g. g) ] refl x.2,
       )
 
-      by_ends : (other : Coming) → now ≡ other → behind_label labels passed named now ≡ None
+      by_ends : (other : Coming) → now ≡ other → coming_behind_label labels (carried passed named now) ≡ None
           → P (octets (items_code (length c.externals) is)) ⊎ ((l : ℕ) × (is_named named l ≡ true) × (has_label is l ≡ true))
-      by_ends (Some u) f e = absurd (let bad : Some (labels passed) ≡ None = ap (λ w. behind_label labels passed named w) (sym f) ∙ e in cc)
+      by_ends (Some u) f e = absurd (let bad : Some (labels passed) ≡ None = ap (λ w. coming_behind_label labels (carried passed named w)) (sym f) ∙ e in cc)
       by_ends None f e =
           elim (is_named named passed) as (λ b. is_named named passed ≡ b → (if b then Some (labels passed) else None) ≡ None
           → P (octets (items_code (length c.externals) is)) ⊎ ((l : ℕ) × (is_named named l ≡ true) × (has_label is l ≡ true))) [
@@ -116,12 +116,12 @@ module _ (c : Checked) (labels : Labelling) where
                 (λ (p : P (octets (items_code (length c.externals) is))). inl p)
                 (λ (x : (l : ℕ) × (is_named named l ≡ true) × (has_label (label n ∷ is) l ≡ true)). inr (other_label h x))
                 (led.ends f))
-          ] refl (ap (λ w. behind_label labels passed named w) (sym f) ∙ e)
+          ] refl (ap (λ w. coming_behind_label labels (carried passed named w)) (sym f) ∙ e)
 
   jump_led : (P : ℕ → Type 0) (condition : Condition) (k : ℕ) (is : List Item) (named : List ℕ) (now : Coming) (t : Option ElementaryType) → has_label is k ≡ true
       → IsLed P (transfer (go.Jump condition k) ∷ is) named now
       → IsLed (λ d. P (length (spelling (Jump (when_of condition) (octets_before (length c.externals) k is))) + d) ⊎ LeadsTo (Jump (when_of condition) (octets_before (length c.externals) k is)) 0 d)
-      is (k ∷ named) (behind_condition condition t)
+      is (k ∷ named) (coming_behind_condition condition t)
   jump_led P condition k is named now t there led = record {
     comes = λ u e. inr (falls condition (octets_before (length c.externals) k is) t u e);
     jumps = λ l h g. ⊎_elim
@@ -134,19 +134,19 @@ module _ (c : Checked) (labels : Labelling) where
   return_led : (P : ℕ → Type 0) (condition : Condition) (is : List Item) (named : List ℕ) (now : Coming) (t : Option ElementaryType)
       → IsLed P (transfer (go.Return condition) ∷ is) named now
       → IsLed (λ d. P (length (spelling (Jump (when_of condition) (octets (items_code (length c.externals) is)))) + d) ⊎ LeadsTo (Jump (when_of condition) (octets (items_code (length c.externals) is))) 0 d)
-      is named (behind_condition condition t)
+      is named (coming_behind_condition condition t)
   return_led P condition is named now t led = record {
     comes = λ u e. inr (falls condition (octets (items_code (length c.externals) is)) t u e);
     jumps = λ l h g. inl (led.jumps l h g);
     ends = λ e. inl (inr (leaps condition (octets (items_code (length c.externals) is))));
   }
 
-  pub items_reached : (is : List Item) (passed : ℕ) (named : List ℕ) (now : Coming) → AreItems c labels is passed named now → (P : ℕ → Type 0) → IsLed P is named now
+  pub items_reached : (is : List Item) (passed : ℕ) (named : List ℕ) (now : Coming) → AreItems c labels is (carried passed named now) → (P : ℕ → Type 0) → IsLed P is named now
       → AreReached P (items_code (length c.externals) is ++ Halt ∷ [])
   items_reached [] passed named now ok P led = (end_led P named now now refl led, tt)
   items_reached (label n ∷ is) passed named now ok P led =
-      items_reached is (passed + 1) named (behind_label labels passed named now) ok.1 P
-      (label_led P n passed is named now ok.0.0 (λ l h. no_lower is (passed + 1) named (behind_label labels passed named now) l ok.1 h) led)
+      items_reached is (passed + 1) named (coming_behind_label labels (carried passed named now)) ok.1 P
+      (label_led P n passed is named now ok.0.0 (λ l h. no_lower is (passed + 1) named (coming_behind_label labels (carried passed named now)) l ok.1 h) led)
   items_reached (plain e ∷ is) passed named now ok P led =
       let code = entry_code (length c.externals) e in
       let f = entry_flows c e ok.0 ok.1 (kind_at ok.0) [] ok.2.1 (within_self (kind_at ok.0)) (let d = ok.2.2 in omega arith) in
@@ -163,13 +163,13 @@ module _ (c : Checked) (labels : Labelling) where
       (items_reached is passed named (Some None) ok.2 Q (straight_led P (octets code) (transfer (go.Call n args)) is named now None (λ l. refl) (λ l. refl) led)))
   items_reached (transfer (go.Jump condition k) ∷ is) passed named now ok P led = (
     led.comes ok.0 ok.1.0,
-    items_reached is passed (k ∷ named) (behind_condition condition ok.0) ok.2
+    items_reached is passed (k ∷ named) (coming_behind_condition condition ok.0) ok.2
         (λ d. P (length (spelling (Jump (when_of condition) (octets_before (length c.externals) k is))) + d) ⊎ LeadsTo (Jump (when_of condition) (octets_before (length c.externals) k is)) 0 d)
         (jump_led P condition k is named now ok.0 ok.1.1.1 led),
   )
   items_reached (transfer (go.Return condition) ∷ is) passed named now ok P led = (
     led.comes ok.0 ok.1.0,
-    items_reached is passed named (behind_condition condition ok.0) ok.2
+    items_reached is passed named (coming_behind_condition condition ok.0) ok.2
         (λ d. P (length (spelling (Jump (when_of condition) (octets (items_code (length c.externals) is)))) + d) ⊎ LeadsTo (Jump (when_of condition) (octets (items_code (length c.externals) is))) 0 d)
         (return_led P condition is named now ok.0 led),
   )

@@ -1,4 +1,4 @@
--- What the compiler knows of the items behind a place, as it goes from the last item to the first.
+-- Inner: what the compiler knows of the items behind a place, as it goes from the last item to the first.
 use Rattle.std.specs.Prelude.{◌≡◌, ℕ, ◌+◌, ◌≤◌, List, min, reverse, Option, [], nat_eq}
 use Rattle.std.specs.HashMap.{get}
 use Rattle.std.specs.Option.{unwrap_or}

@@ -1,3 +1,6 @@
+-- What public clauses cite of the crates below.
+pub use Rattle.bay_base.specs.Exact
+-- Its own definitions.
 pub mod Arithmetic
 pub mod Codes
 pub mod Decoding

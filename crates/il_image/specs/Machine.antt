@@ -9,6 +9,8 @@ use Rattle.il_image.specs.declared.arithmetic.Comparison.{Comparison}
 use Rattle.il_image.specs.declared.arithmetic.Comparison.TheVariants.{Gt, Ge, Eq, Ne, Le, Lt}
 use Rattle.il_image.specs.declared.instr.Instr.{Instr}
 use Rattle.il_image.specs.declared.instr.Instr.TheVariants.{Halt, Push, Drop, Slot, Not, Combine, Compute, Compare, Widen, Jump, Timer}
+use Rattle.il_image.specs.declared.opcode.Connective.{Connective}
+use Rattle.il_image.specs.declared.opcode.Widening.{Widening}
 use Rattle.il_image.specs.declared.opcode.SlotUse.TheVariants.{Load, Store, SetIf, ResetIf}
 use Rattle.il_image.specs.declared.opcode.When.TheVariants.{Always, IfTrue, IfFalse}
 use Rattle.il_image.specs.declared.opcode.TimerUse.TheVariants.{SetInput, SetPreset, Run, LoadOutput, LoadElapsed}
@@ -124,29 +126,85 @@ tells_equality Lt = false
 abbrev pub is_comparable : Comparison → Value → Value → Bool
 is_comparable c a b = same_type (type_of a) (type_of b) && (not (same_type (type_of a) elementary.Bool) || tells_equality c)
 
--- ---- one instruction, with the place behind it, at a moment
+-- ---- what each instruction does, with the place behind it
 
+abbrev pub drops : ℕ → State → Turn
+drops next s = with_top s.cells (λ top below. goes next below s)
+
+abbrev pub loads : ℕ → ℕ → State → Turn
+loads n next s = with_slot n s (λ slot. pushes slot next s)
+
+-- The slot takes the top, which is of its type.
+abbrev pub stores_top : ℕ → ℕ → State → Turn
+stores_top n next s =
+    with_slot n s (λ slot. with_top s.cells (λ top below. if same_type (type_of top) (type_of slot) then stores n top next s else Traps WrongKind))
+
+-- The slot becomes TRUE, or FALSE, where the top is TRUE.
+abbrev pub sets : ℕ → ℕ → State → Turn
+sets n next s = with_truths n s (λ top old. stores n (Truth (top || old)) next s)
+
+abbrev pub resets : ℕ → ℕ → State → Turn
+resets n next s = with_truths n s (λ top old. stores n (Truth (not top && old)) next s)
+
+abbrev pub inverts : ℕ → State → Turn
+inverts next s = with_top s.cells (λ top below. as_truth top (λ b. goes next (Truth (not b) ∷ below) s))
+
+abbrev pub connects : Connective → ℕ → State → Turn
+connects c next s =
+    with_two s.cells (λ first second below. as_truth second (λ b. as_truth first (λ a. goes next (Truth (connected c a b) ∷ below) s)))
+
+abbrev pub computes : Operation → Width → ℕ → State → Turn
+computes o w next s =
+    with_numbers w s (λ a b below. if divides o && int_eq b (pos 0) then Traps ZeroDivisor else goes next (value_in w (computed o w a b) ∷ below) s)
+
+abbrev pub compares : Comparison → ℕ → State → Turn
+compares c next s =
+    with_two s.cells (λ a b below. if is_comparable c a b then goes next (Truth (compared c (number_of a) (number_of b)) ∷ below) s else Traps WrongKind)
+
+abbrev pub widens : Widening → ℕ → State → Turn
+widens w next s = with_top s.cells (λ top below. elim (widened w top) [ None ↦ Traps WrongKind | Some v ↦ goes next (v ∷ below) s ])
+
+-- A jump looks at the top, and leaves it.
+abbrev pub jumps_where : (Bool → ℕ) → State → Turn
+jumps_where to s = with_top s.cells (λ top below. as_truth top (λ b. goes (to b) s.cells s))
+
+abbrev pub takes_input : ℕ → ℕ → State → Turn
+takes_input n next s = with_timer n s (λ t. with_top s.cells (λ top below. as_truth top (λ b. changes n (record t { input = b }) next below s)))
+
+abbrev pub takes_preset : ℕ → ℕ → State → Turn
+takes_preset n next s = with_timer n s (λ t. with_top s.cells (λ top below. as_span top (λ preset. changes n (record t { preset = preset }) next below s)))
+
+abbrev pub runs_timer : ℕ → ℕ → ℕ → State → Turn
+runs_timer now n next s = with_timer n s (λ t. changes n (called t now) next s.cells s)
+
+abbrev pub loads_output : ℕ → ℕ → State → Turn
+loads_output n next s = with_timer n s (λ t. pushes (Truth t.output) next s)
+
+abbrev pub loads_elapsed : ℕ → ℕ → State → Turn
+loads_elapsed n next s = with_timer n s (λ t. pushes (Span t.elapsed) next s)
+
+-- one instruction at a moment
 unfoldable pub act : ℕ → Instr → ℕ → State → Turn
 act now Halt next s = Halts
 act now (Push v) next s = pushes v next s
-act now Drop next s = with_top s.cells (λ top below. goes next below s)
-act now (Slot Load n) next s = with_slot n s (λ slot. pushes slot next s)
-act now (Slot Store n) next s = with_slot n s (λ slot. with_top s.cells (λ top below. if same_type (type_of top) (type_of slot) then stores n top next s else Traps WrongKind))
-act now (Slot SetIf n) next s = with_truths n s (λ top old. stores n (Truth (top || old)) next s)
-act now (Slot ResetIf n) next s = with_truths n s (λ top old. stores n (Truth (not top && old)) next s)
-act now Not next s = with_top s.cells (λ top below. as_truth top (λ b. goes next (Truth (not b) ∷ below) s))
-act now (Combine c) next s = with_two s.cells (λ first second below. as_truth second (λ b. as_truth first (λ a. goes next (Truth (connected c a b) ∷ below) s)))
-act now (Compute o w) next s = with_numbers w s (λ a b below. if divides o && int_eq b (pos 0) then Traps ZeroDivisor else goes next (value_in w (computed o w a b) ∷ below) s)
-act now (Compare c) next s = with_two s.cells (λ a b below. if is_comparable c a b then goes next (Truth (compared c (number_of a) (number_of b)) ∷ below) s else Traps WrongKind)
-act now (Widen w) next s = with_top s.cells (λ top below. elim (widened w top) [ None ↦ Traps WrongKind | Some v ↦ goes next (v ∷ below) s ])
+act now Drop next s = drops next s
+act now (Slot Load n) next s = loads n next s
+act now (Slot Store n) next s = stores_top n next s
+act now (Slot SetIf n) next s = sets n next s
+act now (Slot ResetIf n) next s = resets n next s
+act now Not next s = inverts next s
+act now (Combine c) next s = connects c next s
+act now (Compute o w) next s = computes o w next s
+act now (Compare c) next s = compares c next s
+act now (Widen w) next s = widens w next s
 act now (Jump Always distance) next s = goes (next + distance) s.cells s
-act now (Jump IfTrue distance) next s = with_top s.cells (λ top below. as_truth top (λ b. goes (if b then next + distance else next) s.cells s))
-act now (Jump IfFalse distance) next s = with_top s.cells (λ top below. as_truth top (λ b. goes (if b then next else next + distance) s.cells s))
-act now (Timer SetInput n) next s = with_timer n s (λ t. with_top s.cells (λ top below. as_truth top (λ b. changes n (record t { input = b }) next below s)))
-act now (Timer SetPreset n) next s = with_timer n s (λ t. with_top s.cells (λ top below. as_span top (λ preset. changes n (record t { preset = preset }) next below s)))
-act now (Timer Run n) next s = with_timer n s (λ t. changes n (called t now) next s.cells s)
-act now (Timer LoadOutput n) next s = with_timer n s (λ t. pushes (Truth t.output) next s)
-act now (Timer LoadElapsed n) next s = with_timer n s (λ t. pushes (Span t.elapsed) next s)
+act now (Jump IfTrue distance) next s = jumps_where (λ b. if b then next + distance else next) s
+act now (Jump IfFalse distance) next s = jumps_where (λ b. if b then next else next + distance) s
+act now (Timer SetInput n) next s = takes_input n next s
+act now (Timer SetPreset n) next s = takes_preset n next s
+act now (Timer Run n) next s = runs_timer now n next s
+act now (Timer LoadOutput n) next s = loads_output n next s
+act now (Timer LoadElapsed n) next s = loads_elapsed n next s
 
 -- ---- a step, and a run
 

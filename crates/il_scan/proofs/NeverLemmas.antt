@@ -9,8 +9,10 @@ use Rattle.il_image.specs.Values.{type_of}
 use Rattle.il_verify.specs.Verdicts.{IsSafe}
 use Rattle.il_scan.specs.Laws.{Ends, NeverGoesWrong}
 use Rattle.il_scan.specs.Scans.{AreInputs, with_inputs}
-use Rattle.il_scan.specs.Standing.{IsHeld, RunsTo, Turns, first_state, held, words_at}
-use Rattle.il_scan.specs.Words.{Words, leads, values_of, words_of, worked}
+use Rattle.il_scan.specs.Standing.{IsHeld, RunsTo, Turns, first_state, words_at}
+use Rattle.il_scan.specs.Scans.{held}
+use Rattle.il_scan.specs.Words.{values_of, words_of}
+use Rattle.il_scan.specs.Working.{Words, leads, worked}
 use Rattle.il_scan.proofs.RunLemmas.{Comes, comes_next, forward, run_ends, starts}
 use Rattle.il_scan.proofs.ScanLemmas.{held_taken, scanned}
 use Rattle.il_scan.proofs.SlotLemmas.{outputs_are}

@@ -6,8 +6,10 @@ use Rattle.il_image.specs.Images.{IsValue}
 use Rattle.il_image.specs.declared.image.ImagePoint.{ImagePoint}
 use Rattle.il_image.specs.declared.value.Value.{Value}
 use Rattle.il_image.specs.Values.{number_of, type_of, value_of}
-use Rattle.il_scan.specs.Places.{AllBelow, output_value, read_places, value_there, with_words, write_places}
-use Rattle.il_scan.specs.Scans.{AreValues, first_input, read_only, type_of_point, with_inputs, writable_count}
+use Rattle.il_scan.specs.Places.{output_value, value_there}
+use Rattle.il_scan.specs.PointPlaces.{AllBelow, read_places, with_words, write_places}
+use Rattle.il_scan.specs.Scans.{first_input, read_only, type_of_point, with_inputs}
+use Rattle.il_scan.specs.PointPlaces.{AreValues, writable_count}
 use Rattle.il_scan.specs.Standing.{AreWords, given_by}
 use Rattle.il_scan.specs.Words.{AreTyped, slot_at, value_at, words_of}
 

@@ -11,7 +11,8 @@ use Rattle.il_verify.specs.Verdicts.{IsBudget, IsDepth, IsSafe}
 use Rattle.il_verify.proofs.TableLemmas.{leads_on}
 use Rattle.il_scan.specs.Scans.{IsWithin}
 use Rattle.il_scan.specs.Standing.{IsHeld, KeepsSlots, RunsTo, Standing, StandsAt, Turns, first_state, words_at}
-use Rattle.il_scan.specs.Words.{Words, values_of, words, words_of, worked, leads}
+use Rattle.il_scan.specs.Words.{values_of, words_of}
+use Rattle.il_scan.specs.Working.{Words, words, worked, leads}
 use Rattle.il_scan.proofs.StandLemmas.{held_by, held_typed, stand_again}
 use Rattle.il_scan.proofs.TurnLemmas.{cells_room, turned}
 

@@ -11,7 +11,8 @@ use Rattle.il_image.specs.Timers as time
 use Rattle.il_image.specs.Tables.{slot_types}
 use Rattle.il_image.specs.Values.{type_of}
 use Rattle.il_scan.specs.Scans.{AreInputs, Held, IsWithin, Scans, first_slots, held_first, started, with_inputs}
-use Rattle.il_scan.specs.Standing.{AreWords, IsHeld, RunsTo, first_state, given_by, held}
+use Rattle.il_scan.specs.Standing.{AreWords, IsHeld, RunsTo, first_state, given_by}
+use Rattle.il_scan.specs.Scans.{held}
 use Rattle.il_scan.specs.Words.{StandFor, values_of, words_of}
 use Rattle.il_scan.proofs.SlotLemmas.{first_stand, held_words, only_read, outputs_are, same_slot, taken_stand, times_first}
 use Rattle.il_scan.proofs.StandLemmas.{stand_again, stand_itself}

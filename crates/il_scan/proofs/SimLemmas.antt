@@ -42,7 +42,8 @@ use Rattle.il_image.specs.Values.{number_of, type_of}
 use Rattle.il_image.proofs.KindLemmas.{kind_above, same_is, same_self}
 use Rattle.il_verify.proofs.EffectLemmas.{some_same, bind_some}
 use Rattle.il_scan.specs.Standing.{Fit, IsTimer, Typed}
-use Rattle.il_scan.specs.Words.{AreTyped, IsReady, Words, leads, slot_at, timer_at, words, words_of, worked}
+use Rattle.il_scan.specs.Words.{AreTyped, slot_at, words_of}
+use Rattle.il_scan.specs.Working.{IsReady, Words, leads, timer_at, words, worked}
 use Rattle.il_scan.proofs.ValueLemmas.{joined_is, kind_there, number_in, number_there, span_there, span_value, span_within, truth_there, truth_value, truth_word, type_in, widened_long, widened_short, wrapped_value}
 
 -- ---- values on the stack

@@ -25,7 +25,7 @@ use Rattle.il_verify.proofs.TableLemmas.{same_instr, some_way}
 use Rattle.il_verify.proofs.WithinLemmas.{within_length}
 use Rattle.il_image.specs.declared.value.Value.{Value}
 use Rattle.il_scan.specs.Standing.{Fit, KeepsSlots, Standing, StandsAt, Turns, words_at}
-use Rattle.il_scan.specs.Words.{IsReady, Words, leads, top, worked}
+use Rattle.il_scan.specs.Working.{IsReady, Words, leads, top, worked}
 use Rattle.il_scan.proofs.SimLemmas.{Does, does, fit_length}
 
 -- ---- where words lead

@@ -23,7 +23,8 @@ use Rattle.il_image.specs.Kinds.{HasKind}
 use Rattle.il_image.specs.Machine.{value_in}
 use Rattle.il_image.specs.Values.{number_of, type_of, value_of, is_between}
 use Rattle.il_image.proofs.ValueLemmas.{value_back}
-use Rattle.il_scan.specs.Words.{joined, value_at, word_of}
+use Rattle.il_scan.specs.Words.{value_at}
+use Rattle.il_scan.specs.Working.{joined, word_of}
 
 pub truth_word : (b : Bool) → number_of (Truth b) ≡ word_of b
 truth_word true = refl

@@ -1,25 +1,27 @@
 -- What a scan of a machine is.
-use Rattle.std.specs.Prelude.{ℕ, zero, suc, ◌≡◌, ◌+◌, ◌<◌, ◌≤◌, ◌&&◌, Bool, true, false, is_some, not, List, [], ◌∷◌, length, map, filter, drop, slice_get, Some, if◌then◌else◌}
+use Rattle.std.specs.Prelude.{ℕ, ℤ, zero, suc, pos, ◌≡◌, ◌+◌, ◌<◌, ◌≤◌, false, not, List, [], ◌∷◌, length, map, filter, drop, slice_get, Some, if◌then◌else◌}
 use Rattle.bay_base.specs.declared.types.ElementaryType.{ElementaryType}
 use Rattle.bay_base.specs.declared.types.ElementaryType.TheVariants as elementary
 use Rattle.il_image.specs.declared.image.ImagePoint.{ImagePoint}
 use Rattle.il_image.specs.declared.timer.Timer.{Timer}
 use Rattle.il_image.specs.declared.value.Value.{Value}
 use Rattle.il_image.specs.declared.value.Value.TheVariants.{Truth, Short, Long, Wide, Span}
-use Rattle.std.specs.Prelude.{pos}
-use Rattle.il_image.specs.Images.{Image, IsValue}
+use Rattle.il_image.specs.Images.{Image}
 use Rattle.il_image.specs.Machine.{Goes, Halted, State, run, start, turn}
+use Rattle.il_image.specs.Tables.{slot_types}
 use Rattle.il_image.specs.Timers.{first_state}
-use Rattle.il_image.specs.Values.{number_of, type_of, value_of}
-use Rattle.bay_base.specs.Types.{same_type}
 use Rattle.il_verify.specs.Verdicts.{IsBudget, IsDepth}
-use Rattle.il_scan.specs.Words.{AreTyped}
+use Rattle.il_scan.specs.Words.{AreTyped, values_of}
 
 -- what callers see of a machine: its verified image, and what its slots and its timers hold between scans
 pub record Held : Type 0 where
   pub image : Image
   pub slots : List Value
   pub timers : List Timer
+
+-- what callers see of words and timers
+abbrev pub held : Image → List ℤ → List Timer → Held
+held image slots timers = record { image = image; slots = values_of (slot_types image) slots; timers = timers }
 
 -- ---- the first state
 
@@ -56,25 +58,6 @@ type_of_point p = p.elementary
 abbrev pub AreInputs : List ImagePoint → List Value → Type 0
 AreInputs points inputs = AreTyped (map type_of_point (read_only points)) inputs
 
--- Each is a value of its type.
-abbrev pub AreValues : List Value → Type 0
-AreValues values = (k : ℕ) (v : Value) → slice_get values k ≡ Some v → IsValue v
-
--- The value is one of the type.
-abbrev pub is_of : ElementaryType → Value → Bool
-is_of t v = same_type (type_of v) t && is_some (value_of t (number_of v))
-
--- the first of the inputs is of the type
-abbrev pub begins_with : ElementaryType → List Value → Bool
-begins_with t [] = false
-begins_with t (input ∷ inputs) = is_of t input
-
--- the test of `AreInputs`
-abbrev pub are_inputs : List ImagePoint → List Value → Bool
-are_inputs [] [] = true
-are_inputs [] (input ∷ inputs) = false
-are_inputs (p ∷ points) inputs = if p.writable then are_inputs points inputs else (begins_with p.elementary inputs && are_inputs points (drop 1 inputs))
-
 -- the first of the inputs, or else what was there
 abbrev pub first_input : {A : Type 0} → List A → A → A
 first_input [] old = old
@@ -86,11 +69,6 @@ with_inputs [] inputs slots = slots
 with_inputs (p ∷ points) inputs [] = []
 with_inputs (p ∷ points) inputs (slot ∷ slots) =
     (if p.writable then slot else first_input inputs slot) ∷ with_inputs points (if p.writable then inputs else drop 1 inputs) slots
-
--- the number of points that may be written
-abbrev pub writable_count : List ImagePoint → ℕ
-writable_count [] = 0
-writable_count (p ∷ points) = (if p.writable then 1 else 0) + writable_count points
 
 -- the slots of the points that may be written
 abbrev pub outputs_of : {A : Type 0} → List ImagePoint → List A → List A

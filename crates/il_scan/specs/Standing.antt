@@ -1,4 +1,4 @@
--- Where the machine of typed values stands in verified code, and what one step of the machine of words has to do there.
+-- Inner: where the machine of typed values stands in verified code, and what one step of the machine of words has to do there.
 use Rattle.std.specs.Prelude.{ℕ, ℤ, ◌≡◌, ◌≤◌, IsSome, if◌then◌else◌, true, List, [], ◌∷◌, length, slice_get, Option, Some, None}
 use Rattle.bay_base.specs.declared.types.ElementaryType.{ElementaryType}
 use Rattle.il_image.specs.declared.kind.Kind.{Kind}
@@ -13,9 +13,11 @@ use Rattle.il_verify.specs.Slots.{slots_of}
 use Rattle.il_verify.specs.Verdicts.{IsBudget, IsDepth, KeepsReadOnly}
 use Rattle.il_image.specs.declared.image.ImagePoint.{ImagePoint}
 use Rattle.il_image.specs.Values.{value_of}
-use Rattle.il_scan.specs.Scans.{Held, IsWithin, writable_count}
-use Rattle.il_scan.specs.Places.{read_places, write_places}
-use Rattle.il_scan.specs.Words.{AreTyped, StandFor, Words, value_at, values_of, words, words_of}
+use Rattle.il_scan.specs.Scans.{Held, IsWithin}
+use Rattle.il_scan.specs.PointPlaces.{writable_count}
+use Rattle.il_scan.specs.PointPlaces.{read_places, write_places}
+use Rattle.il_scan.specs.Words.{AreTyped, StandFor, value_at, values_of, words_of}
+use Rattle.il_scan.specs.Working.{Words, words}
 
 -- Each value is of the kind at its place, and a value of its type.
 abbrev pub Fit : List Value → List Kind → Type 0
@@ -86,10 +88,6 @@ pub record RunsTo (image : Image) (now : ℕ) (slots : List ℤ) (timers : List 
   pub held : IsHeld image new_slots new_timers
 
 -- ---- the machine
-
--- what callers see of words and timers
-abbrev pub held : Image → List ℤ → List Timer → Held
-held image slots timers = record { image = image; slots = values_of (slot_types image) slots; timers = timers }
 
 -- what a machine keeps: it knows the places of its points, and there is an output for each point that may be written
 pub record IsKept (image : Image) (slots : List ℤ) (timers : List Timer) (reads writes : List ℕ) (outputs : List Value) : Type 0 where

@@ -1,26 +1,10 @@
--- Words that stand for values, and what each instruction does to words with no test of what they are.
-use Rattle.std.specs.Prelude.{ℕ, ℤ, pos, ◌≡◌, ◌+◌, ◌<◌, ◌≤◌, Bool, false, not, List, [], ◌∷◌, length, map, drop, slice_index_or, slice_set, unsigned_abs, unwrap_or, Option, Some, None, if◌then◌else◌}
-use Rattle.std.specs.Ordering.{int_eq}
+-- Words that stand for typed values.
+use Rattle.std.specs.Prelude.{ℕ, ℤ, pos, ◌≡◌, false, List, [], ◌∷◌, map, slice_index_or, unwrap_or}
 use Rattle.bay_base.specs.declared.types.ElementaryType.{ElementaryType}
-use Rattle.il_image.specs.declared.instr.Instr.{Instr}
-use Rattle.il_image.specs.declared.instr.Instr.TheVariants.{Halt, Push, Drop, Slot, Not, Combine, Compute, Compare, Widen, Jump, Timer}
-use Rattle.il_image.specs.declared.opcode.Connective.{Connective}
-use Rattle.il_image.specs.declared.opcode.Connective.TheVariants.{And, Or, Xor}
-use Rattle.il_image.specs.declared.opcode.SlotUse.{SlotUse}
-use Rattle.il_image.specs.declared.opcode.SlotUse.TheVariants.{Load, Store, SetIf, ResetIf}
-use Rattle.il_image.specs.declared.opcode.When.TheVariants.{Always, IfTrue, IfFalse}
-use Rattle.il_image.specs.declared.opcode.TimerUse.{TimerUse}
-use Rattle.il_image.specs.declared.opcode.TimerUse.TheVariants.{SetInput, SetPreset, Run, LoadOutput, LoadElapsed}
-use Rattle.il_image.specs.declared.timer.Timer.{Timer as TimerState}
-use Rattle.il_image.specs.declared.timer.TimerKind.TheVariants.{OnDelay}
 use Rattle.il_image.specs.declared.value.Value.{Value}
 use Rattle.il_image.specs.declared.value.Value.TheVariants.{Truth}
-use Rattle.il_image.specs.Arithmetic.{DividesBy, compared, computed}
 use Rattle.il_image.specs.Images.{IsValue}
-use Rattle.il_image.specs.Timers.{called, first_state}
 use Rattle.il_image.specs.Values.{number_of, type_of, value_of}
-
--- ---- what words stand for
 
 -- The values are of these types, one by one.
 abbrev pub AreTyped : List ElementaryType → List Value → Type 0
@@ -47,110 +31,6 @@ values_of [] words = []
 values_of (t ∷ types) [] = []
 values_of (t ∷ types) (w ∷ words) = value_at t w ∷ values_of types words
 
--- ---- what an instruction does to words
-
--- the words of the stack, the top first, and of the slots; and the timers
-pub record Words : Type 0 where
-  pub stack : List ℤ
-  pub slots : List ℤ
-  pub timers : List TimerState
-
-abbrev pub words : List ℤ → List ℤ → List TimerState → Words
-words stack slots timers = record { stack = stack; slots = slots; timers = timers }
-
-abbrev pub top : List ℤ → ℤ
-top stack = slice_index_or stack 0 (pos 0)
-
--- the word below the top
-abbrev pub first : List ℤ → ℤ
-first stack = slice_index_or stack 1 (pos 0)
-
+-- the word of a slot
 abbrev pub slot_at : List ℤ → ℕ → ℤ
 slot_at slots n = slice_index_or slots n (pos 0)
-
-abbrev pub timer_at : List TimerState → ℕ → TimerState
-timer_at timers n = slice_index_or timers n (first_state OnDelay)
-
--- the word of a BOOL
-abbrev pub word_of : Bool → ℤ
-word_of b = if b then pos 1 else pos 0
-
-abbrev pub is_true : ℤ → Bool
-is_true w = not (int_eq w (pos 0))
-
--- AND, OR and XOR of the words of two BOOLs
-abbrev pub joined : Connective → ℤ → ℤ → ℤ
-joined And a b = if int_eq a (pos 0) then pos 0 else b
-joined Or a b = if int_eq a (pos 0) then b else pos 1
-joined Xor a b = word_of (not (int_eq a b))
-
-abbrev pub slot_worked : SlotUse → ℕ → Words → Words
-slot_worked Load n m = record m { stack = slot_at m.slots n ∷ m.stack }
-slot_worked Store n m = record m { slots = slice_set m.slots n (top m.stack) }
-slot_worked SetIf n m = record m { slots = slice_set m.slots n (if int_eq (top m.stack) (pos 0) then slot_at m.slots n else pos 1) }
-slot_worked ResetIf n m = record m { slots = slice_set m.slots n (if int_eq (top m.stack) (pos 0) then slot_at m.slots n else pos 0) }
-
-abbrev pub timer_worked : ℕ → TimerUse → ℕ → Words → Words
-timer_worked now SetInput n m = record m { stack = drop 1 m.stack; timers = slice_set m.timers n (record (timer_at m.timers n) { input = is_true (top m.stack) }) }
-timer_worked now SetPreset n m = record m { stack = drop 1 m.stack; timers = slice_set m.timers n (record (timer_at m.timers n) { preset = unsigned_abs (top m.stack) }) }
-timer_worked now Run n m = record m { timers = slice_set m.timers n (called (timer_at m.timers n) now) }
-timer_worked now LoadOutput n m = record m { stack = word_of (timer_at m.timers n).output ∷ m.stack }
-timer_worked now LoadElapsed n m = record m { stack = pos (timer_at m.timers n).elapsed ∷ m.stack }
-
--- A word of a narrower type is the word of the same number of a wider one.
-abbrev pub worked : ℕ → Instr → Words → Words
-worked now Halt m = m
-worked now (Push v) m = record m { stack = number_of v ∷ m.stack }
-worked now Drop m = record m { stack = drop 1 m.stack }
-worked now (Slot use_of n) m = slot_worked use_of n m
-worked now Not m = record m { stack = word_of (int_eq (top m.stack) (pos 0)) ∷ drop 1 m.stack }
-worked now (Combine c) m = record m { stack = joined c (first m.stack) (top m.stack) ∷ drop 2 m.stack }
-worked now (Compute o w) m = record m { stack = computed o w (first m.stack) (top m.stack) ∷ drop 2 m.stack }
-worked now (Compare c) m = record m { stack = word_of (compared c (first m.stack) (top m.stack)) ∷ drop 2 m.stack }
-worked now (Widen w) m = m
-worked now (Jump when distance) m = m
-worked now (Timer use_of n) m = timer_worked now use_of n m
-
--- the place of the next instruction, if there is one
-abbrev pub leads : Instr → ℕ → List ℤ → Option ℕ
-leads Halt next stack = None
-leads (Jump Always distance) next stack = Some (next + distance)
-leads (Jump IfTrue distance) next stack = Some (if int_eq (top stack) (pos 0) then next else next + distance)
-leads (Jump IfFalse distance) next stack = Some (if int_eq (top stack) (pos 0) then next + distance else next)
-leads (Push v) next stack = Some next
-leads Drop next stack = Some next
-leads (Slot use_of n) next stack = Some next
-leads Not next stack = Some next
-leads (Combine c) next stack = Some next
-leads (Compute o w) next stack = Some next
-leads (Compare c) next stack = Some next
-leads (Widen w) next stack = Some next
-leads (Timer use_of n) next stack = Some next
-
--- ---- what an instruction needs, so that nothing is tested
-
--- The word is the number of a TIME.
-abbrev pub IsSpan : ℤ → Type 0
-IsSpan w = (n : ℕ) × (w ≡ pos n) × (n ≤ 0x7FFF_FFFF)
-
-abbrev pub IsReady : Instr → Words → Type 0
-IsReady Halt m = Unit {0}
-IsReady (Push v) m = length m.stack < 32
-IsReady Drop m = 0 < length m.stack
-IsReady (Slot Load n) m = (length m.stack < 32) × (n < length m.slots)
-IsReady (Slot Store n) m = (0 < length m.stack) × (n < length m.slots)
-IsReady (Slot SetIf n) m = (0 < length m.stack) × (n < length m.slots)
-IsReady (Slot ResetIf n) m = (0 < length m.stack) × (n < length m.slots)
-IsReady Not m = 0 < length m.stack
-IsReady (Combine c) m = 1 < length m.stack
-IsReady (Compute o w) m = (1 < length m.stack) × DividesBy o (top m.stack)
-IsReady (Compare c) m = 1 < length m.stack
-IsReady (Widen w) m = 0 < length m.stack
-IsReady (Jump Always distance) m = Unit {0}
-IsReady (Jump IfTrue distance) m = 0 < length m.stack
-IsReady (Jump IfFalse distance) m = 0 < length m.stack
-IsReady (Timer SetInput n) m = (0 < length m.stack) × (n < length m.timers)
-IsReady (Timer SetPreset n) m = (0 < length m.stack) × (n < length m.timers) × IsSpan (top m.stack)
-IsReady (Timer Run n) m = n < length m.timers
-IsReady (Timer LoadOutput n) m = (length m.stack < 32) × (n < length m.timers)
-IsReady (Timer LoadElapsed n) m = (length m.stack < 32) × (n < length m.timers)

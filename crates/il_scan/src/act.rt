@@ -3,8 +3,9 @@ ghost use Rattle.std.specs.Prelude.{◌≡◌, ◌+◌, ◌^◌, ◌<◌, ◌∷
 ghost use Rattle.std.specs.Ordering.{int_eq};
 ghost use Rattle.il_image.specs.Arithmetic.{DividesBy, compared, computed};
 ghost use Rattle.il_image.specs.Timers as time;
-ghost use Rattle.il_scan.specs.Words as spec;
-ghost use Rattle.il_scan.specs.Words.{IsReady, IsSpan, is_true, joined, slot_at, timer_at, word_of, worked, words};
+ghost use Rattle.il_scan.specs.Working as spec;
+ghost use Rattle.il_scan.specs.Words.{slot_at};
+ghost use Rattle.il_scan.specs.Working.{IsReady, IsSpan, is_true, joined, timer_at, word_of, worked, words};
 
 use crate::stack::Stack;
 use il_image::arithmetic::{Comparison, Operation, Width, compare, compute};

@@ -1,13 +1,12 @@
 // The machine, which runs a verified image scan by scan.
 ghost use Rattle.std.specs.Prelude.{◌≡◌, ◌↔◌, IfErr, IfOk, IsTrue, map};
 ghost use Rattle.std.specs.Borrow.{sem};
-ghost use Rattle.std.specs.Io.BufRead.{Rests};
-ghost use Rattle.il_scan.specs.Places.{read_places};
+ghost use Rattle.il_scan.specs.PointPlaces.{read_places};
 ghost use Rattle.il_scan.specs.Scans.{AreInputs, Scans, TakesMemory, held_first, outputs_of, read_only, type_of_point};
-ghost use Rattle.il_scan.specs.Standing.{IsHeld, IsKept, held};
+ghost use Rattle.il_scan.specs.Standing.{IsHeld, IsKept};
+ghost use Rattle.il_scan.specs.Scans.{held};
 ghost use Rattle.il_scan.specs.Words.{values_of};
 ghost use Rattle.il_image.specs.Tables.{slot_types};
-ghost use Rattle.il_scan.specs.contracts.machine.Machine.{the_row};
 ghost use Rattle.il_verify.specs.Verdicts.{IsSafe};
 
 use crate::points::{Inputs, Listed, Outputs};
@@ -35,7 +34,8 @@ pub struct Machine {
 
 impl Model for Machine {
     ghost use Rattle.il_scan.specs.Scans.{Held};
-    ghost use Rattle.il_scan.specs.Standing.{IsKept, held};
+    ghost use Rattle.il_scan.specs.Standing.{IsKept};
+    ghost use Rattle.il_scan.specs.Scans.{held};
 
     ghost Value = { Held };
 
@@ -124,6 +124,8 @@ fn run_once(
 }
 
 impl Machine {
+    ghost use Rattle.il_scan.specs.Loan.{LendsOutputs};
+
     /// A machine whose variables have their initial values, whose points are FALSE or 0, and whose timers were never called. For want of
     /// memory, which can come only where the image has a slot or a timer, the verified image comes back.
     pub fn new(alloc: Global, verified: Verified) -> Result<Machine, Verified>
@@ -197,7 +199,7 @@ impl Machine {
     /// One scan, as `scan_points` does it, whose inputs and outputs are lists.
     pub fn scan(&mut self, inputs: &[Value], now: u64) -> Scan<'_>
         requires { AreInputs self.old.image.points inputs.now }
-        ensures* after { sem 𝓛 (Rests the_row self.entry (λ last. Scans self.old inputs.now now last result.steps result.outputs.now)) }
+        ensures* after { sem 𝓛 (LendsOutputs self.entry inputs.now now result.steps result.outputs.now) }
     {
         let steps = run_once(
             self.verified.image(),

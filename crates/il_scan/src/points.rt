@@ -2,8 +2,9 @@
 ghost use Rattle.std.specs.Prelude.{◌≡◌, ◌<◌, Some, length, map, slice_get};
 ghost use Rattle.il_image.specs.Images.{IsValue};
 ghost use Rattle.il_image.specs.Values.{type_of};
-ghost use Rattle.il_scan.specs.Places.{AllBelow, is_true, output_value};
-ghost use Rattle.il_scan.specs.Scans.{AreValues};
+ghost use Rattle.il_scan.specs.Places.{is_true, output_value};
+ghost use Rattle.il_scan.specs.PointPlaces.{AllBelow};
+ghost use Rattle.il_scan.specs.PointPlaces.{AreValues};
 ghost use Rattle.il_scan.specs.Standing.{AreWords};
 
 use crate::slots::is_true;
@@ -69,7 +70,8 @@ pub struct Outputs<'a> {
 impl<'a> Model for Outputs<'a> {
     ghost use Rattle.std.specs.Prelude.{List, length, map};
     ghost use Rattle.il_image.specs.declared.value.Value.{Value as ImageValue};
-    ghost use Rattle.il_scan.specs.Places.{AllBelow, output_value};
+    ghost use Rattle.il_scan.specs.Places.{output_value};
+    ghost use Rattle.il_scan.specs.PointPlaces.{AllBelow};
     ghost use Rattle.il_scan.specs.Standing.{AreWords};
 
     ghost Value = { List ImageValue };

@@ -2,7 +2,7 @@
 ghost use Rattle.std.specs.Prelude.{◌≡◌, ◌<◌, length};
 ghost use Rattle.il_image.specs.Machine.{State};
 ghost use Rattle.il_scan.specs.Standing.{IsHeld, RunsTo, StandsAt, Turns};
-ghost use Rattle.il_scan.specs.Words.{words};
+ghost use Rattle.il_scan.specs.Working.{words};
 ghost use Rattle.il_verify.specs.Verdicts.{IsSafe};
 
 use crate::act::act;

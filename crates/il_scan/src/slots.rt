@@ -2,10 +2,11 @@
 ghost use Rattle.std.specs.Prelude.{◌≡◌, ◌+◌, ◌<◌, ◌≤◌, ◌++◌, IfErr, IfOk, IsSome, OnOk, Some, drop, if◌then◌else◌, length, map, pos, slice_set};
 ghost use Rattle.il_image.specs.Timers.{first_state};
 ghost use Rattle.il_image.specs.Values as values;
-ghost use Rattle.il_scan.specs.Scans as scans;
-ghost use Rattle.il_scan.specs.Scans.{writable_count};
+ghost use Rattle.il_scan.specs.PointPlaces as places;
+ghost use Rattle.il_scan.specs.PointPlaces.{writable_count};
 ghost use Rattle.il_scan.specs.Standing.{AreWords};
-ghost use Rattle.il_scan.specs.Places.{AllBelow, is_true, output_value, read_places, with_words, write_places};
+ghost use Rattle.il_scan.specs.Places.{is_true, output_value};
+ghost use Rattle.il_scan.specs.PointPlaces.{AllBelow, read_places, with_words, write_places};
 ghost use Rattle.il_scan.specs.Words.{AreTyped, slot_at, value_at, words_of};
 
 use crate::points::Inputs;
@@ -17,14 +18,14 @@ use std::alloc::{AllocError, Global};
 
 /// Whether the value is one of the type.
 fn is_of(elementary: ElementaryType, value: Value) -> bool
-    ensures { result ≡ scans.is_of elementary value }
+    ensures { result ≡ places.is_of elementary value }
 {
     value.type_of() == elementary && Value::of(elementary, value.number()).is_some()
 }
 
 /// Whether the first of the inputs is there, and is of the type.
 fn begins_with(elementary: ElementaryType, inputs: &[Value]) -> bool
-    ensures { result ≡ scans.begins_with elementary inputs.now }
+    ensures { result ≡ places.begins_with elementary inputs.now }
 {
     match inputs {
         [input, ..] => is_of(elementary, *input),
@@ -44,7 +45,7 @@ fn behind(inputs: &[Value]) -> &[Value]
 
 /// Whether there is one input for each point that may only be read, in their order, of its type.
 pub(crate) fn are_inputs(points: &[ImagePoint], inputs: &[Value]) -> bool
-    ensures { result ≡ scans.are_inputs points.now inputs.now }
+    ensures { result ≡ places.are_inputs points.now inputs.now }
 {
     let mut rest = points;
     let mut left = inputs;

@@ -1,6 +1,6 @@
 // The operand stack: at most 32 words, which contracts see with the top first.
 ghost use Rattle.std.specs.Prelude.{◌≡◌, ◌<◌, ◌∷◌, [], drop, length};
-ghost use Rattle.il_scan.specs.Words as spec;
+ghost use Rattle.il_scan.specs.Working as spec;
 
 use arrayvec::ArrayVec;
 use std::marker::Model;

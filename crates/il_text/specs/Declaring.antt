@@ -1,4 +1,4 @@
--- The declarations that a list of names makes after others.
+-- Inner: the declarations that a list of names makes after others.
 use Rattle.std.specs.Prelude.{ℕ, Bool, List, ◌++◌, map, Option, option_map}
 use Rattle.il_text.specs.Forms.{names_from}
 use Rattle.il_text.specs.Listing.{Declared}

@@ -1,4 +1,4 @@
--- What the durations of the code stand for.
+-- Inner: what the durations of the code stand for.
 use Rattle.std.specs.Prelude.{ℕ, ◌^◌, Option, option_map, min}
 use Rattle.il_text.specs.Literals.{Duration}
 use Rattle.il_text.specs.declared.literal.Duration as code

@@ -1,4 +1,4 @@
--- The parts of the code's lines.
+-- Inner: the parts of the code's lines.
 use Rattle.std.specs.Prelude.{Bool, false, List, [], ◌∷◌, Option, Some, None}
 use Rattle.il_text.specs.Forms.{declared_names}
 use Rattle.il_text.specs.Listing.{load}

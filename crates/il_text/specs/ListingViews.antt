@@ -1,4 +1,4 @@
--- What the lines so far stand for in the code.
+-- Inner: what the lines so far stand for in the code.
 use Rattle.std.specs.Prelude.{map, reverse}
 use Rattle.il_text.specs.Reading.{Read}
 use Rattle.il_text.specs.Steps.{Opened, Reached}

@@ -1,4 +1,4 @@
--- What is left to read, at one place of a text.
+-- Inner: what is left to read, at one place of a text.
 use Rattle.std.specs.Prelude.{ℕ, ◌+◌, List, [], ◌++◌, map, drop, Result}
 use Rattle.il_text.specs.Listing.{PlainProgram}
 use Rattle.il_text.specs.ListingViews.{read_of}

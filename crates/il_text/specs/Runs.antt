@@ -1,4 +1,4 @@
--- What the private functions find.
+-- Inner: what the private functions find.
 use Rattle.std.specs.Prelude.{◌≡◌, ◌<◌, ◌≤◌, ◌+◌, ◌-◌, ◌^◌, ◌==◌, ◌&&◌, not, Bool, ℕ, true, false, List, ◌∷◌, length, drop, slice_index, slice_range, Option, option_map, min}
 use Rattle.std.specs.Char.{to_ascii_uppercase}
 use Rattle.std.specs.Str.{byte}

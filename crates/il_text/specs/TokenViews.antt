@@ -1,4 +1,4 @@
--- The plain data that tokens and pieces of the code stand for.
+-- Inner: the plain data that tokens and pieces of the code stand for.
 use Rattle.std.specs.Prelude.{List, map}
 use Rattle.il_text.specs.Tokens.{Symbol, name, frame_word, type_word, literal, mnemonic_word, mark_symbol, Piece, blank, line_end, token, bad_token, bad_literal}
 use Rattle.il_text.specs.declared.token.Token.{Token}

@@ -1,4 +1,4 @@
--- What each reserved word is in a line (IEC 61131-3:2003, annex B and table 52).
+-- Inner: what each reserved word is in a line (IEC 61131-3:2003, annex B and table 52).
 use Rattle.std.specs.Prelude.{ℕ, true, false, List, Option, option_map}
 use Rattle.bay_base.specs.Words.{reserved_of}
 use Rattle.bay_base.specs.declared.types.ElementaryType.TheVariants as elementary

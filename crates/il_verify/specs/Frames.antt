@@ -1,4 +1,4 @@
--- What the code keeps of places that are still to come, and what one instruction makes of it.
+-- Inner: what the code keeps of places that are still to come, and what one instruction makes of it.
 use Rattle.std.specs.Prelude.{ℕ, ◌≡◌, ◌≢◌, ◌+◌, ◌<◌, ◌≤◌, ◌==◌, ◌⊎◌, ◌↔◌, Bool, true, false, List, [], ◌∷◌, length, reverse, Option, Some, None, option_and_then, option_map, slice_get, if◌then◌else◌}
 use Rattle.il_image.specs.declared.instr.Instr.{Instr}
 use Rattle.il_image.specs.declared.instr.Instr.TheVariants.{Halt, Push, Drop, Slot, Not, Combine, Compute, Compare, Widen, Jump, Timer}

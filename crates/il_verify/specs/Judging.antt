@@ -1,5 +1,5 @@
 -- The faults of one instruction by itself, on the kinds before it, in the format's order.
-use Rattle.std.specs.Prelude.{ℕ, Bool, false, not, List, length, nat_lt, slice_get, Option, Some, None, is_none, option_map, unwrap_or, if◌then◌else◌}
+use Rattle.std.specs.Prelude.{ℕ, Bool, false, not, List, length, nat_lt, slice_get, Option, Some, None, option_map, unwrap_or, if◌then◌else◌}
 use Rattle.bay_base.specs.declared.types.ElementaryType.TheVariants as elementary
 use Rattle.il_image.specs.declared.arithmetic.Operation.{Operation}
 use Rattle.il_image.specs.declared.arithmetic.Operation.TheVariants.{Add}
@@ -22,15 +22,7 @@ use Rattle.il_verify.specs.Slots.{types_of}
 abbrev pub missing : ℕ → ℕ → Instr → Option VerifyFault
 missing slots timers (Slot slot_use n) = if nat_lt n slots then None else Some NoSlot
 missing slots timers (Timer timer_use n) = if nat_lt n timers then None else Some NoTimer
-missing slots timers Halt = None
-missing slots timers (Push v) = None
-missing slots timers Drop = None
-missing slots timers Not = None
-missing slots timers (Combine c) = None
-missing slots timers (Compute o w) = None
-missing slots timers (Compare c) = None
-missing slots timers (Widen w) = None
-missing slots timers (Jump when distance) = None
+missing slots timers other = None
 
 -- the number of values that an instruction takes or looks at
 abbrev pub operands : Instr → ℕ
@@ -58,23 +50,20 @@ operands (Timer LoadElapsed n) = 0
 -- the instruction that takes the same, but any divisor
 abbrev pub undivided : Instr → Instr
 undivided (Compute o w) = Compute Add w
-undivided Halt = Halt
-undivided (Push v) = Push v
-undivided Drop = Drop
-undivided (Slot slot_use n) = Slot slot_use n
-undivided Not = Not
-undivided (Combine c) = Combine c
-undivided (Compare c) = Compare c
-undivided (Widen w) = Widen w
-undivided (Jump when distance) = Jump when distance
-undivided (Timer timer_use n) = Timer timer_use n
+undivided other = other
+
+-- the kinds behind an instruction, where it is allowed on these
+abbrev pub effect_on : List UsedSlot → ℕ → List Kind → Instr → Option (List Kind)
+effect_on slots timers kinds i = effect (types_of slots) timers i kinds
 
 -- a value is of a wrong kind where the instruction is not allowed with any divisor, and else only the divisor may be zero
 abbrev pub unfit : Option (List Kind) → Option (List Kind) → Option VerifyFault
-unfit with_any actual = if is_none with_any then Some WrongKind else (if is_none actual then Some ZeroDivisor else None)
+unfit None actual = Some WrongKind
+unfit (Some with_any) None = Some ZeroDivisor
+unfit (Some with_any) (Some actual) = None
 
 abbrev pub misfit : List UsedSlot → ℕ → Instr → List Kind → Option VerifyFault
-misfit slots timers i kinds = unfit (effect (types_of slots) timers (undivided i) kinds) (effect (types_of slots) timers i kinds)
+misfit slots timers i kinds = unfit (effect_on slots timers kinds (undivided i)) (effect_on slots timers kinds i)
 
 -- what the contracts of the code's parts cite: a BOOL, and an operation of two numbers
 abbrev pub truth : Kind
@@ -92,16 +81,7 @@ writes_read_only slots (Slot Load n) = false
 writes_read_only slots (Slot Store n) = is_read_only slots n
 writes_read_only slots (Slot SetIf n) = is_read_only slots n
 writes_read_only slots (Slot ResetIf n) = is_read_only slots n
-writes_read_only slots Halt = false
-writes_read_only slots (Push v) = false
-writes_read_only slots Drop = false
-writes_read_only slots Not = false
-writes_read_only slots (Combine c) = false
-writes_read_only slots (Compute o w) = false
-writes_read_only slots (Compare c) = false
-writes_read_only slots (Widen w) = false
-writes_read_only slots (Jump when distance) = false
-writes_read_only slots (Timer timer_use n) = false
+writes_read_only slots other = false
 
 -- more than 32 values lie on the stack behind the instruction
 abbrev pub is_full : Option (List Kind) → Bool
@@ -123,4 +103,4 @@ fault_of slots timers i kinds =
     or_else where_so (nat_lt (length kinds) (operands i)) StackEmpty
     or_else misfit slots timers i kinds
     or_else where_so (writes_read_only slots i) BadBinding
-    or_else where_so (is_full (effect (types_of slots) timers i kinds)) StackFull
+    or_else where_so (is_full (effect_on slots timers kinds i)) StackFull

@@ -1,4 +1,4 @@
--- What the pass over the places keeps count of.
+-- Inner: what the pass over the places keeps count of.
 use Rattle.std.specs.Prelude.{ℕ, Bool, max, cond}
 
 -- the budget after a place, which may be a HALT

@@ -1,4 +1,4 @@
--- The number of octets of an instruction, by its opcode.
+-- Inner: the number of octets of an instruction, by its opcode.
 use Rattle.std.specs.Prelude.{ℕ, suc}
 use Rattle.il_image.specs.declared.opcode.Opcode.{Opcode}
 use Rattle.il_image.specs.declared.opcode.Opcode.TheVariants.{Halt, Push, Drop, Slot, Not, Combine, Compute, Compare, Widen, Jump, Timer}

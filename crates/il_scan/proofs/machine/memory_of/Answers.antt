@@ -3,8 +3,8 @@ use Rattle.std.specs.Prelude.{map}
 use Rattle.il_image.specs.declared.image.ImagePoint.{ImagePoint}
 use Rattle.il_image.specs.declared.timer.TimerKind.{TimerKind}
 use Rattle.il_image.specs.Timers.{first_state}
-use Rattle.il_scan.specs.Places.{read_places, write_places}
-use Rattle.il_scan.specs.Scans.{writable_count}
+use Rattle.il_scan.specs.PointPlaces.{read_places, write_places}
+use Rattle.il_scan.specs.PointPlaces.{writable_count}
 use Rattle.il_scan.proofs.ScanLemmas.{first_held, held_at_first}
 use Rattle.il_scan.proofs.machine.memory_of.Goals as goal
 

@@ -2,9 +2,10 @@ use Rattle.std.proofs.Common.{ℕ, List, length, map, sym, ap, subst, ◌∙◌,
 use Rattle.il_image.specs.Values.{type_of}
 use Rattle.il_image.specs.declared.image.ImagePoint.{ImagePoint}
 use Rattle.il_image.specs.declared.value.Value.{Value}
-use Rattle.il_scan.specs.Places.{AllBelow, output_value}
+use Rattle.il_scan.specs.Places.{output_value}
+use Rattle.il_scan.specs.PointPlaces.{AllBelow}
 use Rattle.il_scan.specs.Scans.{Scans, read_only, type_of_point}
-use Rattle.il_scan.specs.Standing.{held}
+use Rattle.il_scan.specs.Scans.{held}
 use Rattle.il_scan.proofs.PlaceLemmas.{are_values, outputs_placed, so_many_writes, types_of, writes_below}
 use Rattle.il_scan.proofs.ScanLemmas.{points_words}
 use Rattle.il_scan.proofs.SlotLemmas.{held_points, outputs_are}

@@ -1,7 +1,7 @@
 use Rattle.std.proofs.Common.{ℕ, List, length, map, refl, sym, ap, subst, ◌∙◌, arith}
 use Rattle.bay_base.specs.declared.types.ElementaryType.{ElementaryType}
 use Rattle.il_image.specs.Values.{type_of}
-use Rattle.il_scan.specs.Places.{AllBelow}
+use Rattle.il_scan.specs.PointPlaces.{AllBelow}
 use Rattle.il_scan.specs.Words.{AreTyped, words_of}
 use Rattle.il_scan.proofs.PlaceLemmas.{inputs_taken, reads_below, so_many_types}
 use Rattle.il_scan.proofs.ScanLemmas.{held_taken, scanned}

@@ -1,7 +1,7 @@
 use Rattle.std.proofs.Common.{◌<◌, List, ℕ, ℤ, length, subst, sym, ap, arith}
 use Rattle.il_image.specs.Octets.{AreOctets}
 use Rattle.il_scan.specs.Standing.{first_state}
-use Rattle.il_scan.specs.Words.{words}
+use Rattle.il_scan.specs.Working.{words}
 use Rattle.il_scan.proofs.RunLemmas.{Comes, comes_next, forward, run_ends, starts}
 use Rattle.il_scan.proofs.run.run.Goals as goal
 

@@ -2,7 +2,7 @@ use Rattle.std.proofs.Common.{subst, sym, ap, ◌∙◌}
 use Rattle.std.specs.Prelude.{IsSome, List, ℕ}
 use Rattle.il_image.specs.Octets.{AreOctets}
 use Rattle.il_image.specs.Reading.{instr_at}
-use Rattle.il_scan.specs.Words.{words}
+use Rattle.il_scan.specs.Working.{words}
 use Rattle.il_scan.proofs.TurnLemmas.{ready_at, some_at, turned_at}
 use Rattle.il_scan.proofs.run.turn.Goals as goal
 

@@ -1,5 +1,5 @@
 use Rattle.std.proofs.Common.{◌≡◌, ◌++◌, drop}
-use Rattle.il_scan.specs.Places.{read_places, write_places}
+use Rattle.il_scan.specs.PointPlaces.{read_places, write_places}
 use Rattle.il_scan.proofs.slots.places_of.Given as goal
 
 abbrev pub invariant-loop-place : goal.invariant-loop-place

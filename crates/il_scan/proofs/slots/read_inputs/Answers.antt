@@ -1,6 +1,6 @@
 use Rattle.std.proofs.Common.{◌+◌, drop, length, refl, sym, ap, ◌∙◌}
 use Rattle.il_image.specs.Values.{type_of}
-use Rattle.il_scan.specs.Places.{with_words}
+use Rattle.il_scan.specs.PointPlaces.{with_words}
 use Rattle.il_scan.specs.Words.{words_of}
 use Rattle.il_scan.proofs.PlaceLemmas.{below_at, put_step, typed_more}
 use Rattle.il_scan.proofs.slots.read_inputs.Goals as goal

@@ -1,5 +1,5 @@
 use Rattle.std.proofs.Common.{◌≡◌, drop, take}
-use Rattle.il_scan.specs.Places.{with_words}
+use Rattle.il_scan.specs.PointPlaces.{with_words}
 use Rattle.il_scan.specs.Words.{AreTyped, words_of}
 use Rattle.il_scan.proofs.slots.read_inputs.Given as goal
 

@@ -1,9 +1,0 @@
-use Rattle.std.proofs.lemmas.Result.{err_from_is_err_and}
-use Rattle.bay_mms.specs.Tags.{constructed}
-use Rattle.bay_mms.proofs.ResponseLemmas.{around_fault, fault_left}
-use Rattle.bay_mms.proofs.response.put_name_list.Goals as goal
-
-pub returns-in_err-put_names : goal.returns-in_err-put_names
-returns-in_err-put_names c =
-    let p = err_from_is_err_and c.from_residual.result c.from_residual.ensures.1 in
-    rw (p.1, p.2) (fault_left c.in_err-put_names.field-0.0 _ _ (around_fault c.in_err-put_names.field-0.0 (constructed 0) _ c.in_err-put_names.ensures))

@@ -1,0 +1,57 @@
+-- Inner: how the code goes over the points of an image: their places, and the test of inputs.
+use Rattle.std.specs.Prelude.{ℕ, ℤ, ◌≡◌, ◌+◌, ◌<◌, ◌&&◌, Bool, true, false, is_some, List, [], ◌∷◌, drop, slice_get, slice_set, Some, if◌then◌else◌}
+use Rattle.bay_base.specs.Types.{same_type}
+use Rattle.bay_base.specs.declared.types.ElementaryType.{ElementaryType}
+use Rattle.il_image.specs.Images.{IsValue}
+use Rattle.il_image.specs.Values.{number_of, type_of, value_of}
+use Rattle.il_image.specs.declared.image.ImagePoint.{ImagePoint}
+use Rattle.il_image.specs.declared.value.Value.{Value}
+
+-- ---- places
+
+-- the places of the points that may only be read, where the first point's place is n
+abbrev pub read_places : ℕ → List ImagePoint → List ℕ
+read_places n [] = []
+read_places n (p ∷ points) = if p.writable then read_places (n + 1) points else n ∷ read_places (n + 1) points
+
+-- the places of the points that may be written
+abbrev pub write_places : ℕ → List ImagePoint → List ℕ
+write_places n [] = []
+write_places n (p ∷ points) = if p.writable then n ∷ write_places (n + 1) points else write_places (n + 1) points
+
+-- the slots with words at these places
+abbrev pub with_words : List ℕ → List ℤ → List ℤ → List ℤ
+with_words [] words slots = slots
+with_words (n ∷ places) [] slots = slots
+with_words (n ∷ places) (w ∷ words) slots = with_words places words (slice_set slots n w)
+
+-- Each place is below the bound.
+abbrev pub AllBelow : ℕ → List ℕ → Type 0
+AllBelow most [] = Unit {0}
+AllBelow most (n ∷ places) = (n < most) × AllBelow most places
+
+-- ---- inputs and outputs
+
+-- Each is a value of its type.
+abbrev pub AreValues : List Value → Type 0
+AreValues values = (k : ℕ) (v : Value) → slice_get values k ≡ Some v → IsValue v
+
+-- The value is one of the type.
+abbrev pub is_of : ElementaryType → Value → Bool
+is_of t v = same_type (type_of v) t && is_some (value_of t (number_of v))
+
+-- the first of the inputs is of the type
+abbrev pub begins_with : ElementaryType → List Value → Bool
+begins_with t [] = false
+begins_with t (input ∷ inputs) = is_of t input
+
+-- the test of `AreInputs`
+abbrev pub are_inputs : List ImagePoint → List Value → Bool
+are_inputs [] [] = true
+are_inputs [] (input ∷ inputs) = false
+are_inputs (p ∷ points) inputs = if p.writable then are_inputs points inputs else (begins_with p.elementary inputs && are_inputs points (drop 1 inputs))
+
+-- the number of points that may be written
+abbrev pub writable_count : List ImagePoint → ℕ
+writable_count [] = 0
+writable_count (p ∷ points) = (if p.writable then 1 else 0) + writable_count points
