@@ -1,4 +1,6 @@
+pub mod AcceptLemmas
 pub mod ApartLemmas
+pub mod CommandLemmas
 pub mod ConnectionLemmas
 pub mod LoadLemmas
 pub mod MeaningLemmas

@@ -6,7 +6,9 @@ pub use Rattle.il_image.specs.Decoding
 pub use Rattle.il_image.specs.Images
 pub use Rattle.il_text.specs.Reading
 -- Its own definitions.
+pub mod Accepts
 pub mod Code
+pub mod Commands
 pub mod Connections
 pub mod Device
 pub mod Hearing

@@ -4,6 +4,7 @@ ghost use Rattle.bay_transport.specs.Feeding.{IsGoing};
 ghost use Rattle.il_check.specs.Program.{Checked};
 ghost use Rattle.il_image.specs.Images.{encoded};
 ghost use Rattle.il_image.specs.declared.opcode.Version.TheVariants.{Two};
+ghost use Rattle.bay_device.specs.Commands.{AllCommanded, AreCommanded};
 ghost use Rattle.bay_device.specs.LookUps.{switch_place, input_place, meter_place, enabled_of};
 ghost use Rattle.bay_device.specs.Meaning.{AllMean, Halting, HaltsAt, MeansAt, Runs, is_refused};
 ghost use Rattle.bay_device.specs.Outcomes.{closed, closed_by, connection_at, event_outcome, outcome, place_of, recv_after};
@@ -301,6 +302,8 @@ impl Device {
         ensures steps { Steps now event.entry self.old result self.new }
         // an event without octets has none, and takes no memory.
         ensures sure { IsWithoutOctets event.entry → Gives (outcome None now event.entry self.old) result self.new }
+        // Each command is one that the interlocking releases, on a fresh scan, while no switch is operating, and comes with its reply.
+        ensures commanded { IfOk result (AreCommanded now self.old) }
         // A scan halts without a trap within the budget,
         ensures halts { is_refused now self.old ≡ false → HaltsAt now event.entry self.old }
         // and on a device that runs a text it does what the text means.
@@ -318,6 +321,9 @@ impl Device {
         // There are choices with which the answers and the device are the outcome, and each scan halts without a trap within the budget;
         ensures ok { IfOk result (λ answers. Halting events.now self.old answers.items self.new) }
         ensures err { OnErr result (self.new ≡ self.old) }
+        // each command is one that the interlocking releases, on a fresh scan, while no switch is operating, and comes with its reply,
+        // whatever the choices;
+        ensures commanded { (choices : List (Option ℕ)) → AllCommanded choices events.now self.old }
         // and on a device that runs a text the tree then holds what the text means, whatever the choices.
         ensures means { (c : Checked) → Runs c self.old → (choices : List (Option ℕ)) → AllMean c choices events.now self.old }
         ensures runs { (c : Checked) → Runs c self.old → Runs c self.new }

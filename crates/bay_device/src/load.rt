@@ -18,10 +18,11 @@ ghost use Rattle.il_compile.specs.Compiled.{compiled_of};
 ghost use Rattle.il_verify.specs.Refusals.{IsRefusal};
 ghost use Rattle.il_verify.specs.Verdicts.{IsVerified};
 ghost use Rattle.il_verify.specs.declared.fault.VerifyFault.{VerifyFault};
+ghost use Rattle.bay_device.specs.Accepts.{IsRight};
 ghost use Rattle.bay_device.specs.Load.{initial_device, checked_in, of_compiled, of_checked, of_program, of_bay, verify_refusal, Loads, LoadsImage, LoadsRead};
 ghost use Rattle.bay_device.specs.Meaning.{Runs};
 ghost use Rattle.bay_device.specs.StateView.{state_view};
-ghost use Rattle.bay_device.specs.declared.fault.LoadFault.TheVariants.{OutOfMemory};
+ghost use Rattle.bay_device.specs.declared.fault.LoadFault.TheVariants.{OutOfMemory, Refused};
 
 use crate::device::Device;
 use crate::fault::LoadFault;
@@ -193,16 +194,28 @@ fn load_text(alloc: Global, bay: Bay, logic: &str) -> Result<Device, LoadFault>
     load_program(alloc, bay, &program)
 }
 
+/// The device of the texts of a bay file and a program, stage by stage.
+fn load_texts(alloc: Global, bay: &str, logic: &str) -> Result<Device, LoadFault>
+    ensures device { Gives OutOfMemory (λ device. device) result (of_bay (bay_of bay.now) (program_of logic.now)) }
+    ensures runs { IfOk result (λ device. (c : Checked) × (checked_in (bay_of bay.now) (program_of logic.now) ≡ Ok c) × Runs c device) }
+{
+    let bay = read_bay(alloc, bay)?;
+    load_text(alloc, bay, logic)
+}
+
 /// The device of a bay file and a program, before its first event. A fault of the bay file (50 to 55) comes
 /// before one of the program's text (60 to 64), that before one of its checks (70 to 79), and that before 85, where the
 /// program's image would be too long.
 pub fn load(alloc: Global, bay: &str, logic: &str) -> Result<Device, LoadFault>
     ensures device { Gives OutOfMemory (λ device. device) result (of_bay (bay_of bay.now) (program_of logic.now)) }
+    // Accepted is exactly what is right: a bay file, and a text that reads as a program which is right with its points; but for
+    // memory, and for an image that would be too long.
+    ensures accepted { IfOk result (λ _. IsRight bay.now logic.now) }
+    ensures refused { IfErr result (λ e. e ≢ OutOfMemory → IsRight bay.now logic.now → e ≡ Refused 85 0) }
     // The device runs the program that the text comes to.
     ensures runs { IfOk result (λ device. (c : Checked) × (checked_in (bay_of bay.now) (program_of logic.now) ≡ Ok c) × Runs c device) }
 {
-    let bay = read_bay(alloc, bay)?;
-    load_text(alloc, bay, logic)
+    load_texts(alloc, bay, logic)
 }
 
 /// The device of a bay and an image.

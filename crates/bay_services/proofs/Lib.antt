@@ -3,6 +3,7 @@ pub mod DecisionLemmas
 pub mod NameLemmas
 pub mod PlaceLemmas
 pub mod ReadLemmas
+pub mod ReleaseLemmas
 pub mod ReplyLemmas
 pub mod ShortLemmas
 pub mod ShownLemmas

@@ -4,6 +4,7 @@ pub mod Controls
 pub mod Entries
 pub mod Names
 pub mod Reads
+pub mod Released
 pub mod Replies
 pub mod Places
 pub mod Rows

@@ -1,9 +1,12 @@
 // Laws of what clients see of a bay. Each function does nothing, and its contract is the law.
-ghost use Rattle.std.specs.Prelude.{◌≡◌, ℕ, List, false};
+ghost use Rattle.std.specs.Prelude.{◌≡◌, ℕ, All, List, false};
 ghost use Rattle.std.specs.Str.{bytes_eq};
 ghost use Rattle.bay_control.specs.Decisions.{State};
 ghost use Rattle.bay_nodes.specs.Names.{control_names};
-ghost use Rattle.bay_services.specs.Bay.{ShowSelection};
+ghost use Rattle.bay_services.specs.Answers.{answered};
+ghost use Rattle.bay_services.specs.Bay.{Bay, ShowSelection};
+ghost use Rattle.bay_services.specs.Released.{IsReleased, Leaves};
+ghost use Rattle.bay_services.specs.declared.client.Client.{Client};
 ghost use Rattle.bay_tree.specs.Rows.{with_leaf_of};
 ghost use Rattle.bay_tree.specs.declared.leaf.Leaf.{Leaf};
 ghost use Rattle.bay_tree.specs.declared.row.Row.{Row};
@@ -12,4 +15,11 @@ ghost use Rattle.bay_tree.specs.declared.row.Row.{Row};
 pub fn selection_stays_shown()
     ensures { (controls : State) (count : ℕ) (rows : List Row) (name : List ℕ) (value : Leaf) → ((k : ℕ) → bytes_eq name (control_names k).selected ≡ false)
         → ShowSelection controls count rows → ShowSelection controls count (with_leaf_of name value rows) }
+{}
+
+/// Each command of an answer is one of an operate that was accepted while the last scan was fresh, the interlocking released it and no
+/// switch was operating; and no client changes what the interlocking releases, nor what is operating.
+pub fn commands_are_released()
+    ensures released { (c : Client) (pdu : List ℕ) (b : Bay) → All (IsReleased c b) (answered c pdu b).commands }
+    ensures leaves { (c : Client) (pdu : List ℕ) (b : Bay) → Leaves c.now b (answered c pdu b).after }
 {}

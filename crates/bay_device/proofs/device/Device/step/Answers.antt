@@ -1,11 +1,20 @@
-use Rattle.std.proofs.Common.{subst, sym}
+use Rattle.std.proofs.Common.{IfOk, Result, subst, sym}
+use Rattle.bay_device.specs.Commands.{AreCommanded}
 use Rattle.bay_device.specs.Meaning.{Runs}
+use Rattle.bay_device.specs.declared.event.Step.{Step}
+use Rattle.bay_device.specs.declared.fault.StepFault.{StepFault}
+use Rattle.bay_device.proofs.CommandLemmas.{step-commanded}
 use Rattle.bay_device.proofs.MeaningLemmas.{means-event, runs-still}
 use Rattle.bay_device.proofs.RecvLemmas.{one-outcome}
 use Rattle.bay_device.proofs.device.Device.step.Goals as goal
 
 pub returns-clause-sure : goal.returns-clause-sure
 returns-clause-sure c without = one-outcome c.args.now c.args.event c.args.self.now c.do_event.result c.do_event.new.self c.do_event.ensures.steps without
+
+pub returns-clause-commanded : goal.returns-clause-commanded
+returns-clause-commanded c =
+    let steps = c.do_event.ensures.steps in
+    subst (λ (r : Result Step StepFault). IfOk r (AreCommanded c.args.now c.args.self.now)) (sym steps.answered) (step-commanded steps.choice c.args.now c.args.event c.args.self.now)
 
 pub returns-clause-means : goal.returns-clause-means
 returns-clause-means c program runs =

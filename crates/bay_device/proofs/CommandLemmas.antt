@@ -1,0 +1,167 @@
+-- Each command of a step is released.
+use Rattle.std.proofs.Common.{◌≡◌, ◌≢◌, ℕ, zero, suc, Bool, true, false, cond, nat_lt, List, [], ◌∷◌, ◌++◌, All, map, slice_get, Option, Some, None, Result, Ok, Err, IfOk, refl, ap, sym, ◌∙◌, arith}
+use Rattle.std.specs.List.{AllByRecursion}
+use Rattle.bay_tree.specs.Rows.{leaf_of}
+use Rattle.bay_tree.specs.declared.leaf.Dbpos.{Dbpos}
+use Rattle.bay_nodes.specs.Names.{interlocking_of}
+use Rattle.bay_nodes.specs.declared.switch.Switch.{Switch}
+use Rattle.bay_config.specs.declared.bay.MeterField.{MeterField}
+use Rattle.bay_process.specs.Values.{is_truth}
+use Rattle.bay_control.specs.Decisions as control
+use Rattle.bay_control.specs.declared.selection.Execution.{Execution}
+use Rattle.bay_connection.specs.Talk.{Indication, answers, tells, releases, ends as ends-heard, fails, Talk, Terms, indications, left_by, sending}
+use Rattle.bay_services.specs.Answers.{Answered, answered}
+use Rattle.bay_services.specs.Bay.{Bay}
+use Rattle.bay_services.specs.Released.{Leaves, releasing}
+use Rattle.bay_services.specs.Released as services
+use Rattle.bay_services.specs.declared.answer.Command.{Command}
+use Rattle.bay_services.specs.declared.client.Client.{Client}
+use Rattle.bay_services.proofs.ReleaseLemmas.{all-of, answer-sent, busy-still, commands-each, idle-now, leaves-none, leaves-then, leaves-with, request-leaves}
+use Rattle.bay_device.specs.Commands.{AllCommanded, AreCommanded, IsReleased}
+use Rattle.bay_device.specs.Device.{State, advanced, bay_of, ended_at, is_fresh}
+use Rattle.bay_device.specs.Hearing.{Done, Heard, client_at, heard, on_heard, said, sent_on, with_sent}
+use Rattle.bay_device.specs.Outcomes.{Outcome, close_outcome, connection_at, contact_outcome, event_outcome, input_outcome, last_moment, measure_outcome, nothing_done, octets_outcome, open_outcome, outcome, place_of, recv_outcome}
+use Rattle.bay_device.specs.declared.event.Event.{Event}
+use Rattle.bay_device.specs.declared.event.Event.TheVariants.{Open, Recv, Close, Contact, Input, Measure, Scan}
+use Rattle.bay_device.specs.declared.event.Sent.{Sent}
+use Rattle.bay_device.specs.declared.event.Step.{Step}
+use Rattle.bay_device.specs.declared.fault.StepFault.{StepFault}
+
+-- what is made of octets: nothing is operated that was not released before them
+record Makes (now : ℕ) (s : State) (d : Done) : Type 0 where
+  leaves : Leaves now (bay_of s) (bay_of d.state)
+  fresh : is_fresh now d.state ≡ is_fresh now s
+  released : AllByRecursion (IsReleased now s) d.commands
+  replied : d.commands ≢ [] → d.sent ≢ []
+
+begins : (now : ℕ) (s : State) → Makes now s (nothing_done (advanced now s))
+begins now s = record {
+  leaves = leaves-with now (bay_of s) (bay_of s) (control.advanced now s.controls) (leaves-none now (bay_of s)) (busy-still now s.controls);
+  fresh = refl;
+  released = tt;
+  replied = λ some. absurd (some refl);
+}
+
+enabled-before : (now k : ℕ) (on : Bool) (b d : Bay) → Leaves now b d → is_truth true (leaf_of (releasing k on) d.rows) ≡ true → is_truth true (leaf_of (releasing k on) b.rows) ≡ true
+enabled-before now k true b d left h = ap (is_truth true) (sym (left.enabled k _)) ∙ h
+enabled-before now k false b d left h = ap (is_truth true) (sym (left.enabled k _)) ∙ h
+
+released-before : (now a : ℕ) (terms : Terms) (s : State) (d : Done) (command : Command) → Makes now s d → services.IsReleased (client_at now a terms d.state) (bay_of d.state) command
+    → IsReleased now s command
+released-before now a terms s d command makes is = record {
+  fresh = sym makes.fresh ∙ is.fresh;
+  enabled = enabled-before now command.switch command.on (bay_of s) (bay_of d.state) makes.leaves is.enabled;
+  idle = idle-now now s.controls d.state.controls (control.advanced now s.controls).execution makes.leaves.busy is.idle refl;
+}
+
+all-before : (now a : ℕ) (terms : Terms) (s : State) (d : Done) (commands : List Command) → Makes now s d
+    → AllByRecursion (services.IsReleased (client_at now a terms d.state) (bay_of d.state)) commands → AllByRecursion (IsReleased now s) commands
+all-before now a terms s d [] makes all = tt
+all-before now a terms s d (x ∷ commands) makes all = (released-before now a terms s d x makes all.0, all-before now a terms s d commands makes all.1)
+
+joined : (now : ℕ) (s : State) (first more : List Command) → AllByRecursion (IsReleased now s) first → AllByRecursion (IsReleased now s) more → AllByRecursion (IsReleased now s) (first ++ more)
+joined now s [] more p q = q
+joined now s (x ∷ first) more p q = (p.0, joined now s first more p.1 q)
+
+-- an answer has something to send
+not-empty : {A B : Type 0} (f : A → B) (before : List B) (xs : List A) → xs ≢ [] → before ++ map f xs ≢ []
+not-empty f [] [] some = absurd (some refl)
+not-empty f [] (x ∷ xs) some = λ e. cc
+not-empty f (b ∷ before) xs some = λ e. cc
+
+makes-said : (now a : ℕ) (terms : Terms) (pdu : List ℕ) (s : State) (d : Done) → Makes now s d → Makes now s (said now a terms pdu d)
+makes-said now a terms pdu s d makes =
+    let c = client_at now a terms d.state in
+    let b = bay_of d.state in
+    record {
+      leaves = leaves-then now (bay_of s) b (answered c pdu b).after makes.leaves (request-leaves c pdu b);
+      fresh = makes.fresh;
+      released = joined now s d.commands (answered c pdu b).commands makes.released (all-before now a terms s d (answered c pdu b).commands makes (commands-each c pdu b));
+      replied = λ some. not-empty (λ x. sent_on a (sending terms x)) d.sent (answered c pdu b).sent (answer-sent c pdu b);
+    }
+
+snoc-some : (xs : List Sent) (x : Sent) → xs ++ x ∷ [] ≢ []
+snoc-some [] x e = cc
+snoc-some (y ∷ xs) x e = cc
+
+sent-some : (a : ℕ) (octets : List ℕ) (d : Done) → (with_sent a octets d).sent ≢ []
+sent-some a octets d = snoc-some d.sent (sent_on a octets)
+
+makes-sent : (now a : ℕ) (octets : List ℕ) (s : State) (d : Done) → Makes now s d → Makes now s (with_sent a octets d)
+makes-sent now a octets s d makes = record { leaves = makes.leaves; fresh = makes.fresh; released = makes.released; replied = λ some. sent-some a octets d }
+
+makes-one : (now a : ℕ) (i : Indication) (s : State) (d : Done) (later : Done → Heard) → Makes now s d → ((e : Done) → Makes now s e → Makes now s (later e).done)
+    → Makes now s (on_heard now a i d later).done
+makes-one now a (answers octets) s d later makes rest = rest _ (makes-sent now a octets s d makes)
+makes-one now a (tells terms pdu) s d later makes rest = rest _ (makes-said now a terms pdu s d makes)
+makes-one now a (releases octets) s d later makes rest = makes-sent now a octets s d makes
+makes-one now a ends-heard s d later makes rest = makes
+makes-one now a (fails code) s d later makes rest = makes
+
+makes-heard : (choice : Option ℕ) (now a : ℕ) (is : List Indication) (s : State) (d : Done) → Makes now s d → Makes now s (heard choice now a is d).done
+makes-heard None now a [] s d makes = makes
+makes-heard None now a (i ∷ is) s d makes = makes-one now a i s d (heard None now a is) makes (λ e m. makes-heard None now a is s e m)
+makes-heard (Some zero) now a [] s d makes = makes
+makes-heard (Some zero) now a (i ∷ is) s d makes = makes
+makes-heard (Some (suc n)) now a [] s d makes = makes
+makes-heard (Some (suc n)) now a (i ∷ is) s d makes = makes-one now a i s d (heard (Some n) now a is) makes (λ e m. makes-heard (Some n) now a is s e m)
+
+-- ---- events
+
+abbrev Commanded : ℕ → State → Result Step StepFault → Type 0
+Commanded now s answer = IfOk answer (AreCommanded now s)
+
+none-commanded : (now : ℕ) (s : State) (ended : Option Sent) (scan : Option ℕ) → AreCommanded now s (record { ended = ended; sent = []; commands = []; closed = None; scan = scan })
+none-commanded now s ended scan = record { released = λ k d lt. absurd (omega (arith, lt)); replied = λ some. absurd (some refl) }
+
+octets-commanded : (choice : Option ℕ) (now a : ℕ) (s : State) (talk : Talk) (octets : List ℕ) → Commanded now s (octets_outcome choice now a s talk octets).answer
+octets-commanded choice now a s talk [] = none-commanded now s (ended_at now s) None
+octets-commanded choice now a s talk (octet ∷ octets) =
+    let makes = makes-heard choice now a (indications talk (octet ∷ octets)) s (nothing_done (advanced now s)) (begins now s) in
+    record { released = all-of (IsReleased now s) _ makes.released; replied = makes.replied }
+
+recv-commanded : (choice : Option ℕ) (now a : ℕ) (octets : List ℕ) (s : State) (talk : Option Talk) → Commanded now s (recv_outcome choice now a octets s talk).answer
+recv-commanded choice now a octets s None = tt
+recv-commanded choice now a octets s (Some talk) = octets-commanded choice now a s talk octets
+
+open-commanded : (now a : ℕ) (s : State) (o : Option ℕ) (talk : Option Talk) → Commanded now s (open_outcome now a s o talk).answer
+open-commanded now a s None talk = tt
+open-commanded now a s (Some place) (Some talk) = tt
+open-commanded now a s (Some place) None = none-commanded now s (ended_at now s) None
+
+close-commanded : (now a : ℕ) (s : State) (talk : Option Talk) → Commanded now s (close_outcome now a s talk).answer
+close-commanded now a s None = tt
+close-commanded now a s (Some talk) = none-commanded now s (ended_at now s) None
+
+contact-commanded : (now k : ℕ) (position : Dbpos) (s : State) (o : Option Switch) → Commanded now s (contact_outcome now k position s o).answer
+contact-commanded now k position s None = tt
+contact-commanded now k position s (Some switch) = none-commanded now s _ None
+
+input-commanded : (now k : ℕ) (value : Bool) (s : State) (o : Option Bool) → Commanded now s (input_outcome now k value s o).answer
+input-commanded now k value s None = tt
+input-commanded now k value s (Some before) = none-commanded now s (ended_at now s) None
+
+measure-commanded : (now k : ℕ) (field : MeterField) (value : _) (s : State) (o : Option (List ℕ)) → Commanded now s (measure_outcome now k field value s o).answer
+measure-commanded now k field value s None = tt
+measure-commanded now k field value s (Some id) = none-commanded now s (ended_at now s) None
+
+event-commanded : (choice : Option ℕ) (now : ℕ) (event : Event) (s : State) → Commanded now s (event_outcome choice now event s).answer
+event-commanded choice now (Open a) s = open-commanded now a s (place_of a) (connection_at (place_of a) s)
+event-commanded choice now (Recv a octets) s = recv-commanded choice now a octets.now s (connection_at (place_of a) s)
+event-commanded choice now (Close a) s = close-commanded now a s (connection_at (place_of a) s)
+event-commanded choice now (Contact k position) s = contact-commanded now k position s (slice_get s.switches k)
+event-commanded choice now (Input k value) s = input-commanded now k value s (slice_get s.input_values k)
+event-commanded choice now (Measure k field value) s = measure-commanded now k field value s (slice_get s.meters k)
+event-commanded choice now Scan s = none-commanded now s (ended_at now s) _
+
+commanded-if : (b : Bool) (now : ℕ) (s : State) (x y : Outcome) → Commanded now s x.answer → Commanded now s y.answer → Commanded now s (cond b x y).answer
+commanded-if true now s x y p q = p
+commanded-if false now s x y p q = q
+
+pub step-commanded : (choice : Option ℕ) (now : ℕ) (event : Event) (s : State) → Commanded now s (outcome choice now event s).answer
+step-commanded choice now event s = commanded-if (nat_lt last_moment now) now s _ _ tt (commanded-if (nat_lt now s.moment) now s _ _ tt (event-commanded choice now event s))
+
+pub all-commanded : (choices : List (Option ℕ)) (events : List (ℕ × Event)) (s : State) → AllCommanded choices events s
+all-commanded choices [] s = tt
+all-commanded [] (e ∷ es) s = (step-commanded None e.0 e.1 s, all-commanded [] es (outcome None e.0 e.1 s).after)
+all-commanded (choice ∷ choices) (e ∷ es) s = (step-commanded choice e.0 e.1 s, all-commanded choices es (outcome choice e.0 e.1 s).after)

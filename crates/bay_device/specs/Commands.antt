@@ -1,0 +1,29 @@
+-- When a device issues a command.
+use Rattle.std.specs.Prelude.{ℕ, ◌≡◌, ◌≢◌, true, List, [], ◌∷◌, All, Option, None, IfOk}
+use Rattle.bay_tree.specs.Rows.{leaf_of}
+use Rattle.bay_process.specs.Values.{is_truth}
+use Rattle.bay_control.specs.Decisions as control
+use Rattle.bay_services.specs.Released.{releasing}
+use Rattle.bay_services.specs.declared.answer.Command.{Command}
+use Rattle.bay_device.specs.Device.{State, is_fresh}
+use Rattle.bay_device.specs.Outcomes.{outcome}
+use Rattle.bay_device.specs.declared.event.Event.{Event}
+use Rattle.bay_device.specs.declared.event.Step.{Step}
+
+-- A switch is operated at a moment while the last scan is fresh, its interlocking value (EnaCls for on, EnaOpn for off) is TRUE in the
+-- tree, and no switch of the bay is operating.
+pub record IsReleased (now : ℕ) (s : State) (command : Command) : Type 0 where
+  pub fresh : is_fresh now s ≡ true
+  pub enabled : is_truth true (leaf_of (releasing command.switch command.on) s.rows) ≡ true
+  pub idle : (control.advanced now s.controls).execution ≡ None
+
+-- The commands of a step are so, and come with replies.
+pub record AreCommanded (now : ℕ) (s : State) (step : Step) : Type 0 where
+  pub released : All (IsReleased now s) step.commands
+  pub replied : step.commands ≢ [] → step.sent ≢ []
+
+-- Those of each step of a list of events are.
+abbrev pub AllCommanded : List (Option ℕ) → List (ℕ × Event) → State → Type 0
+AllCommanded choices [] s = Unit {0}
+AllCommanded [] (e ∷ es) s = IfOk (outcome None e.0 e.1 s).answer (AreCommanded e.0 s) × AllCommanded [] es (outcome None e.0 e.1 s).after
+AllCommanded (choice ∷ choices) (e ∷ es) s = IfOk (outcome choice e.0 e.1 s).answer (AreCommanded e.0 s) × AllCommanded choices es (outcome choice e.0 e.1 s).after

@@ -1,0 +1,26 @@
+-- When a switch may be operated, and what of a bay no client changes (IEC 61850-7-4, CILO).
+use Rattle.std.specs.Prelude.{ℕ, ◌≡◌, ◌++◌, Bool, true, false, List, Some, None}
+use Rattle.bay_tree.specs.Rows.{leaf_of}
+use Rattle.bay_nodes.specs.Names.{closing_of, interlocking_of, opening_of}
+use Rattle.bay_process.specs.Values.{is_truth}
+use Rattle.bay_control.specs.Decisions.{advanced}
+use Rattle.bay_control.specs.declared.selection.Execution.{Execution}
+use Rattle.bay_services.specs.Bay.{Bay}
+use Rattle.bay_services.specs.declared.answer.Command.{Command}
+use Rattle.bay_services.specs.declared.client.Client.{Client}
+
+-- the name of the value that releases an operation: EnaCls for on, EnaOpn for off
+abbrev pub releasing : ℕ → Bool → List ℕ
+releasing k true = (closing_of k).value
+releasing k false = (opening_of k).value
+
+-- A switch is operated while the last scan is fresh, its interlocking value is TRUE in the tree, and no switch of the bay is operating.
+pub record IsReleased (c : Client) (b : Bay) (command : Command) : Type 0 where
+  pub fresh : c.fresh ≡ true
+  pub enabled : is_truth true (leaf_of (releasing command.switch command.on) b.rows) ≡ true
+  pub idle : (advanced c.now b.controls).execution ≡ None
+
+-- No client changes an interlocking value, nor what is operating.
+pub record Leaves (now : ℕ) (before after : Bay) : Type 0 where
+  pub enabled : (k : ℕ) (name : List ℕ) → leaf_of (interlocking_of k ++ name) after.rows ≡ leaf_of (interlocking_of k ++ name) before.rows
+  pub busy : (e : Execution) → (advanced now before.controls).execution ≡ Some e → (advanced now after.controls).execution ≡ Some e
