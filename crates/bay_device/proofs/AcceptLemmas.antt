@@ -6,7 +6,6 @@ use Rattle.bay_config.specs.declared.bay.Bay.{Bay}
 use Rattle.bay_config.specs.declared.fault.BayFault.{BayFault}
 use Rattle.il_text.specs.Listing.{PlainProgram}
 use Rattle.il_text.specs.Reading.{program_of}
-use Rattle.il_text.specs.Texts.{ReadsAs}
 use Rattle.il_text.specs.declared.fault.TextFault.{TextFault}
 use Rattle.il_check.specs.Checking.{checked_of}
 use Rattle.il_check.specs.Program.{Checked}
@@ -15,11 +14,10 @@ use Rattle.il_check.proofs.RightLemmas.{right_programs_pass}
 use Rattle.il_check.specs.declared.fault.CheckFault.{CheckFault}
 use Rattle.il_image.specs.Images.{Image}
 use Rattle.il_compile.specs.Compiled.{compiled_of, image_of, image_size}
-use Rattle.il_compile.specs.declared.fault.CompileFault.{CompileFault}
 use Rattle.il_compile.specs.declared.fault.CompileFault.TheVariants.{CodeTooLong}
 use Rattle.bay_device.specs.Accepts.{IsRight}
 use Rattle.bay_device.specs.Device.{State}
-use Rattle.bay_device.specs.Load.{check_refusal, checked_in, compile_refusal, of_bay, of_checked, of_compiled, of_program}
+use Rattle.bay_device.specs.Load.{check_refusal, checked_in, of_bay, of_checked, of_compiled, of_program}
 use Rattle.bay_device.specs.declared.fault.LoadFault.{LoadFault}
 use Rattle.bay_device.specs.declared.fault.LoadFault.TheVariants.{OutOfMemory, Refused}
 use Rattle.bay_device.specs.Meaning.{Runs}

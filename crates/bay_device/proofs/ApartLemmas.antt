@@ -10,7 +10,7 @@ use Rattle.bay_tree.specs.declared.leaf.Leaf.TheVariants as leaf
 use Rattle.bay_tree.specs.declared.leaf.Quality.{Quality}
 use Rattle.bay_tree.specs.declared.leaf.Quality.TheVariants.{Good}
 use Rattle.bay_nodes.specs.declared.switch.Switch.{Switch}
-use Rattle.bay_nodes.specs.Names.{StatusNames, SwitchNames, control_names, control_of, interlocking_of, node_of, opening_of, position_names, operation_names, opening_names, closing_names, switch_names, meter_names, total_names, phase_names}
+use Rattle.bay_nodes.specs.Names.{StatusNames, control_names, control_of, interlocking_of, node_of, opening_of, position_names, operation_names, opening_names, closing_names, switch_names, meter_names, total_names, phase_names}
 use Rattle.bay_nodes.specs.Node.{node_name}
 use Rattle.bay_config.specs.declared.bay.MeterField.{MeterField}
 use Rattle.bay_config.specs.declared.bay.MeterField.TheVariants.{TotW, TotVAr, Hz, PhaseA, PhaseB, PhaseC}
@@ -21,7 +21,7 @@ use Rattle.bay_process.specs.Scans.{outputs_put}
 use Rattle.bay_process.specs.Told.{AreEnabling, AreInterlocked}
 use Rattle.bay_process.specs.declared.rows.SwitchRows.{SwitchRows}
 use Rattle.bay_process.specs.declared.switch.BoundSwitch.{BoundSwitch}
-use Rattle.bay_process.specs.Values.{counted, is_operation, is_quality, is_truth, operation_counted, position_quality, rows_after_change, rows_after_contact, rows_after_measure, tells, tells_measure, with_enabled, with_output, with_status}
+use Rattle.bay_process.specs.Values.{counted, is_operation, operation_counted, position_quality, rows_after_change, rows_after_contact, rows_after_measure, tells, tells_measure, with_enabled, with_output, with_status}
 use Rattle.bay_control.specs.Decisions.{State}
 use Rattle.bay_services.specs.Bay.{ShowSelection}
 use Rattle.bay_services.proofs.ShownLemmas.{shown_kept}

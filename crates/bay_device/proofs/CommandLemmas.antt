@@ -1,21 +1,18 @@
 -- Each command of a step is released.
-use Rattle.std.proofs.Common.{◌≡◌, ◌≢◌, ℕ, zero, suc, Bool, true, false, cond, nat_lt, List, [], ◌∷◌, ◌++◌, All, map, slice_get, Option, Some, None, Result, Ok, Err, IfOk, refl, ap, sym, ◌∙◌, arith}
+use Rattle.std.proofs.Common.{◌≡◌, ◌≢◌, ℕ, zero, suc, Bool, true, false, cond, nat_lt, List, [], ◌∷◌, ◌++◌, map, slice_get, Option, Some, None, Result, IfOk, refl, ap, sym, ◌∙◌, arith}
 use Rattle.std.specs.List.{AllByRecursion}
 use Rattle.bay_tree.specs.Rows.{leaf_of}
 use Rattle.bay_tree.specs.declared.leaf.Dbpos.{Dbpos}
-use Rattle.bay_nodes.specs.Names.{interlocking_of}
 use Rattle.bay_nodes.specs.declared.switch.Switch.{Switch}
 use Rattle.bay_config.specs.declared.bay.MeterField.{MeterField}
 use Rattle.bay_process.specs.Values.{is_truth}
 use Rattle.bay_control.specs.Decisions as control
-use Rattle.bay_control.specs.declared.selection.Execution.{Execution}
-use Rattle.bay_connection.specs.Talk.{Indication, answers, tells, releases, ends as ends-heard, fails, Talk, Terms, indications, left_by, sending}
-use Rattle.bay_services.specs.Answers.{Answered, answered}
+use Rattle.bay_connection.specs.Talk.{Indication, answers, tells, releases, ends as ends-heard, fails, Talk, Terms, indications, sending}
+use Rattle.bay_services.specs.Answers.{answered}
 use Rattle.bay_services.specs.Bay.{Bay}
 use Rattle.bay_services.specs.Released.{Leaves, releasing}
 use Rattle.bay_services.specs.Released as services
 use Rattle.bay_services.specs.declared.answer.Command.{Command}
-use Rattle.bay_services.specs.declared.client.Client.{Client}
 use Rattle.bay_services.proofs.ReleaseLemmas.{all-of, answer-sent, busy-still, commands-each, idle-now, leaves-none, leaves-then, leaves-with, request-leaves}
 use Rattle.bay_device.specs.Commands.{AllCommanded, AreCommanded, IsReleased}
 use Rattle.bay_device.specs.Device.{State, advanced, bay_of, ended_at, is_fresh}

@@ -1,5 +1,5 @@
 -- The places of associations.
-use Rattle.std.proofs.Common.{◌≡◌, ◌<◌, ℕ, zero, suc, List, [], ◌∷◌, length, map, slice_get, slice_index_or, slice_set, unwrap_or, Option, None, Some, IfSome, refl, ap, sym, ◌∙◌, arith}
+use Rattle.std.proofs.Common.{◌≡◌, ℕ, zero, suc, List, [], ◌∷◌, length, slice_get, slice_index_or, slice_set, unwrap_or, Option, None, Some, IfSome, refl, ap, sym, ◌∙◌}
 use Rattle.bay_transport.specs.Feeding.{IsGoing}
 use Rattle.bay_connection.specs.Feeding.{Client}
 use Rattle.bay_connection.specs.Talk.{Talk}

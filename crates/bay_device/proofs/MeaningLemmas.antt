@@ -35,7 +35,7 @@ use Rattle.il_scan.specs.Scans.{Held, first_input, first_slots, first_value, out
 use Rattle.bay_connection.specs.Talk.{Talk, Indication, indications, left_by, answers, tells, releases, ends as ends-heard, fails}
 use Rattle.bay_device.specs.Device.{State, Ran, advanced, ending_at, inputs_of, point_value, ran_at, ran_of, scanned}
 use Rattle.bay_device.specs.Hearing.{Done, Heard, heard, on_heard}
-use Rattle.bay_device.specs.Outcomes.{Outcome, close_outcome, closed, connection_at, contact_outcome, event_outcome, input_outcome, last_moment, measure_outcome, nothing_done, octets_outcome, open_outcome, outcome, outcomes, place_of, recv_after, recv_outcome, with_connection}
+use Rattle.bay_device.specs.Outcomes.{Outcome, close_outcome, connection_at, contact_outcome, event_outcome, input_outcome, last_moment, measure_outcome, nothing_done, octets_outcome, open_outcome, outcome, outcomes, place_of, recv_after, recv_outcome, with_connection}
 use Rattle.bay_device.specs.declared.event.Why.{Why}
 use Rattle.bay_process.specs.Values.{with_outputs}
 use Rattle.bay_device.specs.Meaning.{AllMean, Means, MeansAt, Runs, memory_before, memory_of}

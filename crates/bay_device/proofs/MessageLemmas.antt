@@ -1,5 +1,5 @@
 -- What is made of an answer, and put back where there was no memory for it.
-use Rattle.std.proofs.Common.{◌≡◌, ◌<◌, ◌≤◌, ℕ, ◌+◌, List, [], ◌∷◌, ◌++◌, length, map, drop, take, get_or, Option, Some, None, IsSome, IfSome, Result, Ok, Err, refl, ap, sym, ◌∙◌, arith, append_assoc}
+use Rattle.std.proofs.Common.{◌≡◌, ◌<◌, ℕ, ◌+◌, List, [], ◌∷◌, ◌++◌, length, map, drop, take, get_or, Option, Some, None, IsSome, IfSome, Result, Ok, Err, refl, ap, sym, ◌∙◌, arith, append_assoc}
 use Rattle.std.proofs.lemmas.Grind.{common_steps}
 use Rattle.std.specs.Result.{OnErr, OnOk}
 use Rattle.bay_assoc.specs.declared.hearing.Link.{Link}

@@ -1,13 +1,13 @@
 -- A Recv, from what its octets come to.
-use Rattle.std.proofs.Common.{◌≡◌, ◌<◌, ℕ, List, [], ◌∷◌, length, Option, None, Some, IsSome, is_some, unwrap_or, Result, Ok, Err, refl, ap, sym, ◌∙◌, true, false, cond, nat_lt, slice_get, slice_set, arith}
+use Rattle.std.proofs.Common.{◌≡◌, ◌<◌, ℕ, List, [], ◌∷◌, length, Option, None, Some, is_some, Result, Ok, Err, refl, ap, sym, ◌∙◌, true, false, cond, nat_lt, slice_set, arith}
 use Rattle.std.proofs.lemmas.List.{set-set}
 use Rattle.std.specs.Result.{OnOk, IfErr, result_err}
-use Rattle.bay_connection.specs.Talk.{Talk, indications, left_by}
+use Rattle.bay_connection.specs.Talk.{Talk, left_by}
 use Rattle.bay_device.specs.Device.{State, advanced, ended_at}
-use Rattle.bay_device.specs.Hearing.{Done, Heard, heard}
+use Rattle.bay_device.specs.Hearing.{Done}
 use Rattle.bay_device.specs.HearingViews.{ComesTo}
-use Rattle.bay_device.specs.Outcomes.{Outcome, closed, closed_by, connection_at, event_outcome, last_moment, nothing_done, octets_outcome, outcome, place_of, refused, recv_after, recv_done, recv_outcome, with_connection, without_owner}
-use Rattle.bay_device.specs.Steps.{Gives, Hears, HearsFrom, IsWithoutOctets, Receives, Steps}
+use Rattle.bay_device.specs.Outcomes.{Outcome, closed_by, connection_at, event_outcome, last_moment, nothing_done, outcome, place_of, refused, recv_after, recv_done, recv_outcome, with_connection, without_owner}
+use Rattle.bay_device.specs.Steps.{Gives, HearsFrom, IsWithoutOctets, Receives, Steps}
 use Rattle.bay_device.specs.declared.event.Event.{Event}
 use Rattle.bay_device.specs.declared.event.Event.TheVariants.{Open, Recv, Close, Contact, Input, Measure, Scan}
 use Rattle.bay_device.specs.declared.fault.StepFault.TheVariants.{MomentTooLarge, TimeWentBack}

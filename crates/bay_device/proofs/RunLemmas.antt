@@ -1,9 +1,9 @@
 -- A run, event by event.
-use Rattle.std.proofs.Common.{◌≡◌, ℕ, ◌+◌, Bool, false, List, [], ◌∷◌, ◌++◌, length, Option, None, Result, refl, ap, sym, ◌∙◌, arith, append_assoc, append-nil}
+use Rattle.std.proofs.Common.{◌≡◌, ℕ, ◌+◌, false, List, [], ◌∷◌, ◌++◌, length, Option, Result, refl, ap, sym, ◌∙◌, arith, append_assoc, append-nil}
 use Rattle.bay_device.specs.Device.{State}
 use Rattle.bay_device.specs.Meaning.{AllHalt, Halting, HaltsAt, is_refused}
-use Rattle.bay_device.specs.Outcomes.{Outcome, outcome, outcomes}
-use Rattle.bay_device.specs.Steps.{AllSteps, Steps}
+use Rattle.bay_device.specs.Outcomes.{outcome, outcomes}
+use Rattle.bay_device.specs.Steps.{Steps}
 use Rattle.bay_device.specs.declared.event.Event.{Event}
 use Rattle.bay_device.specs.declared.event.Step.{Step}
 use Rattle.bay_device.specs.declared.fault.StepFault.{StepFault}

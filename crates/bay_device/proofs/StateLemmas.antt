@@ -1,6 +1,5 @@
 -- What a selection that is shown leaves of what the last scan told.
-use Rattle.std.proofs.Common.{◌≡◌, ◌≢◌, ℕ, zero, suc, ◌+◌, List, ◌++◌, codes, get_or, length, Option, refl, ap, sym, ◌∙◌, arith}
-use Rattle.bay_tree.specs.Rows.{leaf_of, with_leaf_of}
+use Rattle.std.proofs.Common.{◌≡◌, ℕ, zero, suc, ◌+◌, List, ◌++◌, codes, get_or, length, Option, refl, ap, sym, ◌∙◌, arith}
 use Rattle.bay_tree.specs.declared.leaf.Leaf.TheVariants as leaf
 use Rattle.bay_tree.specs.declared.row.Row.{Row}
 use Rattle.bay_nodes.specs.Names.{control_names, interlocking_of}
@@ -8,7 +7,6 @@ use Rattle.bay_nodes.specs.Node.{node_name}
 use Rattle.bay_control.specs.Decisions.{selected_switch, standing_of}
 use Rattle.bay_control.specs.Decisions as control
 use Rattle.bay_control.specs.declared.selection.Standing.{Standing}
-use Rattle.bay_process.specs.Layout.{switches_of}
 use Rattle.bay_process.specs.Told.{AreTold}
 use Rattle.bay_process.specs.declared.switch.Enabled.{Enabled}
 use Rattle.bay_process.proofs.ToldLemmas.{IsAway, Keeps, leaf-other, told-kept}

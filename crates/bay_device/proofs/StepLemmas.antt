@@ -1,5 +1,5 @@
 -- What a contact and a measured value make of a device.
-use Rattle.std.proofs.Common.{◌≡◌, ℕ, ℤ, Bool, not, ◌||◌, cond, List, Option, Some, None, ap, ◌∙◌}
+use Rattle.std.proofs.Common.{◌≡◌, ℕ, ℤ, Bool, not, ◌||◌, cond, List, Option, None, ap, ◌∙◌}
 use Rattle.bay_tree.specs.declared.row.Row.{Row}
 use Rattle.bay_tree.specs.declared.leaf.Dbpos.{Dbpos}
 use Rattle.bay_config.specs.declared.bay.MeterField.{MeterField}

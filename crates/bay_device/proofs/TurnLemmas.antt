@@ -1,5 +1,5 @@
 -- Octets heard turn by turn.
-use Rattle.std.proofs.Common.{◌≡◌, ◌≢◌, ℕ, zero, suc, ◌<◌, ◌≤◌, ◌+◌, List, [], ◌∷◌, ◌++◌, length, take, drop, Option, None, Some, Result, Ok, Err, refl, ap, sym, subst, ◌∙◌, arith, append-nil}
+use Rattle.std.proofs.Common.{◌≡◌, ◌≢◌, ℕ, zero, suc, ◌<◌, ◌+◌, List, [], ◌∷◌, ◌++◌, length, take, drop, Option, None, Some, refl, ap, sym, ◌∙◌, arith, append-nil}
 use Rattle.std.proofs.Math.ListN.{drop_of_length-le}
 use Rattle.std.proofs.lemmas.Grind.{common_steps}
 use Rattle.std.proofs.lemmas.List.{append_cancel_left}
@@ -8,7 +8,7 @@ use Rattle.bay_transport.specs.Doings.{Left, Going, Over, Broken}
 use Rattle.bay_transport.specs.Feeding.{IsGoing}
 use Rattle.bay_connection.specs.Talk.{Talk, Indication, answers, tells, releases, ends, fails, indications, left_by}
 use Rattle.bay_connection.specs.Feeding.{Comes, Feeds, FeedsFrom, IsContinued}
-use Rattle.bay_connection.proofs.CuttingLemmas.{indications-append, indications-take, left_by-append}
+use Rattle.bay_connection.proofs.CuttingLemmas.{indications-append, left_by-append}
 use Rattle.bay_connection.proofs.FeedingLemmas.{feeding-indications}
 use Rattle.bay_connection.proofs.GoingLemmas.{heard_going, nothing_going}
 use Rattle.bay_device.specs.Hearing.{Done, Heard, heard, on_heard}

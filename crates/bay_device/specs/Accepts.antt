@@ -1,5 +1,5 @@
 -- Which texts load accepts, said of what they are and not of how they are read.
-use Rattle.std.specs.Prelude.{ℕ, ◌≡◌, List, Result, Ok, Err}
+use Rattle.std.specs.Prelude.{ℕ, ◌≡◌, List, Result, Ok}
 use Rattle.bay_config.specs.Bay.{bay_of}
 use Rattle.bay_config.specs.declared.bay.Bay.{Bay}
 use Rattle.il_text.specs.Listing.{PlainProgram}

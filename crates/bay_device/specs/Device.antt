@@ -1,6 +1,6 @@
 -- What a device is: its bay, the program that interlocks it, and its clients; and what is done to it that no client asks for
 -- (IEC 61850-7-4: XCBR, XSWI, CSWI, CILO and MMXU; IEC 61850-7-3: status values and measured values).
-use Rattle.std.specs.Prelude.{ℕ, ℤ, ◌-◌, ◌==◌, Bool, false, not, ◌&&◌, ◌||◌, nat_lt, nat_le, List, [], length, map, slice_get, slice_set, unwrap_or, Option, None, Some, if◌then◌else◌}
+use Rattle.std.specs.Prelude.{ℕ, ℤ, ◌-◌, Bool, false, not, ◌&&◌, ◌||◌, nat_le, List, [], length, map, slice_get, slice_set, unwrap_or, Option, None, Some, if◌then◌else◌}
 use Rattle.bay_tree.specs.declared.row.Row.{Row}
 use Rattle.bay_tree.specs.declared.leaf.Dbpos.{Dbpos}
 use Rattle.bay_nodes.specs.declared.switch.Switch.{Switch}

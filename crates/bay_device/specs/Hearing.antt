@@ -1,5 +1,5 @@
 -- What the octets of a client make of a device: its PDUs in their order, each answered before the next is read.
-use Rattle.std.specs.Prelude.{ℕ, zero, suc, ◌==◌, List, [], ◌∷◌, ◌++◌, map, Option, None, Some, if◌then◌else◌}
+use Rattle.std.specs.Prelude.{ℕ, zero, suc, List, [], ◌∷◌, ◌++◌, map, Option, None, Some}
 use Rattle.bay_assoc.specs.Hears.{link_of}
 use Rattle.bay_assoc.specs.declared.hearing.Link.{Link}
 use Rattle.bay_connection.specs.Talk.{Indication, answers, tells, releases, ends, fails, Terms, sending}

@@ -1,5 +1,5 @@
 -- What the code has made of a device so far, and how octets are heard turn by turn.
-use Rattle.std.specs.Prelude.{ℕ, ◌≡◌, ◌≢◌, List, Option, Some, None}
+use Rattle.std.specs.Prelude.{ℕ, ◌≡◌, List, Option, Some, None}
 use Rattle.bay_control.specs.declared.selection.Standing.{Standing}
 use Rattle.bay_connection.specs.Talk.{Indication, Talk, indications}
 use Rattle.bay_connection.specs.Feeding.{IsContinued}

@@ -26,7 +26,7 @@ use Rattle.bay_device.specs.declared.fault.LoadFault.{LoadFault}
 use Rattle.bay_device.specs.declared.fault.LoadFault.TheVariants.{Refused, OutOfMemory}
 use Rattle.bay_control.specs.Decisions.{controls_of, initial}
 use Rattle.bay_services.specs.Bay.{shown}
-use Rattle.bay_process.specs.Sources.{source_of, sources_of}
+use Rattle.bay_process.specs.Sources.{sources_of}
 
 -- a device before its first event: nothing is selected, which its rows show, and nothing is operating, and no association is open
 abbrev pub initial_device : Bay → Image → State

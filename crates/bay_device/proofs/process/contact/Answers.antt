@@ -1,4 +1,4 @@
-use Rattle.std.proofs.Common.{◌≡◌, Some, ap, sym, ◌∙◌, slice_get, get_or, length, not}
+use Rattle.std.proofs.Common.{◌≡◌, ap, sym, ◌∙◌, get_or, length, not}
 use Rattle.bay_nodes.specs.Names.{SwitchNames, switch_names}
 use Rattle.bay_process.specs.Layout.{layout_of, switches_of}
 use Rattle.bay_process.specs.Values.{rows_after_contact, tells}

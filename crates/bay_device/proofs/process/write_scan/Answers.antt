@@ -1,4 +1,4 @@
-use Rattle.std.proofs.Common.{◌≡◌, ap, sym, ◌∙◌, length}
+use Rattle.std.proofs.Common.{◌≡◌, sym, length}
 use Rattle.bay_process.specs.Layout.{layout_of, switches_of}
 use Rattle.bay_process.specs.Scans.{outputs_put}
 use Rattle.bay_services.proofs.PlaceLemmas.{rows_kept}

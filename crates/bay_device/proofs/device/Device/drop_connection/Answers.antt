@@ -1,6 +1,5 @@
 use Rattle.std.proofs.Common.{ℕ, List, Option, Some, None, ap, sym, ◌∙◌}
 use Rattle.bay_connection.specs.Talk.{Talk}
-use Rattle.bay_device.specs.Device.{State}
 use Rattle.bay_device.specs.Outcomes.{closed, with_connection, without_owner}
 use Rattle.bay_device.specs.StateView.{state_view}
 use Rattle.bay_device.proofs.device.Device.drop_connection.Goals as goal

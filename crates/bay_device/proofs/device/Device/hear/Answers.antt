@@ -1,4 +1,4 @@
-use Rattle.std.proofs.Common.{◌≡◌, ℕ, List, Option, Some, None, slice_get, slice_set, unwrap_or, refl, subst, ap, sym, ◌∙◌}
+use Rattle.std.proofs.Common.{◌≡◌, ℕ, List, Option, Some, None, slice_get, unwrap_or, refl, subst, ap, sym, ◌∙◌}
 use Rattle.std.specs.Result.{result_err}
 use Rattle.bay_connection.specs.Talk.{Talk, left_by}
 use Rattle.bay_device.specs.Connections.{talk_in}

@@ -1,4 +1,4 @@
-use Rattle.std.proofs.Common.{◌≡◌, Option, Ok, Err, Result, slice_get, subst, ap, sym, ◌∙◌}
+use Rattle.std.proofs.Common.{Ok, Result, slice_get, subst, ap, sym, ◌∙◌}
 use Rattle.std.proofs.lemmas.Int.{to_z-of_z}
 use Rattle.std.proofs.lemmas.Result.{err_from_is_err_and}
 use Rattle.bay_device.specs.Device.{State}

@@ -1,4 +1,4 @@
-use Rattle.std.proofs.Common.{◌≡◌, ℕ, [], List, Option, Some, None, Ok, Result, slice_set, subst, ap, sym, ◌∙◌}
+use Rattle.std.proofs.Common.{◌≡◌, ℕ, List, Option, Some, None, Ok, Result, slice_set, subst, ap, sym, ◌∙◌}
 use Rattle.bay_connection.specs.Feeding.{Client}
 use Rattle.bay_connection.specs.Talk.{Talk}
 use Rattle.bay_device.specs.Device.{State, advanced}

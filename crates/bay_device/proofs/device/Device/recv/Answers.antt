@@ -1,6 +1,5 @@
-use Rattle.std.proofs.Common.{◌≡◌, ◌<◌, ℕ, [], List, length, Option, Some, Ok, Result, subst, ap, sym, ◌∙◌, arith}
+use Rattle.std.proofs.Common.{◌≡◌, ◌<◌, ℕ, [], length, Option, Some, Ok, Result, subst, ap, sym, ◌∙◌, arith}
 use Rattle.std.proofs.lemmas.Bool.Decides.{nat_tests}
-use Rattle.bay_connection.specs.Talk.{Talk}
 use Rattle.bay_device.specs.Device.{State, advanced, ended_at}
 use Rattle.bay_device.specs.Outcomes.{connection_at, place_of}
 use Rattle.bay_device.specs.StateView.{state_view}

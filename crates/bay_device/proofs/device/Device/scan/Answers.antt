@@ -1,8 +1,8 @@
-use Rattle.std.proofs.Common.{◌≡◌, ℕ, [], List, Option, Some, None, Ok, Result, subst, ap, sym, ◌∙◌}
+use Rattle.std.proofs.Common.{ℕ, [], List, Option, Some, None, Ok, Result, subst, ap, ◌∙◌}
 use Rattle.bay_services.specs.declared.answer.Command.{Command}
 use Rattle.bay_device.specs.Device.{State, advanced, ended_at, ran_at, scanned}
 use Rattle.bay_device.specs.Meaning.{Halts}
-use Rattle.bay_device.specs.Outcomes.{Outcome, scan_outcome}
+use Rattle.bay_device.specs.Outcomes.{scan_outcome}
 use Rattle.bay_device.specs.StateView.{state_view}
 use Rattle.bay_device.specs.Steps.{Gives}
 use Rattle.bay_device.specs.declared.event.Sent.{Sent}

@@ -1,6 +1,4 @@
-use Rattle.std.proofs.Common.{◌≡◌, ◌<◌, [], length, slice_get, Option, Some, Ok, ap, sym, ◌∙◌, arith}
-use Rattle.bay_nodes.specs.declared.switch.Switch.{Switch}
-use Rattle.bay_process.specs.Layout.{switches_of}
+use Rattle.std.proofs.Common.{◌≡◌, ◌<◌, [], length, slice_get, Option, Ok, ap, sym, ◌∙◌, arith}
 use Rattle.bay_device.specs.Device.{State, advanced, contact_taken, ended_at, reached_at}
 use Rattle.bay_device.specs.Outcomes.{Outcome, contact_outcome, or_else}
 use Rattle.bay_device.specs.StateView.{state_view}

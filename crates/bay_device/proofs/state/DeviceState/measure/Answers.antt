@@ -1,14 +1,14 @@
-use Rattle.std.proofs.Common.{◌≡◌, Bool, not, ◌||◌, slice_get, Option, Some, Ok, option_map, ap, sym, ◌∙◌}
+use Rattle.std.proofs.Common.{◌≡◌, Bool, ◌||◌, slice_get, Option, Some, Ok, option_map, ap, sym, ◌∙◌}
 use Rattle.std.proofs.lemmas.Int.{to_z-of_z}
 use Rattle.std.proofs.lemmas.Option.{slice_get-map}
 use Rattle.bay_nodes.specs.Names.{meter_names}
-use Rattle.bay_process.specs.Layout.{layout_of, meters_of}
+use Rattle.bay_process.specs.Layout.{meters_of}
 use Rattle.bay_process.specs.Names.{field_names}
 use Rattle.bay_process.specs.declared.meter.BoundMeter.{BoundMeter}
 use Rattle.bay_process.proofs.ListLemmas.{got-some}
 use Rattle.bay_process.proofs.ToldLemmas.{told-kept, keeps-measure, field-away}
 use Rattle.bay_services.specs.Bay.{Bay}
-use Rattle.bay_device.specs.Device.{State, advanced, measure_taken, with_bay}
+use Rattle.bay_device.specs.Device.{State, measure_taken, with_bay}
 use Rattle.bay_device.specs.Outcomes.{Outcome, measure_outcome}
 use Rattle.bay_device.specs.StateView.{state_view}
 use Rattle.bay_device.specs.Steps.{quiet_answer}

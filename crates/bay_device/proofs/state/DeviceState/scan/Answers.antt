@@ -5,7 +5,6 @@ use Rattle.bay_services.specs.Bay.{Bay}
 use Rattle.bay_device.specs.Device.{Ran, State, with_bay}
 use Rattle.bay_device.specs.StateView.{state_view}
 use Rattle.bay_process.specs.Layout.{layout_of}
-use Rattle.bay_process.specs.Sources.{type_of_source}
 use Rattle.bay_device.proofs.ScanLemmas.{halted, inputs-named, interlocked, kinded, meters-kinded, ran, scan-done}
 use Rattle.bay_device.proofs.state.DeviceState.scan.Goals as goal
 
