@@ -1,7 +1,7 @@
 use Rattle.std.proofs.Common.{◌++◌, ◌∙◌, codes, sym, ap, refl}
 use Rattle.bay_main.specs.LineAnswers.{digit_of}
 use Rattle.bay_io.proofs.SentLemmas.{Puts-cut, Puts-then}
-use Rattle.bay_main.proofs.answer.put_enabled.Goals as goal
+use Rattle.bay_main.proofs.lines.put_enabled.Goals as goal
 
 pub returns-in_err-put : goal.returns-in_err-put
 returns-in_err-put g c =

@@ -1,7 +1,7 @@
 use Rattle.std.proofs.Common.{codes, refl}
 use Rattle.bay_main.specs.LineAnswers.{switches_text}
 use Rattle.bay_io.proofs.SentLemmas.{Puts-cut, Puts-then}
-use Rattle.bay_main.proofs.answer.put_end.Goals as goal
+use Rattle.bay_main.proofs.lines.put_end.Goals as goal
 
 pub returns-in_err-put_switches : goal.returns-in_err-put_switches
 returns-in_err-put_switches g c =

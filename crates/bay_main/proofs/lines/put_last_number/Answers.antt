@@ -1,7 +1,7 @@
 use Rattle.std.proofs.Common.{codes, refl}
 use Rattle.std.specs.Fmt.{decimal}
 use Rattle.bay_io.proofs.SentLemmas.{Puts-cut, Puts-then}
-use Rattle.bay_main.proofs.answer.put_last_number.Goals as goal
+use Rattle.bay_main.proofs.lines.put_last_number.Goals as goal
 
 pub returns-in_err-put_number : goal.returns-in_err-put_number
 returns-in_err-put_number g c =

@@ -1,7 +1,7 @@
 use Rattle.std.proofs.Common.{◌++◌, codes, refl}
 use Rattle.bay_main.specs.LineAnswers.{switches_text, steps_text}
 use Rattle.bay_io.proofs.SentLemmas.{Puts-cut, Puts-then}
-use Rattle.bay_main.proofs.answer.put_scan.Goals as goal
+use Rattle.bay_main.proofs.lines.put_scan.Goals as goal
 
 pub returns-in_err-put_steps : goal.returns-in_err-put_steps
 returns-in_err-put_steps g c =

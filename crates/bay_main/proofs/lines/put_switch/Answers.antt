@@ -1,7 +1,7 @@
 use Rattle.std.proofs.Common.{◌++◌, codes, refl}
 use Rattle.bay_main.specs.LineAnswers.{enabled_text}
 use Rattle.bay_io.proofs.SentLemmas.{Puts-cut, Puts-then}
-use Rattle.bay_main.proofs.answer.put_switch.Goals as goal
+use Rattle.bay_main.proofs.lines.put_switch.Goals as goal
 
 pub returns-in_err-put_id : goal.returns-in_err-put_id
 returns-in_err-put_id g c =

@@ -3,7 +3,7 @@ use Rattle.std.proofs.Math.ListN.{drop_of_length-le}
 use Rattle.bay_main.specs.LineAnswers.{switch_part, switches_text}
 use Rattle.bay_main.proofs.AnswerLemmas.{Rest-step, Rest-cut, Rest-end}
 use Rattle.bay_main.proofs.ReportLemmas.{switches-turn}
-use Rattle.bay_main.proofs.answer.put_switches.Goals as goal
+use Rattle.bay_main.proofs.lines.put_switches.Goals as goal
 
 pub loop-place-preserved : goal.loop-place-preserved
 loop-place-preserved g c =

@@ -1,7 +1,7 @@
 use Rattle.std.proofs.Common.{drop}
 use Rattle.bay_main.proofs.AnswerLemmas.{Rest}
 use Rattle.bay_main.specs.LineAnswers.{switches_text}
-use Rattle.bay_main.proofs.answer.put_switches.Given as goal
+use Rattle.bay_main.proofs.lines.put_switches.Given as goal
 
 abbrev pub invariant-loop-place : goal.invariant-loop-place
 invariant-loop-place g l =
