@@ -1,3 +1,4 @@
 pub mod CuttingLemmas
 pub mod FeedingLemmas
 pub mod HearingLemmas
+pub mod GoingLemmas

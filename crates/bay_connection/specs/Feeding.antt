@@ -37,6 +37,14 @@ Feeds t piece used answer = FeedsFrom t.stream.left t piece used answer
 abbrev pub GoesOn : Talk → Talk → List ℕ → ℕ → Indication → Type 0
 GoesOn old new piece used indication = indications old piece ≡ indication ∷ indications new (drop used piece)
 
+-- What is heard leaves the connection as it goes on: behind an answer and a PDU of MMS octets are still taken.
+abbrev pub IsContinued : Indication → Type 0
+IsContinued (answers octets) = Unit {0}
+IsContinued (tells terms pdu) = Unit {0}
+IsContinued (releases octets) = ⊥
+IsContinued ends = ⊥
+IsContinued (fails code) = ⊥
+
 -- two runs, one after the other
 abbrev pub and_then : Told → Told → Told
 and_then first later = record { indications = first.indications ++ later.indications; left = later.left }

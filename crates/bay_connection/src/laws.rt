@@ -1,7 +1,8 @@
 // Laws of what a client's octets come to. Each function does nothing, and its contract is the law.
-ghost use Rattle.std.specs.Prelude.{◌≡◌, ◌++◌, List, ℕ, take, drop};
+ghost use Rattle.std.specs.Prelude.{◌≡◌, ◌∷◌, ◌++◌, [], List, ℕ, take, drop};
+ghost use Rattle.bay_transport.specs.Feeding.{IsGoing};
 ghost use Rattle.bay_connection.specs.Talk.{Talk, Indication, comes_to, indications, left_by};
-ghost use Rattle.bay_connection.specs.Feeding.{Comes, GoesOn, and_then};
+ghost use Rattle.bay_connection.specs.Feeding.{Comes, GoesOn, IsContinued, and_then};
 
 /// What octets come to does not hang on how they are cut into pieces: what a list and a piece come to is the list's, and then the
 /// piece's from what the list leaves.
@@ -16,4 +17,11 @@ pub fn feeding_goes_on()
     ensures indications { (old new : Talk) (piece : List ℕ) (used : ℕ) (indication : Indication) → new ≡ left_by old (take used piece)
         → Comes old piece used indication → GoesOn old new piece used indication }
     ensures left { (old new : Talk) (piece : List ℕ) (used : ℕ) → new ≡ left_by old (take used piece) → left_by old piece ≡ left_by new (drop used piece) }
+{}
+
+/// A connection of which octets are taken goes on behind octets that come to nothing, to an answer or to a PDU of MMS.
+pub fn heard_goes_on()
+    ensures quiet { (t : Talk) (octets : List ℕ) → IsGoing t.stream.left → indications t octets ≡ [] → IsGoing (left_by t octets).stream.left }
+    ensures heard { (t : Talk) (octets : List ℕ) (indication : Indication) → indications t octets ≡ indication ∷ [] → IsContinued indication
+        → IsGoing (left_by t octets).stream.left }
 {}

@@ -1,5 +1,9 @@
+pub mod ApartLemmas
 pub mod LoadLemmas
 pub mod MeaningLemmas
+pub mod RecvLemmas
+pub mod RunLemmas
 pub mod ScanLemmas
 pub mod StepLemmas
 pub mod TableLemmas
+pub mod TurnLemmas

@@ -1,5 +1,5 @@
 -- A device that runs a text does what the text means.
-use Rattle.std.proofs.Common.{◌≡◌, ℕ, Bool, true, false, not, cond, nat_lt, List, [], ◌∷◌, ◌++◌, length, map, take, drop, slice_get, Option, Some, None, refl, sym, ap, ap₂, subst, ◌∙◌, arith}
+use Rattle.std.proofs.Common.{◌≡◌, ℕ, zero, suc, Bool, true, false, not, cond, nat_lt, List, [], ◌∷◌, ◌++◌, length, map, take, drop, slice_get, Option, Some, None, refl, sym, ap, ap₂, subst, ◌∙◌, arith}
 use Rattle.std.proofs.lemmas.List.{length-map, take-append-drop}
 use Rattle.std.proofs.Math.Seq.{drop-append_seam, take-append_seam}
 use Rattle.bay_base.specs.declared.types.ElementaryType.{ElementaryType}
@@ -31,13 +31,17 @@ use Rattle.il_compile.specs.Senses.{timer_of}
 use Rattle.bay_device.specs.Load.{initial_device}
 use Rattle.bay_process.proofs.SourceLemmas.{IsTyped, bay-typed, points-fit, reads-typed}
 use Rattle.il_compile.specs.Meaning.{Memory}
-use Rattle.il_scan.specs.Scans.{first_input, first_slots, first_value, outputs_of, read_only, type_of_point, with_inputs}
-use Rattle.bay_device.specs.Device.{Outcome, State, Ran, contact_outcome, ending_at, event_outcome, input_outcome, inputs_of, last_moment, measure_outcome, outcome, outcomes, point_value, ran_at, ran_of, scanned}
+use Rattle.il_scan.specs.Scans.{Held, first_input, first_slots, first_value, outputs_of, read_only, type_of_point, with_inputs}
+use Rattle.bay_connection.specs.Talk.{Talk, Indication, answers, tells, releases, ends as ends-heard, fails}
+use Rattle.bay_device.specs.Device.{State, Ran, advanced, ending_at, inputs_of, point_value, ran_at, ran_of, scanned}
+use Rattle.bay_device.specs.Hearing.{Done, Heard, heard, on_heard}
+use Rattle.bay_device.specs.Outcomes.{Outcome, close_outcome, closed, connection_at, contact_outcome, event_outcome, input_outcome, last_moment, measure_outcome, nothing_done, octets_outcome, open_outcome, outcome, outcomes, place_of, recv_after, recv_outcome, with_connection}
+use Rattle.bay_device.specs.declared.event.Why.{Why}
 use Rattle.bay_process.specs.Values.{with_outputs}
 use Rattle.bay_device.specs.Meaning.{AllMean, Means, MeansAt, Runs, memory_before, memory_of}
 use Rattle.bay_process.specs.Sources.{type_of_source}
 use Rattle.bay_device.specs.declared.event.Event.{Event}
-use Rattle.bay_device.specs.declared.event.Event.TheVariants.{Contact, Input, Measure, Scan}
+use Rattle.bay_device.specs.declared.event.Event.TheVariants.{Open, Recv, Close, Contact, Input, Measure, Scan}
 
 first-of : (t : ElementaryType) → type_of (first_value t) ≡ t
 first-of elementary.Bool = refl
@@ -185,47 +189,117 @@ module _ (c : Checked) (s : State) (r : Runs c s) (now : ℕ) where
 
 -- ---- an event
 
+-- what the program's run hangs on stays
+runs-as : (c : Checked) (s t : State) → Runs c s → t.machine ≡ s.machine → t.reads ≡ s.reads → Runs c t
+runs-as c s t r machine reads = record {
+  points = ap (λ (h : Held). h.image.points) machine ∙ r.points;
+  does = subst (λ (h : Held). DoesTheText c h.image.code) (sym machine) r.does;
+  types = subst (λ (h : Held). HasTypes c (memory_of c h.slots h.timers)) (sym machine) r.types;
+  reads = ap (map type_of_source) reads ∙ r.reads ∙ sym (ap (λ (h : Held). map type_of_point (read_only h.image.points)) machine);
+}
+
+-- what a client does leaves the program as it is
+pub record SameProgram (s t : State) : Type 0 where
+  pub machine : t.machine ≡ s.machine
+  pub reads : t.reads ≡ s.reads
+
+connected : (o : Option ℕ) (talk : Option Talk) (s t : State) → SameProgram s t → SameProgram s (with_connection o talk t)
+connected None talk s t same = same
+connected (Some place) talk s t same = record { machine = same.machine; reads = same.reads }
+
+on-heard : (now a : ℕ) (i : Indication) (s : State) (d : Done) (later : Done → Heard) → SameProgram s d.state
+    → ((e : Done) → SameProgram s e.state → SameProgram s (later e).done.state) → SameProgram s (on_heard now a i d later).done.state
+on-heard now a (answers octets) s d later same rest = rest _ same
+on-heard now a (tells terms pdu) s d later same rest = rest _ (record { machine = same.machine; reads = same.reads })
+on-heard now a (releases octets) s d later same rest = same
+on-heard now a ends-heard s d later same rest = same
+on-heard now a (fails code) s d later same rest = same
+
+same-heard : (choice : Option ℕ) (now a : ℕ) (is : List Indication) (s : State) (d : Done) → SameProgram s d.state → SameProgram s (heard choice now a is d).done.state
+same-heard None now a [] s d same = same
+same-heard None now a (i ∷ is) s d same = on-heard now a i s d (heard None now a is) same (λ e h. same-heard None now a is s e h)
+same-heard (Some zero) now a [] s d same = same
+same-heard (Some zero) now a (i ∷ is) s d same = same
+same-heard (Some (suc n)) now a [] s d same = same
+same-heard (Some (suc n)) now a (i ∷ is) s d same = on-heard now a i s d (heard (Some n) now a is) same (λ e h. same-heard (Some n) now a is s e h)
+
+same-after : (a : ℕ) (left : Talk) (s t : State) (why : Option Why) → SameProgram s t → SameProgram s (recv_after a left t why)
+same-after a left s t None same = connected (place_of a) (Some left) s t same
+same-after a left s t (Some why) same = connected (place_of a) None s _ (record { machine = same.machine; reads = same.reads })
+
+same-octets : (choice : Option ℕ) (now a : ℕ) (s : State) (talk : Talk) (octets : List ℕ) → SameProgram s (octets_outcome choice now a s talk octets).after
+same-octets choice now a s talk [] = record { machine = refl; reads = refl }
+same-octets choice now a s talk (octet ∷ octets) =
+    same-after a _ s _ _ (same-heard choice now a _ s (nothing_done (advanced now s)) (record { machine = refl; reads = refl }))
+
+same-recv : (choice : Option ℕ) (now a : ℕ) (octets : List ℕ) (s : State) (talk : Option Talk) → SameProgram s (recv_outcome choice now a octets s talk).after
+same-recv choice now a octets s None = record { machine = refl; reads = refl }
+same-recv choice now a octets s (Some talk) = same-octets choice now a s talk octets
+
+same-open : (now a : ℕ) (s : State) (o : Option ℕ) (talk : Option Talk) → SameProgram s (open_outcome now a s o talk).after
+same-open now a s None talk = record { machine = refl; reads = refl }
+same-open now a s (Some place) (Some talk) = record { machine = refl; reads = refl }
+same-open now a s (Some place) None = connected (place_of a) _ s (advanced now s) (record { machine = refl; reads = refl })
+
+same-close : (now a : ℕ) (s : State) (talk : Option Talk) → SameProgram s (close_outcome now a s talk).after
+same-close now a s None = record { machine = refl; reads = refl }
+same-close now a s (Some talk) = connected (place_of a) None s _ (record { machine = refl; reads = refl })
+
 module _ (c : Checked) (s : State) (r : Runs c s) (now : ℕ) where
+  runs-advanced : Runs c (advanced now s)
+  runs-advanced = runs-as c s (advanced now s) r refl refl
+
+  runs-same : (t : State) → SameProgram s t → Runs c t
+  runs-same t same = runs-as c s t r same.machine same.reads
+
   runs-contact : (k : ℕ) (position : _) (o : Option Switch) → Runs c (contact_outcome now k position s o).after
   runs-contact k position None = r
-  runs-contact k position (Some switch) = record { points = r.points; does = r.does; types = r.types; reads = r.reads }
+  runs-contact k position (Some switch) = runs-as c s _ r refl refl
 
   runs-input : (k : ℕ) (value : Bool) (o : Option Bool) → Runs c (input_outcome now k value s o).after
   runs-input k value None = r
-  runs-input k value (Some old) = record { points = r.points; does = r.does; types = r.types; reads = r.reads }
+  runs-input k value (Some old) = runs-as c s _ r refl refl
 
   runs-measure : (k : ℕ) (field : MeterField) (value : _) (o : Option (List ℕ)) → Runs c (measure_outcome now k field value s o).after
   runs-measure k field value None = r
-  runs-measure k field value (Some id) = record { points = r.points; does = r.does; types = r.types; reads = r.reads }
+  runs-measure k field value (Some id) = runs-as c s _ r refl refl
 
-  runs-event : (event : Event) → Runs c (event_outcome now event s).after
-  runs-event (Contact k position) = runs-contact k position (slice_get s.switches k)
-  runs-event (Input k value) = runs-input k value (slice_get s.input_values k)
-  runs-event (Measure k field value) = runs-measure k field value (slice_get s.meters k)
-  runs-event Scan = runs-on c s r now
+  runs-event : (choice : Option ℕ) (event : Event) → Runs c (event_outcome choice now event s).after
+  runs-event choice (Open a) = runs-same _ (same-open now a s (place_of a) (connection_at (place_of a) s))
+  runs-event choice (Recv a octets) = runs-same _ (same-recv choice now a octets.now s (connection_at (place_of a) s))
+  runs-event choice (Close a) = runs-same _ (same-close now a s (connection_at (place_of a) s))
+  runs-event choice (Contact k position) = runs-contact k position (slice_get s.switches k)
+  runs-event choice (Input k value) = runs-input k value (slice_get s.input_values k)
+  runs-event choice (Measure k field value) = runs-measure k field value (slice_get s.meters k)
+  runs-event choice Scan = runs-on c (advanced now s) runs-advanced now
 
   runs-if : (b : Bool) (x y : Outcome) → Runs c x.after → Runs c y.after → Runs c (cond b x y).after
   runs-if true x y h k = h
   runs-if false x y h k = k
 
-  pub runs-still : (event : Event) → Runs c (outcome now event s).after
-  runs-still event = runs-if (nat_lt last_moment now) _ _ r (runs-if (nat_lt now s.moment) _ _ r (runs-event event))
+  pub runs-still : (choice : Option ℕ) (event : Event) → Runs c (outcome choice now event s).after
+  runs-still choice event = runs-if (nat_lt last_moment now) _ _ r (runs-if (nat_lt now s.moment) _ _ r (runs-event choice event))
 
   pub means-event : (event : Event) → MeansAt c now event s
-  means-event Scan = means-scan c s r now
+  means-event Scan = means-scan c (advanced now s) runs-advanced now
+  means-event (Open a) = tt
+  means-event (Recv a octets) = tt
+  means-event (Close a) = tt
   means-event (Contact k position) = tt
   means-event (Input k value) = tt
   means-event (Measure k field value) = tt
 
 -- ---- a list of events
 
-pub all-mean : (c : Checked) (events : List (ℕ × Event)) (s : State) → Runs c s → AllMean c events s
-all-mean c [] s r = tt
-all-mean c (e ∷ events) s r = (means-event c s r e.0 e.1, all-mean c events (outcome e.0 e.1 s).after (runs-still c s r e.0 e.1))
+pub all-mean : (c : Checked) (choices : List (Option ℕ)) (events : List (ℕ × Event)) (s : State) → Runs c s → AllMean c choices events s
+all-mean c choices [] s r = tt
+all-mean c [] (e ∷ events) s r = (means-event c s r e.0 e.1, all-mean c [] events (outcome None e.0 e.1 s).after (runs-still c s r e.0 None e.1))
+all-mean c (choice ∷ choices) (e ∷ events) s r = (means-event c s r e.0 e.1, all-mean c choices events (outcome choice e.0 e.1 s).after (runs-still c s r e.0 choice e.1))
 
-pub all-run : (c : Checked) (events : List (ℕ × Event)) (s : State) → Runs c s → Runs c (outcomes events s).after
-all-run c [] s r = r
-all-run c (e ∷ events) s r = all-run c events (outcome e.0 e.1 s).after (runs-still c s r e.0 e.1)
+pub all-run : (c : Checked) (choices : List (Option ℕ)) (events : List (ℕ × Event)) (s : State) → Runs c s → Runs c (outcomes choices events s).after
+all-run c choices [] s r = r
+all-run c [] (e ∷ events) s r = all-run c [] events (outcome None e.0 e.1 s).after (runs-still c s r e.0 None e.1)
+all-run c (choice ∷ choices) (e ∷ events) s r = all-run c choices events (outcome choice e.0 e.1 s).after (runs-still c s r e.0 choice e.1)
 
 -- ---- before the first event
 

@@ -1,9 +1,10 @@
--- What a device is, and what one event makes of it (IEC 61850-7-4: XCBR, XSWI, CSWI, CILO and MMXU; IEC 61850-7-3:
--- status values and measured values).
-use Rattle.std.specs.Prelude.{ℕ, ℤ, Bool, false, not, ◌||◌, nat_lt, List, [], ◌∷◌, length, map, position, slice_get, slice_set, unwrap_or, Option, None, Some, Result, Ok, Err, if◌then◌else◌}
+-- What a device is: its bay, the program that interlocks it, and its clients; and what is done to it that no client asks for
+-- (IEC 61850-7-4: XCBR, XSWI, CSWI, CILO and MMXU; IEC 61850-7-3: status values and measured values).
+use Rattle.std.specs.Prelude.{ℕ, ℤ, ◌-◌, ◌==◌, Bool, false, not, ◌&&◌, ◌||◌, nat_lt, nat_le, List, [], length, map, slice_get, slice_set, unwrap_or, Option, None, Some, if◌then◌else◌}
 use Rattle.bay_tree.specs.declared.row.Row.{Row}
 use Rattle.bay_tree.specs.declared.leaf.Dbpos.{Dbpos}
 use Rattle.bay_nodes.specs.declared.switch.Switch.{Switch}
+use Rattle.bay_nodes.specs.Names.{switch_names, meter_names}
 use Rattle.bay_config.specs.declared.bay.MeterField.{MeterField}
 use Rattle.bay_config.specs.declared.bay.Source.{Source}
 use Rattle.bay_config.specs.declared.bay.Source.TheVariants as source
@@ -12,19 +13,21 @@ use Rattle.il_image.specs.declared.timer.Timer.{Timer}
 use Rattle.il_image.specs.declared.value.Value.{Value}
 use Rattle.il_image.specs.declared.value.Value.TheVariants.{Truth, Long}
 use Rattle.il_scan.specs.Scans.{Held, outputs_of, started}
-use Rattle.bay_nodes.specs.Names.{switch_names, meter_names}
 use Rattle.bay_process.specs.Names.{field_names}
-use Rattle.bay_device.specs.declared.event.Event.{Event}
-use Rattle.bay_device.specs.declared.event.Event.TheVariants.{Contact, Input, Measure, Scan}
-use Rattle.bay_device.specs.declared.event.Step.{Step}
-use Rattle.bay_device.specs.declared.fault.StepFault.{StepFault}
-use Rattle.bay_device.specs.declared.fault.StepFault.TheVariants.{MomentTooLarge, TimeWentBack, NoSuchPoint}
 use Rattle.bay_process.specs.Values.{measure_leaf, number_of_leaf, position_leaf, position_value, rows_after_contact, rows_after_measure, same_truth, tells, tells_measure, with_outputs}
+use Rattle.bay_control.specs.Decisions as control
+use Rattle.bay_control.specs.Decisions.{contacted, is_done, run_out}
+use Rattle.bay_connection.specs.Talk.{Talk}
+use Rattle.bay_services.specs.Bay.{Bay, with_controls}
+use Rattle.bay_device.specs.declared.due.Due.{Due}
+use Rattle.bay_device.specs.declared.event.Sent.{Sent}
 
 -- a device: what its bay file says of the bay, its switches, the names and the values of its inputs, the ids of its
 -- meters; what the points stand for that its program only reads, and those that it may write, each in the order of the
 -- program's points; the machine that runs the program: its image, its slots and its timers; the rows of its tree; the
--- moment of the last accepted event; and the last scan: its moment, and whether what it read has changed since
+-- moment of the last accepted event; the last scan: its moment, and whether what it read has changed since; its controls; what will
+-- tell a client of the end of what is operating; and for each of its eight associations what the octets of the client have left, if
+-- it is open
 pub record State : Type 0 where
   pub domain : List ℕ
   pub vendor : List ℕ
@@ -42,35 +45,113 @@ pub record State : Type 0 where
   pub moment : ℕ
   pub last_scan : Option ℕ
   pub is_stale : Bool
+  pub controls : control.State
+  pub due : Option Due
+  pub connections : List (Option Talk)
 
--- a contact of a switch; one that changes value or quality makes the last scan stale
+-- the bay as clients see it
+abbrev pub bay_of : State → Bay
+bay_of s = record {
+  domain = s.domain;
+  vendor = s.vendor;
+  model = s.model;
+  revision = s.revision;
+  switches = s.switches;
+  rows = s.rows;
+  controls = s.controls;
+}
+
+abbrev pub with_bay : Bay → State → State
+with_bay b s = record s {
+  domain = b.domain;
+  vendor = b.vendor;
+  model = b.model;
+  revision = b.revision;
+  switches = b.switches;
+  rows = b.rows;
+  controls = b.controls;
+}
+
+-- The last scan is fresh at a moment: there is one, nothing that it read has changed since, and it is not too old.
+abbrev pub is_recent : ℕ → ℕ → Option ℕ → Bool
+is_recent now age None = false
+is_recent now age (Some scan) = nat_le (now - scan) age
+
+abbrev pub is_fresh : ℕ → State → Bool
+is_fresh now s = is_recent now s.scan_max_age_ms s.last_scan && not s.is_stale
+
+-- ---- what ends by itself
+
+-- what is sent to an association, if it is anything
+abbrev pub sent_to : ℕ → Option (List ℕ) → Option Sent
+sent_to a None = None
+sent_to a (Some octets) = Some (record { association = a; octets = octets })
+
+-- a client is told that a switch has reached its position, and that it has not reached it in time
+abbrev pub reached : Option Due → Option Sent
+reached None = None
+reached (Some due) = sent_to due.association due.positive
+
+abbrev pub missed : Option Due → Option Sent
+missed None = None
+missed (Some due) = sent_to due.association due.negative
+
+-- the switch whose execution has run out at a moment
+abbrev pub over_at : ℕ → State → Option ℕ
+over_at now s = run_out now s.controls.controls s.controls.execution
+
+abbrev pub due_unless : Option ℕ → Option Due → Option Due
+due_unless None due = due
+due_unless (Some switch) due = None
+
+abbrev pub missed_if : Option ℕ → Option Due → Option Sent
+missed_if None due = None
+missed_if (Some switch) due = missed due
+
+-- the device at a moment, with what has run out ended, a selection and an execution
+abbrev pub advanced : ℕ → State → State
+advanced now s = record (with_bay (with_controls (control.advanced now s.controls) (bay_of s)) s) {
+  moment = now;
+  due = due_unless (over_at now s) s.due;
+}
+
+-- what is then sent
+abbrev pub ended_at : ℕ → State → Option Sent
+ended_at now s = missed_if (over_at now s) s.due
+
+-- ---- contacts, inputs and measures: one that changes value or quality makes the last scan stale
+
+-- a contact of a switch; one that gives the position that is asked for ends the switch's execution
 abbrev pub contact_taken : ℕ → ℕ → Switch → Dbpos → State → State
 contact_taken now k switch position s =
     let names = switch_names s.switches k switch in
     record s {
-      moment = now;
       rows = rows_after_contact names position now s.rows;
       is_stale = s.is_stale || not (tells names.position position s.rows);
+      controls = contacted k position s.controls;
+      due = if is_done k position s.controls.execution then None else s.due;
     }
 
--- an input; one that changes makes the last scan stale
-abbrev pub input_taken : ℕ → ℕ → Bool → Bool → State → State
-input_taken now k value before s =
+abbrev pub reached_at : ℕ → Dbpos → State → Option Sent
+reached_at k position s = if is_done k position s.controls.execution then reached s.due else None
+
+abbrev pub input_taken : ℕ → Bool → Bool → State → State
+input_taken k value before s =
     record s {
-      moment = now;
       input_values = slice_set s.input_values k value;
       is_stale = s.is_stale || not (same_truth value before);
     }
 
--- a measured value of a meter; one that changes value or quality makes the last scan stale
+-- a measured value of a meter
 abbrev pub measure_taken : ℕ → ℕ → MeterField → ℤ → State → State
 measure_taken now k field value s =
     let names = field_names field (meter_names k) in
     record s {
-      moment = now;
       rows = rows_after_measure names value now s.rows;
       is_stale = s.is_stale || not (tells_measure names value s.rows);
     }
+
+-- ---- scans
 
 -- the value that the contacts, the inputs and the measures give a point
 abbrev pub point_value : State → Source → Value
@@ -106,7 +187,6 @@ abbrev pub after_run : ℕ → Ran → State → State
 after_run now ran s = record s {
   machine = record s.machine { slots = ran.slots; timers = ran.timers };
   rows = with_outputs s.switches s.writes (outputs_of s.machine.image.points ran.slots) now 0 s.switches s.rows;
-  moment = now;
   last_scan = Some now;
   is_stale = false;
 }
@@ -114,54 +194,3 @@ after_run now ran s = record s {
 -- the points are read, the program runs once, and the interlocking values take their points' values
 abbrev pub scanned : ℕ → State → State
 scanned now s = after_run now (ran_at now s) s
-
--- the last moment that a time stamp can tell
-abbrev pub last_moment : ℕ
-last_moment = 4294967295999
-
--- what an event does: its answer, and the device after it
-pub record Outcome : Type 0 where
-  pub answer : Result Step StepFault
-  pub after : State
-
--- a refused event changes nothing
-abbrev pub refused : StepFault → State → Outcome
-refused fault s = record { answer = Err fault; after = s }
-
-abbrev pub contact_outcome : ℕ → ℕ → Dbpos → State → Option Switch → Outcome
-contact_outcome now k position s None = refused NoSuchPoint s
-contact_outcome now k position s (Some switch) = record { answer = Ok (record { scan = None }); after = contact_taken now k switch position s }
-
-abbrev pub input_outcome : ℕ → ℕ → Bool → State → Option Bool → Outcome
-input_outcome now k value s None = refused NoSuchPoint s
-input_outcome now k value s (Some before) = record { answer = Ok (record { scan = None }); after = input_taken now k value before s }
-
-abbrev pub measure_outcome : ℕ → ℕ → MeterField → ℤ → State → Option (List ℕ) → Outcome
-measure_outcome now k field value s None = refused NoSuchPoint s
-measure_outcome now k field value s (Some id) = record { answer = Ok (record { scan = None }); after = measure_taken now k field value s }
-
--- of an event that its moment does not refuse
-abbrev pub event_outcome : ℕ → Event → State → Outcome
-event_outcome now (Contact k position) s = contact_outcome now k position s (slice_get s.switches k)
-event_outcome now (Input k value) s = input_outcome now k value s (slice_get s.input_values k)
-event_outcome now (Measure k field value) s = measure_outcome now k field value s (slice_get s.meters k)
-event_outcome now Scan s = record { answer = Ok (record { scan = Some (ran_at now s).steps }); after = scanned now s }
-
--- of an event at a moment, which is neither too large nor before the last event's
-abbrev pub outcome : ℕ → Event → State → Outcome
-outcome now event s =
-    if nat_lt last_moment now then refused MomentTooLarge s
-    else if nat_lt now s.moment then refused TimeWentBack s
-    else event_outcome now event s
-
--- what a list of events does, one after the other: their answers, and the device after them
-pub record Outcomes : Type 0 where
-  pub answers : List (Result Step StepFault)
-  pub after : State
-
-abbrev pub outcomes : List (ℕ × Event) → State → Outcomes
-outcomes [] s = record { answers = []; after = s }
-outcomes (e ∷ es) s =
-    let first = outcome e.0 e.1 s in
-    let rest = outcomes es first.after in
-    record { answers = first.answer ∷ rest.answers; after = rest.after }

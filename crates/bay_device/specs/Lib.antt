@@ -1,8 +1,13 @@
 pub mod Code
+pub mod Connections
 pub mod Device
+pub mod Hearing
+pub mod HearingViews
 pub mod Load
 pub mod LookUps
 pub mod Meaning
+pub mod Outcomes
 pub mod Report
 pub mod StateView
+pub mod Steps
 pub mod Table

@@ -1,5 +1,5 @@
 -- The device that a bay file and a program or an image load to, or why they are refused.
-use Rattle.std.specs.Prelude.{◌≡◌, ℕ, true, false, map, Option, None, Some, Result, Ok, Err}
+use Rattle.std.specs.Prelude.{◌≡◌, ℕ, true, false, length, map, replicate, Option, None, Some, Result, Ok, Err}
 use Rattle.bay_config.specs.Code as bay_code
 use Rattle.bay_config.specs.declared.bay.Bay.{Bay}
 use Rattle.bay_config.specs.declared.fault.BayFault.{BayFault}
@@ -24,9 +24,11 @@ use Rattle.il_scan.specs.Scans.{held_first}
 use Rattle.bay_device.specs.Device.{State}
 use Rattle.bay_device.specs.declared.fault.LoadFault.{LoadFault}
 use Rattle.bay_device.specs.declared.fault.LoadFault.TheVariants.{Refused, OutOfMemory}
+use Rattle.bay_control.specs.Decisions.{controls_of, initial}
+use Rattle.bay_services.specs.Bay.{shown}
 use Rattle.bay_process.specs.Sources.{source_of, sources_of}
 
--- a device before its first event
+-- a device before its first event: nothing is selected, which its rows show, and nothing is operating, and no association is open
 abbrev pub initial_device : Bay → Image → State
 initial_device bay image = record {
   domain = bay.domain;
@@ -41,10 +43,13 @@ initial_device bay image = record {
   reads = sources_of false bay.points image.points;
   writes = sources_of true bay.points image.points;
   machine = held_first image;
-  rows = bay.rows;
+  rows = shown None (length bay.switches) bay.rows;
   moment = 0;
   last_scan = None;
   is_stale = false;
+  controls = initial (controls_of bay.switches);
+  due = None;
+  connections = replicate 8 None;
 }
 
 -- a refusal has a number and a line; want of memory has no number

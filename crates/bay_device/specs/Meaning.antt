@@ -1,5 +1,5 @@
 -- What the events of a device come to that was loaded from the text of a program: each scan leaves what the text means.
-use Rattle.std.specs.Prelude.{ℕ, ◌≡◌, ◌≤◌, Bool, false, nat_lt, ◌||◌, List, [], ◌∷◌, length, map, take, drop, Some}
+use Rattle.std.specs.Prelude.{ℕ, ◌≡◌, ◌≤◌, Bool, false, nat_lt, ◌||◌, List, [], ◌∷◌, length, map, take, drop, Option, Some, None, Result}
 use Rattle.il_image.specs.Machine.{Halted}
 use Rattle.il_image.specs.declared.timer.Timer.{Timer}
 use Rattle.il_image.specs.declared.value.Value.{Value}
@@ -9,10 +9,14 @@ use Rattle.il_compile.specs.Correct.{DoesTheText, HasTypes}
 use Rattle.il_compile.specs.Meaning.{Memory, mean}
 use Rattle.il_verify.specs.Verdicts.{IsBudget}
 use Rattle.il_scan.specs.Scans.{outputs_of, read_only, started, type_of_point}
-use Rattle.bay_device.specs.Device.{State, ending_at, inputs_of, last_moment, outcome, scanned}
+use Rattle.bay_device.specs.Device.{State, advanced, ending_at, inputs_of, scanned}
+use Rattle.bay_device.specs.Outcomes.{last_moment, outcome}
+use Rattle.bay_device.specs.Steps.{AllSteps}
 use Rattle.bay_process.specs.Values.{with_outputs}
 use Rattle.bay_device.specs.declared.event.Event.{Event}
-use Rattle.bay_device.specs.declared.event.Event.TheVariants.{Contact, Input, Measure, Scan}
+use Rattle.bay_device.specs.declared.event.Event.TheVariants.{Open, Recv, Close, Contact, Input, Measure, Scan}
+use Rattle.bay_device.specs.declared.event.Step.{Step}
+use Rattle.bay_device.specs.declared.fault.StepFault.{StepFault}
 use Rattle.bay_process.specs.Sources.{type_of_source}
 
 -- ---- no trap, and the budget
@@ -25,9 +29,12 @@ pub record Halts (now : ℕ) (s : State) : Type 0 where
   pub halts : ending_at now s ≡ Halted slots timers steps
   pub within : (budget : ℕ) → IsBudget s.machine.image.code budget → steps ≤ budget
 
--- So it is, if the event is a scan.
+-- So it is, if the event is a scan, once what has run out is ended.
 abbrev pub HaltsAt : ℕ → Event → State → Type 0
-HaltsAt now Scan s = Halts now s
+HaltsAt now Scan s = Halts now (advanced now s)
+HaltsAt now (Open a) s = Unit {0}
+HaltsAt now (Recv a octets) s = Unit {0}
+HaltsAt now (Close a) s = Unit {0}
 HaltsAt now (Contact k position) s = Unit {0}
 HaltsAt now (Input k value) s = Unit {0}
 HaltsAt now (Measure k field value) s = Unit {0}
@@ -37,9 +44,15 @@ abbrev pub is_refused : ℕ → State → Bool
 is_refused now s = nat_lt last_moment now || nat_lt now s.moment
 
 -- Each scan of a list of events that its moment does not refuse halts so.
-abbrev pub AllHalt : List (ℕ × Event) → State → Type 0
-AllHalt [] s = Unit {0}
-AllHalt (e ∷ es) s = (is_refused e.0 s ≡ false → HaltsAt e.0 e.1 s) × AllHalt es (outcome e.0 e.1 s).after
+abbrev pub AllHalt : List (Option ℕ) → List (ℕ × Event) → State → Type 0
+AllHalt choices [] s = Unit {0}
+AllHalt [] (e ∷ es) s = (is_refused e.0 s ≡ false → HaltsAt e.0 e.1 s) × AllHalt [] es (outcome None e.0 e.1 s).after
+AllHalt (choice ∷ choices) (e ∷ es) s = (is_refused e.0 s ≡ false → HaltsAt e.0 e.1 s) × AllHalt choices es (outcome choice e.0 e.1 s).after
+
+-- A list of events is answered so, leaves this, and each of its scans halts so.
+pub record Halting (events : List (ℕ × Event)) (old : State) (answers : List (Result Step StepFault)) (new : State) : Type 0 where
+  pub steps : AllSteps events old answers new
+  pub halts : AllHalt steps.choices events old
 
 -- ---- what the text means
 
@@ -59,17 +72,21 @@ pub record Means (c : Checked) (now : ℕ) (s : State) : Type 0 where
   pub keeps : memory_of c (scanned now s).machine.slots (scanned now s).machine.timers ≡ after
   pub rows : (scanned now s).rows ≡ with_outputs s.switches s.writes (outputs_of (map point_of c.externals) after.externals) now 0 s.switches s.rows
 
--- So it is, if the event is a scan.
+-- So it is, if the event is a scan, once what has run out is ended.
 abbrev pub MeansAt : Checked → ℕ → Event → State → Type 0
-MeansAt c now Scan s = Means c now s
+MeansAt c now Scan s = Means c now (advanced now s)
+MeansAt c now (Open a) s = Unit {0}
+MeansAt c now (Recv a octets) s = Unit {0}
+MeansAt c now (Close a) s = Unit {0}
 MeansAt c now (Contact k position) s = Unit {0}
 MeansAt c now (Input k value) s = Unit {0}
 MeansAt c now (Measure k field value) s = Unit {0}
 
 -- Each scan of a list of events does so.
-abbrev pub AllMean : Checked → List (ℕ × Event) → State → Type 0
-AllMean c [] s = Unit {0}
-AllMean c (e ∷ es) s = MeansAt c e.0 e.1 s × AllMean c es (outcome e.0 e.1 s).after
+abbrev pub AllMean : Checked → List (Option ℕ) → List (ℕ × Event) → State → Type 0
+AllMean c choices [] s = Unit {0}
+AllMean c [] (e ∷ es) s = MeansAt c e.0 e.1 s × AllMean c [] es (outcome None e.0 e.1 s).after
+AllMean c (choice ∷ choices) (e ∷ es) s = MeansAt c e.0 e.1 s × AllMean c choices es (outcome choice e.0 e.1 s).after
 
 -- ---- which device runs a text
 

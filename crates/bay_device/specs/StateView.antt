@@ -1,24 +1,29 @@
--- The device that a state of the code stands for.
+-- The device that a state of the code stands for, beside its clients.
+use Rattle.std.specs.Prelude.{List, Option}
+use Rattle.bay_connection.specs.Talk.{Talk}
 use Rattle.bay_device.specs.Device.{State}
 use Rattle.bay_process.specs.Layout.{switches_of, meters_of}
 use Rattle.bay_device.specs.declared.state.DeviceState.{DeviceState}
 
-abbrev pub state_view : DeviceState → State
-state_view d = record {
-  domain = d.domain;
-  vendor = d.vendor;
-  model = d.model;
-  revision = d.revision;
+abbrev pub state_view : List (Option Talk) → DeviceState → State
+state_view connections d = record {
+  domain = d.bay.domain;
+  vendor = d.bay.vendor;
+  model = d.bay.model;
+  revision = d.bay.revision;
   scan_max_age_ms = d.scan_max_age_ms;
-  switches = switches_of d.switches;
+  switches = switches_of d.bay.switches;
   inputs = d.inputs;
   input_values = d.input_values;
   meters = meters_of d.meters;
   reads = d.reads;
   writes = d.writes;
   machine = d.machine;
-  rows = d.tree;
+  rows = d.bay.tree;
   moment = d.moment;
   last_scan = d.last_scan;
   is_stale = d.is_stale;
+  controls = d.bay.controls;
+  due = d.due;
+  connections = connections;
 }

@@ -1,29 +1,41 @@
 // The device that is handed out: one bay, stepped by events.
-ghost use Rattle.std.specs.Prelude.{◌≡◌, false, length, slice_get, option_map, IfOk, OnOk, OnErr};
+ghost use Rattle.std.specs.Prelude.{◌≡◌, ◌<◌, ℕ, [], List, Option, None, Some, false, length, slice_get, option_map, replicate, IfOk, IsSome, OnErr};
+ghost use Rattle.bay_transport.specs.Feeding.{IsGoing};
 ghost use Rattle.il_check.specs.Program.{Checked};
 ghost use Rattle.il_image.specs.Images.{encoded};
 ghost use Rattle.il_image.specs.declared.opcode.Version.TheVariants.{Two};
-ghost use Rattle.bay_device.specs.Device.{outcome, outcomes};
 ghost use Rattle.bay_device.specs.LookUps.{switch_place, input_place, meter_place, enabled_of};
-ghost use Rattle.bay_device.specs.Meaning.{AllHalt, AllMean, HaltsAt, MeansAt, Runs, is_refused};
+ghost use Rattle.bay_device.specs.Meaning.{AllMean, Halting, HaltsAt, MeansAt, Runs, is_refused};
+ghost use Rattle.bay_device.specs.Outcomes.{closed, closed_by, connection_at, event_outcome, outcome, place_of, recv_after};
 ghost use Rattle.bay_device.specs.Report.{IsReport};
 ghost use Rattle.bay_device.specs.StateView.{state_view};
+ghost use Rattle.bay_device.specs.Steps.{Gives, Hears, IsWithoutOctets, Receives, Steps};
+ghost use Rattle.bay_device.specs.declared.event.Event.TheVariants.{Open, Recv, Close, Contact, Input, Measure, Scan};
 
-use crate::event::{Event, Step};
+use crate::connections::{Connections, place_of};
+use crate::due::forget;
+use crate::event::{Event, LAST_MOMENT, Sent, Step, Why};
 use crate::fault::StepFault;
+use crate::message::Output;
+use crate::octets::drain;
 use crate::report::{Report, report_of};
 use crate::state::DeviceState;
+use bay_base::listing::Listing;
+use bay_config::bay::MeterField;
+use bay_connection::connection::Connection;
+use bay_tree::leaf::Dbpos;
 use bay_tree::tree::Tree;
 use il_image::encode::encode;
 use std::alloc::{AllocError, Global};
 use std::marker::Model;
 
 /// A device, which contracts see as its state: what the bay file says, the rows of its tree, the values of its inputs, the machine with
-/// its program, and the moments of the last event and the last scan.
+/// its program, its controls, the moments of the last event and the last scan, and what the octets of its clients have left.
 #[derive(Drop)]
 pub struct Device {
     alloc: Global,
     state: DeviceState,
+    connections: Connections,
 }
 
 impl Model for Device {
@@ -35,15 +47,29 @@ impl Model for Device {
 
     ghost coded = { Prim.hlevel codes };
 
-    ghost view = { λ d. state_view d.state };
+    ghost view = { λ d. state_view d.connections d.state };
+}
+
+// What the device tells of a closing.
+fn closed_by(association: u16, why: Option<Why>) -> Option<(u16, Why)>
+    ensures { result ≡ closed_by association why }
+{
+    match why {
+        Some(why) => Some((association, why)),
+        None => None,
+    }
 }
 
 impl Device {
-    /// The device of a state.
+    /// The device of a state, without clients.
     pub(crate) fn of_state(alloc: Global, state: DeviceState) -> Self
-        ensures { result ≡ state_view state }
+        ensures { result ≡ state_view (replicate 8 None) state }
     {
-        Device { alloc, state }
+        Device {
+            alloc,
+            state,
+            connections: Connections::new(),
+        }
     }
 
     /// The size of the program, and what a scan takes at most. It goes over the code once.
@@ -60,31 +86,241 @@ impl Device {
         encode(self.alloc, self.state.machine.verified().image())
     }
 
-    /// Does one event, at a moment in milliseconds since 1970. A refused event changes nothing.
-    pub fn step(&mut self, now: u64, event: Event) -> Result<Step, StepFault>
-        ensures answer { result ≡ (outcome now event self.old).answer }
-        ensures after { self.new ≡ (outcome now event self.old).after }
-        // A scan halts without a trap within the budget,
-        ensures halts { is_refused now self.old ≡ false → HaltsAt now event self.old }
-        // and on a device that runs a text it does what the text means.
-        ensures means { (c : Checked) → Runs c self.old → MeansAt c now event self.old × Runs c self.new }
+    // The answer to an event that sends nothing but what tells of an end.
+    fn quiet(&self, ended: Option<Sent>) -> Step
+        ensures { result ≡ record { ended = ended; sent = []; commands = []; closed = None; scan = None } }
     {
-        self.state.step(now, event)
+        Step {
+            ended,
+            sent: Listing::new(Vec::new(self.alloc)),
+            commands: Listing::new(Vec::new(self.alloc)),
+            closed: None,
+            scan: None,
+        }
+    }
+
+    // A client connects.
+    fn open(&mut self, now: u64, association: u16) -> Result<Step, StepFault>
+        ensures { Gives (event_outcome None now (Open association) self.old) result self.new }
+    {
+        let place = match place_of(association) {
+            Some(place) => place,
+            None => return Err(StepFault::NoSuchAssociation),
+        };
+        if self.connections.is_open(place) {
+            return Err(StepFault::AlreadyOpen);
+        }
+        let ended = self.state.advance(now);
+        let connection = Connection::new(self.alloc, association);
+        self.connections.put(place, Some(connection));
+        Ok(self.quiet(ended))
+    }
+
+    // Closes an association, which ends its selection.
+    fn drop_connection(&mut self, association: u16, place: usize)
+        requires { place_of association ≡ Some place }
+        ensures { self.new ≡ closed association self.old }
+    {
+        self.connections.put(place, None);
+        self.state.drop_owner(association);
+    }
+
+    // A client has closed its connection.
+    fn close(&mut self, now: u64, association: u16) -> Result<Step, StepFault>
+        ensures { Gives (event_outcome None now (Close association) self.old) result self.new }
+    {
+        let place = match place_of(association) {
+            Some(place) => place,
+            None => return Err(StepFault::NoSuchAssociation),
+        };
+        if !self.connections.is_open(place) {
+            return Err(StepFault::NoSuchAssociation);
+        }
+        let ended = self.state.advance(now);
+        self.drop_connection(association, place);
+        Ok(self.quiet(ended))
+    }
+
+    // Puts the connection of an association back, or closes the association.
+    fn finish(
+        &mut self,
+        association: u16,
+        place: usize,
+        connection: Connection,
+        why: Option<Why>,
+    )
+        requires here { place_of association ≡ Some place }
+        requires going { why ≡ None → IsGoing connection.talk.stream.left }
+        ensures { self.new ≡ recv_after association connection.talk self.old why }
+    {
+        match why {
+            None => self.connections.put(place, Some(connection)),
+            Some(_) => self.drop_connection(association, place),
+        }
+    }
+
+    // Hears the octets of an association that is open.
+    fn hear(
+        &mut self,
+        now: u64,
+        association: u16,
+        place: usize,
+        octets: &[u8],
+        ended: Option<Sent>,
+    ) -> Step
+        requires here { place_of association ≡ Some place }
+        requires open { IsSome (connection_at (Some place) self.old) }
+        requires some { 0 < length octets.now }
+        ensures { Hears now association octets.now ended self.old result self.new }
+    {
+        let mut connection = match self.connections.take(place) {
+            Some(connection) => connection,
+            None => unreachable!(),
+        };
+        let mut output = Output::new(self.alloc);
+        let why = drain(
+            self.alloc,
+            now,
+            association,
+            &mut self.state,
+            &mut connection,
+            octets,
+            &mut output,
+        )
+        .err();
+        self.finish(association, place, connection, why);
+        Step {
+            ended,
+            sent: Listing::new(output.sent),
+            commands: Listing::new(output.commands),
+            closed: closed_by(association, why),
+            scan: None,
+        }
+    }
+
+    // Octets of a client come.
+    fn recv(&mut self, now: u64, association: u16, octets: &[u8]) -> Result<Step, StepFault>
+        ensures { Receives now association octets.now self.old result self.new }
+    {
+        let place = match place_of(association) {
+            Some(place) => place,
+            None => return Err(StepFault::NoSuchAssociation),
+        };
+        if !self.connections.is_open(place) {
+            return Err(StepFault::NoSuchAssociation);
+        }
+        let ended = self.state.advance(now);
+        if octets.is_empty() {
+            return Ok(self.quiet(ended));
+        }
+        Ok(self.hear(now, association, place, octets, ended))
+    }
+
+    // The switch at a place reports a position.
+    fn contact(&mut self, now: u64, switch: usize, position: Dbpos) -> Result<Step, StepFault>
+        ensures { Gives (event_outcome None now (Contact switch position) self.old) result self.new }
+    {
+        let ended = self.state.contact(now, switch, position)?;
+        Ok(self.quiet(ended))
+    }
+
+    // The input at a place has a value.
+    fn take_input(&mut self, now: u64, input: usize, value: bool) -> Result<Step, StepFault>
+        ensures { Gives (event_outcome None now (Input input value) self.old) result self.new }
+    {
+        let ended = self.state.input(now, input, value)?;
+        Ok(self.quiet(ended))
+    }
+
+    // A field of the meter at a place has a value.
+    fn measure(
+        &mut self,
+        now: u64,
+        meter: usize,
+        field: MeterField,
+        value: i32,
+    ) -> Result<Step, StepFault>
+        ensures { Gives (event_outcome None now (Measure meter field value) self.old) result self.new }
+    {
+        let ended = self.state.measure(now, meter, field, value)?;
+        Ok(self.quiet(ended))
+    }
+
+    // The program runs once.
+    fn scan(&mut self, now: u64) -> Result<Step, StepFault>
+        ensures gives { Gives (event_outcome None now Scan self.old) result self.new }
+        ensures halts { HaltsAt now Scan self.old }
+    {
+        let ended = self.state.advance(now);
+        let steps = self.state.scan(now);
+        Ok(Step {
+            ended,
+            sent: Listing::new(Vec::new(self.alloc)),
+            commands: Listing::new(Vec::new(self.alloc)),
+            closed: None,
+            scan: Some(steps),
+        })
+    }
+
+    // Does one event at a moment.
+    fn do_event(&mut self, now: u64, event: Event<'_>) -> Result<Step, StepFault>
+        ensures steps { Steps now event.entry self.old result self.new }
+        ensures halts { is_refused now self.old ≡ false → HaltsAt now event.entry self.old }
+    {
+        if now > LAST_MOMENT {
+            return Err(StepFault::MomentTooLarge);
+        }
+        if now < self.state.moment {
+            return Err(StepFault::TimeWentBack);
+        }
+        match event {
+            Event::Open { association } => self.open(now, association),
+            Event::Recv {
+                association,
+                octets,
+            } => self.recv(now, association, octets),
+            Event::Close { association } => self.close(now, association),
+            Event::Contact { switch, position } => self.contact(now, switch, position),
+            Event::Input { input, value } => self.take_input(now, input, value),
+            Event::Measure {
+                meter,
+                field,
+                value,
+            } => self.measure(now, meter, field, value),
+            Event::Scan => self.scan(now),
+        }
+    }
+
+    /// Does one event, at a moment in milliseconds since 1970. A refused event changes nothing. Want of memory closes the association
+    /// whose octets came, and changes nothing else: the PDUs before it stand, and the one that it comes in does nothing.
+    ///
+    /// The first of these refuses: the moment is too large, 114; it is before the last event's, 110; the association's number is not 1
+    /// to 8, or it is not open, 111; it is open, 112; there is no such switch, input or meter, 113.
+    pub fn step(&mut self, now: u64, event: Event<'_>) -> Result<Step, StepFault>
+        // There is a choice with which the answer and the device are the outcome;
+        ensures steps { Steps now event.entry self.old result self.new }
+        // an event without octets has none, and takes no memory.
+        ensures sure { IsWithoutOctets event.entry → Gives (outcome None now event.entry self.old) result self.new }
+        // A scan halts without a trap within the budget,
+        ensures halts { is_refused now self.old ≡ false → HaltsAt now event.entry self.old }
+        // and on a device that runs a text it does what the text means.
+        ensures means { (c : Checked) → Runs c self.old → MeansAt c now event.entry self.old × Runs c self.new }
+    {
+        self.do_event(now, event)
     }
 
     /// Does a list of events, one after the other, and keeps each answer. Where there is no room for
     /// the answers, no event is done.
     pub fn run(
         &mut self,
-        events: &[(u64, Event)],
+        events: &[(u64, Event<'_>)],
     ) -> Result<Vec<Result<Step, StepFault>>, AllocError>
-        ensures answers { IfOk result (λ answers. answers.items ≡ (outcomes events.now self.old).answers) }
-        ensures after { OnOk result (self.new ≡ (outcomes events.now self.old).after) }
+        // There are choices with which the answers and the device are the outcome, and each scan halts without a trap within the budget;
+        ensures ok { IfOk result (λ answers. Halting events.now self.old answers.items self.new) }
         ensures err { OnErr result (self.new ≡ self.old) }
-        // Each scan halts without a trap within the budget,
-        ensures halts { OnOk result (AllHalt events.now self.old) }
-        // and on a device that runs a text the tree then holds what the text means.
-        ensures means { (c : Checked) → Runs c self.old → AllMean c events.now self.old × Runs c self.new }
+        // and on a device that runs a text the tree then holds what the text means, whatever the choices.
+        ensures means { (c : Checked) → Runs c self.old → (choices : List (Option ℕ)) → AllMean c choices events.now self.old }
+        ensures runs { (c : Checked) → Runs c self.old → Runs c self.new }
     {
         let mut answers = Vec::with_capacity(self.alloc, events.len())?;
         for (now, event) in events {
@@ -98,7 +334,7 @@ impl Device {
     pub fn switch_count(&self) -> usize
         ensures { result ≡ length self.now.switches }
     {
-        self.state.switches.as_slice().len()
+        self.state.bay.switches.as_slice().len()
     }
 
     /// The place of the switch with this id, whatever the case of its letters.
@@ -154,6 +390,6 @@ impl Device {
     pub fn tree(&self) -> &Tree
         ensures { result.now ≡ self.now.rows }
     {
-        &self.state.tree
+        &self.state.bay.tree
     }
 }

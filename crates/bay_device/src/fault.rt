@@ -121,19 +121,27 @@ pub enum StepFault {
     /// The moment is before the last event's.
     #[error("the moment is before the last event's")]
     TimeWentBack,
+    /// The association's number is not 1 to 8, or octets or an end come of one that is not open.
+    #[error("there is no such association")]
+    NoSuchAssociation,
+    /// The association that is to be opened is open.
+    #[error("the association is already open")]
+    AlreadyOpen,
     /// There is no such switch, input or meter.
     #[error("there is no such switch, input or meter")]
     NoSuchPoint,
 }
 
 impl StepFault {
-    /// The fault's number: 114 moment too large, 110 time went back, 113 no such point.
+    /// The fault's number: 114 moment too large, 110 time went back, 111 no such association, 112 already open, 113 no such point.
     pub fn code(self) -> u8
         ensures { result ≡ step_code_of self }
     {
         match self {
             StepFault::MomentTooLarge => 114,
             StepFault::TimeWentBack => 110,
+            StepFault::NoSuchAssociation => 111,
+            StepFault::AlreadyOpen => 112,
             StepFault::NoSuchPoint => 113,
         }
     }

@@ -4,15 +4,22 @@
 // the report, the image and the look-ups), `event` (what happens to a device, and what is answered), `report` (the size of a
 // program, and what a scan of it takes at most), `fault` (why texts and images are not loaded, and why an event is refused).
 //
-// Within: `state` is all that a step works on, and can take no memory; bay_process makes its parts of a bay and a verified image, and does
-// what an event does to them. `step` does an event, and `look_ups` answers what is asked, names by a `table`.
+// Within: `state` is all that a step works on but for its clients, and can take no memory; bay_process and bay_services make its parts
+// of a bay and a verified image. `step` does what contacts, inputs, measures, scans and time do to it, over `process`, `connections` has the clients'
+// connections, `octets` and `message` do what their octets come to, and `due` is what tells a client of the end of what it operates.
+// `look_ups` answers what is asked, names by a `table`.
 #![tactic(auto)]
 
+mod connections;
 pub mod device;
+mod due;
 pub mod event;
 pub mod fault;
 pub mod load;
 mod look_ups;
+mod message;
+mod octets;
+mod process;
 pub mod report;
 mod state;
 mod step;

@@ -1,5 +1,8 @@
 // A device from the text of a bay file and the text of a program, or the octets of an image.
-ghost use Rattle.std.specs.Prelude.{◌≡◌, ◌≢◌, ℕ, Ok, Err, IfOk, IfErr};
+ghost use Rattle.std.specs.Prelude.{◌≡◌, ◌≢◌, ℕ, None, Ok, Err, IfOk, IfErr, OnOk, length, replicate};
+ghost use Rattle.bay_process.specs.Controls.{AreAllControlRows, HaveSelected};
+ghost use Rattle.bay_process.specs.Layout.{layout_of};
+ghost use Rattle.bay_services.specs.Bay.{shown};
 ghost use Rattle.bay_base.specs.Exact.{Gives};
 ghost use Rattle.bay_config.specs.Bay.{bay_of};
 ghost use Rattle.bay_config.specs.Laws.{IsBay};
@@ -27,8 +30,13 @@ use crate::table::tables_of;
 use bay_base::listing::Listing;
 use bay_config::bay::{Bay, Point};
 use bay_config::read::read_bay;
+use bay_control::controls::Controls;
 use bay_process::bind::falses;
+use bay_process::controls::{ControlRows, control_rows};
 use bay_process::parts::{bound_rows, node_names, wired_machine};
+use bay_services::bay::ServedBay;
+use bay_services::decisions::show;
+use bay_tree::tree::Tree;
 use il_check::check::check;
 use il_check::program::Typed;
 use il_compile::compile::compile;
@@ -40,15 +48,33 @@ use il_text::read::read_program;
 use il_verify::verify::{Verified, verify};
 use std::alloc::{AllocError, Global};
 
+/// Where the controls of so many switches stand in a tree, which then shows that none is selected.
+fn shown_rows(
+    alloc: Global,
+    tree: &mut Tree,
+    count: usize,
+) -> Result<Listing<ControlRows>, AllocError>
+    requires { HaveSelected tree.old count }
+    ensures sized { IfOk result (λ rows. length rows ≡ count) }
+    ensures named { IfOk result (λ rows. AreAllControlRows tree.new rows) }
+    ensures rows { OnOk result (tree.new ≡ shown None count tree.old) }
+    ensures layout { OnOk result (layout_of tree.new ≡ layout_of tree.old) }
+{
+    let rows = control_rows(alloc, tree, count)?;
+    show(tree, rows.as_slice(), None);
+    Ok(Listing::new(rows))
+}
+
 /// The state of a device of a bay and a verified image, before its first event.
 fn state_of(alloc: Global, bay: Bay, verified: Verified) -> Result<DeviceState, AllocError>
     requires bay { IsBay bay }
     requires verified { IsVerified bay.points verified }
-    ensures { IfOk result (λ state. state_view state ≡ initial_device bay verified) }
+    ensures { IfOk result (λ state. state_view (replicate 8 None) state ≡ initial_device bay verified) }
 {
     let wired = wired_machine(alloc, bay.points.as_slice(), verified)?;
     let nodes = node_names(alloc, &bay)?;
     let input_values = falses(alloc, bay.inputs.as_slice())?;
+    let controls = Controls::new(&bay);
     let Bay {
         domain,
         vendor,
@@ -61,7 +87,7 @@ fn state_of(alloc: Global, bay: Bay, verified: Verified) -> Result<DeviceState, 
         meters,
         ..
     } = bay;
-    let bound = bound_rows(
+    let mut bound = bound_rows(
         alloc,
         rows.into_vec(),
         switches.into_vec(),
@@ -69,19 +95,24 @@ fn state_of(alloc: Global, bay: Bay, verified: Verified) -> Result<DeviceState, 
         &nodes,
         wired.writes.as_slice(),
     )?;
+    let control_rows = shown_rows(alloc, &mut bound.tree, bound.switches.len())?;
     let tables = tables_of(
         bound.switches.as_slice(),
         inputs.as_slice(),
         bound.meters.as_slice(),
     );
     Ok(DeviceState {
-        domain,
-        vendor,
-        model,
-        revision,
+        bay: ServedBay {
+            domain,
+            vendor,
+            model,
+            revision,
+            tree: bound.tree,
+            switches: Listing::new(bound.switches),
+            control_rows,
+            controls,
+        },
         scan_max_age_ms,
-        tree: bound.tree,
-        switches: Listing::new(bound.switches),
         inputs,
         input_values,
         meters: Listing::new(bound.meters),
@@ -93,6 +124,7 @@ fn state_of(alloc: Global, bay: Bay, verified: Verified) -> Result<DeviceState, 
         moment: 0,
         last_scan: None,
         is_stale: false,
+        due: None,
     })
 }
 

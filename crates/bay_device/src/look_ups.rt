@@ -1,5 +1,6 @@
 // What can be asked of a device's state.
-ghost use Rattle.std.specs.Prelude.{◌≡◌, true, slice_get, option_map};
+ghost use Rattle.std.specs.Prelude.{◌≡◌, true, List, Option, slice_get, option_map};
+ghost use Rattle.bay_connection.specs.Talk.{Talk};
 ghost use Rattle.bay_tree.specs.Rows.{leaf_of};
 ghost use Rattle.bay_process.specs.Values.{is_truth};
 ghost use Rattle.bay_process.specs.Layout.{layout_of, status_in, switches_of, AreSwitchRows};
@@ -26,30 +27,30 @@ fn enabled_at(tree: &Tree, rows: &SwitchRows) -> Enabled
 impl DeviceState {
     /// The place of the input with this name, whatever the case of its letters.
     pub fn input_place(&self, name: &str) -> Option<usize>
-        ensures { result ≡ input_place (state_view self.now) name.now }
+        ensures { (connections : List (Option Talk)) → result ≡ input_place (state_view connections self.now) name.now }
     {
         self.tables.inputs.place_of(self.inputs.as_slice(), name)
     }
 
     /// The place of the meter with this id, whatever the case of its letters.
     pub fn meter_place(&self, id: &str) -> Option<usize>
-        ensures { result ≡ meter_place (state_view self.now) id.now }
+        ensures { (connections : List (Option Talk)) → result ≡ meter_place (state_view connections self.now) id.now }
     {
         self.tables.meters.place_of(self.meters.as_slice(), id)
     }
 
     /// The place of the switch with this id, whatever the case of its letters.
     pub fn switch(&self, id: &str) -> Option<usize>
-        ensures { result ≡ switch_place (state_view self.now) id.now }
+        ensures { (connections : List (Option Talk)) → result ≡ switch_place (state_view connections self.now) id.now }
     {
-        self.tables.switches.place_of(self.switches.as_slice(), id)
+        self.tables.switches.place_of(self.bay.switches.as_slice(), id)
     }
 
     /// The id of the switch at a place, as the bay file spells it.
     pub fn id(&self, switch: usize) -> Option<&str>
-        ensures { option_map (λ id. id.now) result ≡ option_map (λ s. s.id) (slice_get (switches_of self.now.switches) switch) }
+        ensures { option_map (λ id. id.now) result ≡ option_map (λ s. s.id) (slice_get (switches_of self.now.bay.switches) switch) }
     {
-        match self.switches.as_slice().get(switch) {
+        match self.bay.switches.as_slice().get(switch) {
             Some(bound) => Some(bound.switch.id.as_str()),
             None => None,
         }
@@ -57,12 +58,12 @@ impl DeviceState {
 
     /// Whether the switch at a place may be opened, and whether it may be closed.
     pub fn ena(&self, switch: usize) -> Option<(bool, bool)>
-        ensures { result ≡ enabled_of (state_view self.now) switch }
+        ensures { (connections : List (Option Talk)) → result ≡ enabled_of (state_view connections self.now) switch }
     {
-        let bound = self.switches.as_slice().get(switch)?;
+        let bound = self.bay.switches.as_slice().get(switch)?;
         let enabled = match self.told.get(switch) {
             Some(enabled) => enabled,
-            None => enabled_at(&self.tree, &bound.rows),
+            None => enabled_at(&self.bay.tree, &bound.rows),
         };
         Some((enabled.may_open, enabled.may_close))
     }

@@ -6,30 +6,24 @@ ghost use Rattle.bay_process.specs.Sources.{type_of_source};
 ghost use Rattle.bay_device.specs.Table.{AreTables};
 ghost use Rattle.bay_process.specs.Told.{AreTold};
 
+use crate::due::Due;
 use crate::table::NameTables;
 use bay_base::listing::Listing;
 use bay_base::text::Text;
 use bay_config::bay::Source;
 use bay_process::meter::BoundMeter;
-use bay_process::switch::BoundSwitch;
 use bay_process::values::{ToldValues, Truths};
-use bay_tree::tree::Tree;
+use bay_services::bay::ServedBay;
 use il_scan::machine::Machine;
 
 /// A device, as load makes it and steps change it. No part of it hands out an allocator or can grow, so a
 /// step takes no memory.
 #[derive(Drop)]
 pub struct DeviceState {
-    /// What the bay file says of the bay.
-    pub domain: Text,
-    pub vendor: Text,
-    pub model: Text,
-    pub revision: Text,
+    /// The bay as its clients see it.
+    pub bay: ServedBay,
     /// How old a scan may be when a switch is operated, in milliseconds.
     pub scan_max_age_ms: u32,
-    pub tree: Tree,
-    /// The switches, in the order of the bay file.
-    pub switches: Listing<BoundSwitch>,
     /// The names of the inputs, in the order of the bay file, and their values.
     pub inputs: Listing<Text>,
     pub input_values: Truths,
@@ -49,10 +43,12 @@ pub struct DeviceState {
     pub last_scan: Option<u64>,
     /// Whether a value or a quality of a contact, an input or a measure has changed since the last scan.
     pub is_stale: bool,
-    ghost bound: { AreBound (layout_of tree) writes switches },
-    ghost metered: { AreMetersBound (layout_of tree) meters },
-    ghost told_stands: { AreTold tree told },
-    ghost told_sized: { length told ≡ length switches },
-    ghost tabled: { AreTables switches inputs meters tables },
+    /// What will tell a client of the end of what is operating.
+    pub due: Option<Due>,
+    ghost bound: { AreBound (layout_of bay.tree) writes bay.switches },
+    ghost metered: { AreMetersBound (layout_of bay.tree) meters },
+    ghost told_stands: { AreTold bay.tree told },
+    ghost told_sized: { length told ≡ length bay.switches },
+    ghost tabled: { AreTables bay.switches inputs meters tables },
     ghost typed: { map type_of_source reads ≡ map type_of_point (read_only machine.image.points) },
 }

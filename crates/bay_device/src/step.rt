@@ -1,124 +1,187 @@
-// What an event does to a device's state.
-ghost use Rattle.std.specs.Prelude.{◌≡◌, false};
-ghost use Rattle.bay_device.specs.Device.{event_outcome, outcome, ran_at, scanned};
-ghost use Rattle.bay_device.specs.Meaning.{Halts, HaltsAt, is_refused};
-ghost use Rattle.bay_device.specs.declared.event.Event.TheVariants.{Contact, Input, Measure};
+// What an event of the process does to a device's state: a contact, an input, a measure, a scan, and time.
+ghost use Rattle.std.specs.Prelude.{◌≡◌, ◌<◌, List, Option, Some, None, length, map, slice_get};
+ghost use Rattle.il_scan.specs.Scans.{Scans, outputs_of, read_only, type_of_point};
+ghost use Rattle.bay_connection.specs.Talk.{Talk};
+ghost use Rattle.bay_nodes.specs.declared.switch.Switch.{Switch};
+ghost use Rattle.bay_process.specs.Layout.{AreKinded, AreMeterKinded, layout_of, switches_of};
+ghost use Rattle.bay_process.specs.Scans.{bound_value};
+ghost use Rattle.bay_process.specs.Sources.{type_of_source};
+ghost use Rattle.bay_device.specs.Device.{advanced, contact_taken, ended_at, is_fresh, ran_at, reached_at, scanned};
+ghost use Rattle.bay_device.specs.Meaning.{Halts};
+ghost use Rattle.bay_device.specs.Outcomes.{event_outcome, or_else, without_owner};
 ghost use Rattle.bay_device.specs.StateView.{state_view};
+ghost use Rattle.bay_device.specs.Steps.{IsQuiet};
+ghost use Rattle.bay_device.specs.declared.event.Event.TheVariants.{Contact, Input, Measure};
 
-use crate::event::{Event, LAST_MOMENT, Step};
+use crate::due::{forget, missed, reached};
+use crate::event::Sent;
 use crate::fault::StepFault;
 use crate::state::DeviceState;
-use bay_config::bay::MeterField;
-use bay_process::contact::take_position;
-use bay_process::meter::take_measure;
-use bay_process::scan::{ReadPoints, write_outputs};
-use bay_process::values::same_truth;
+use crate::process;
+use bay_config::bay::{MeterField, Source};
+use bay_process::meter::BoundMeter;
+use bay_process::scan::ReadPoints;
+use bay_process::values::{Truths, same_truth};
+use bay_services::bay::ServedBay;
 use bay_tree::leaf::Dbpos;
+use il_scan::machine::Machine;
+
+/// The first of two.
+fn or_else(first: Option<Sent>, later: Option<Sent>) -> Option<Sent>
+    ensures { result ≡ or_else first later }
+{
+    match first {
+        Some(sent) => Some(sent),
+        None => later,
+    }
+}
+
+/// Runs the program once on the positions, the inputs and the measures as they stand, and counts its steps.
+fn run_program(
+    machine: &mut Machine,
+    bay: &ServedBay,
+    inputs: &Truths,
+    meters: &[BoundMeter],
+    reads: &[Source],
+    now: u64,
+) -> u32
+    requires kinded { AreKinded (layout_of bay.now.tree) bay.now.switches }
+    requires metered { AreMeterKinded (layout_of bay.now.tree) meters.now }
+    requires typed { map type_of_source reads.now ≡ map type_of_point (read_only machine.old.image.points) }
+    ensures { Scans machine.old (map (bound_value bay.now.tree bay.now.switches inputs.now meters.now) reads.now) now machine.new result (outputs_of machine.new.image.points machine.new.slots) }
+{
+    let points = ReadPoints {
+        tree: &bay.tree,
+        switches: bay.switches.as_slice(),
+        inputs,
+        meters,
+        reads,
+    };
+    machine.scan_points(&points, now)
+}
 
 impl DeviceState {
-    /// Takes the position of the switch at a place.
-    fn contact(&mut self, now: u64, switch: usize, position: Dbpos) -> Result<Step, StepFault>
-        ensures answer { result ≡ (event_outcome now (Contact switch position) (state_view self.old)).answer }
-        ensures after { state_view self.new ≡ (event_outcome now (Contact switch position) (state_view self.old)).after }
+    /// Whether the last scan is fresh at a moment: nothing that it read has changed since, and it is not too old.
+    pub fn is_fresh(&self, now: u64) -> bool
+        ensures { (connections : List (Option Talk)) → result ≡ is_fresh now (state_view connections self.now) }
     {
-        let rows = match self.switches.as_slice().get(switch) {
-            Some(bound) => bound.rows,
-            None => return Err(StepFault::NoSuchPoint),
+        let is_recent = match self.last_scan {
+            Some(scan) => now.saturating_sub(scan) <= u64::from(self.scan_max_age_ms),
+            None => false,
         };
-        let changed = take_position(&mut self.tree, &rows, position, now);
-        self.is_stale |= changed;
-        self.moment = now;
-        Ok(Step { scan: None })
+        is_recent && !self.is_stale
     }
 
-    /// Takes the value of the input at a place.
-    fn input(&mut self, now: u64, input: usize, value: bool) -> Result<Step, StepFault>
-        ensures answer { result ≡ (event_outcome now (Input input value) (state_view self.old)).answer }
-        ensures after { state_view self.new ≡ (event_outcome now (Input input value) (state_view self.old)).after }
+    /// Ends what has run out at a moment, and tells of an execution that has.
+    pub fn advance(&mut self, now: u64) -> Option<Sent>
+        ensures sent { (connections : List (Option Talk)) → result ≡ ended_at now (state_view connections self.old) }
+        ensures after { (connections : List (Option Talk)) → state_view connections self.new ≡ advanced now (state_view connections self.old) }
+    {
+        let over = self.bay.advance(now);
+        self.moment = now;
+        match over {
+            Some(_) => missed(&mut self.due),
+            None => None,
+        }
+    }
+
+    /// Takes the position of the switch at a place, and tells of the execution that it ends.
+    fn take_contact(&mut self, now: u64, switch: usize, position: Dbpos) -> Option<Sent>
+        requires { switch < length self.old.bay.switches }
+        ensures sent { (connections : List (Option Talk)) → result ≡ reached_at switch position (state_view connections self.old) }
+        ensures after { (connections : List (Option Talk)) (s : Switch) → slice_get (switches_of self.old.bay.switches) switch ≡ Some s → state_view connections self.new ≡ contact_taken now switch s position (state_view connections self.old) }
+    {
+        let changed = process::contact(&mut self.bay, now, switch, position);
+        self.is_stale |= changed;
+        if process::reach(&mut self.bay, switch, position) {
+            reached(&mut self.due)
+        } else {
+            None
+        }
+    }
+
+    /// The switch at a place reports a position.
+    pub fn contact(
+        &mut self,
+        now: u64,
+        switch: usize,
+        position: Dbpos,
+    ) -> Result<Option<Sent>, StepFault>
+        ensures { (connections : List (Option Talk)) → IsQuiet result (state_view connections self.new) (event_outcome None now (Contact switch position) (state_view connections self.old)) }
+    {
+        if switch >= self.bay.switches.as_slice().len() {
+            return Err(StepFault::NoSuchPoint);
+        }
+        let over = self.advance(now);
+        let reached = self.take_contact(now, switch, position);
+        Ok(or_else(over, reached))
+    }
+
+    /// The input at a place has a value.
+    pub fn input(
+        &mut self,
+        now: u64,
+        input: usize,
+        value: bool,
+    ) -> Result<Option<Sent>, StepFault>
+        ensures { (connections : List (Option Talk)) → IsQuiet result (state_view connections self.new) (event_outcome None now (Input input value) (state_view connections self.old)) }
     {
         let before = match self.input_values.get(input) {
             Some(before) => before,
             None => return Err(StepFault::NoSuchPoint),
         };
+        let over = self.advance(now);
         let changed = !same_truth(value, before);
         self.input_values.set(input, value);
         self.is_stale |= changed;
-        self.moment = now;
-        Ok(Step { scan: None })
+        Ok(over)
     }
 
-    /// Takes a measured value of the meter at a place.
-    fn measure(
+    /// A field of the meter at a place has a value.
+    pub fn measure(
         &mut self,
         now: u64,
         meter: usize,
         field: MeterField,
         value: i32,
-    ) -> Result<Step, StepFault>
-        ensures answer { result ≡ (event_outcome now (Measure meter field value) (state_view self.old)).answer }
-        ensures after { state_view self.new ≡ (event_outcome now (Measure meter field value) (state_view self.old)).after }
+    ) -> Result<Option<Sent>, StepFault>
+        ensures { (connections : List (Option Talk)) → IsQuiet result (state_view connections self.new) (event_outcome None now (Measure meter field value) (state_view connections self.old)) }
     {
         let rows = match self.meters.as_slice().get(meter) {
-            Some(bound) => bound.rows.field(field),
+            Some(bound) => bound.rows,
             None => return Err(StepFault::NoSuchPoint),
         };
-        let changed = take_measure(&mut self.tree, rows, value, now);
+        let over = self.advance(now);
+        let changed = process::measure(&mut self.bay, now, meter, rows, field, value);
         self.is_stale |= changed;
-        self.moment = now;
-        Ok(Step { scan: None })
+        Ok(over)
     }
 
     /// Runs the program once on the positions, the inputs and the measures as they stand, and counts its steps.
-    fn scan(&mut self, now: u64) -> u32
-        ensures after { state_view self.new ≡ scanned now (state_view self.old) }
-        ensures steps { result ≡ (ran_at now (state_view self.old)).steps }
-        ensures halts { Halts now (state_view self.old) }
+    pub fn scan(&mut self, now: u64) -> u32
+        ensures after { (connections : List (Option Talk)) → state_view connections self.new ≡ scanned now (state_view connections self.old) }
+        ensures steps { (connections : List (Option Talk)) → result ≡ (ran_at now (state_view connections self.old)).steps }
+        ensures halts { (connections : List (Option Talk)) → Halts now (state_view connections self.old) }
     {
-        let points = ReadPoints {
-            tree: &self.tree,
-            switches: self.switches.as_slice(),
-            inputs: &self.input_values,
-            meters: self.meters.as_slice(),
-            reads: self.reads.as_slice(),
-        };
-        let steps = self.machine.scan_points(&points, now);
-        write_outputs(
-            &mut self.tree,
-            &mut self.told,
-            self.switches.as_slice(),
-            &self.machine.outputs(),
+        let steps = run_program(
+            &mut self.machine,
+            &self.bay,
+            &self.input_values,
+            self.meters.as_slice(),
+            self.reads.as_slice(),
             now,
         );
+        process::write_scan(&mut self.bay, &mut self.told, &self.machine.outputs(), now);
         self.last_scan = Some(now);
         self.is_stale = false;
-        self.moment = now;
         steps
     }
 
-    /// Does one event, at a moment in milliseconds since 1970. A refused event changes nothing.
-    pub fn step(&mut self, now: u64, event: Event) -> Result<Step, StepFault>
-        ensures answer { result ≡ (outcome now event (state_view self.old)).answer }
-        ensures after { state_view self.new ≡ (outcome now event (state_view self.old)).after }
-        ensures halts { is_refused now (state_view self.old) ≡ false → HaltsAt now event (state_view self.old) }
+    /// Ends the selection of an association, which is closed, and forgets what is due to it.
+    pub fn drop_owner(&mut self, association: u16)
+        ensures { (connections : List (Option Talk)) → state_view connections self.new ≡ without_owner association (state_view connections self.old) }
     {
-        if now > LAST_MOMENT {
-            return Err(StepFault::MomentTooLarge);
-        }
-        if now < self.moment {
-            return Err(StepFault::TimeWentBack);
-        }
-        match event {
-            Event::Contact { switch, position } => self.contact(now, switch, position),
-            Event::Input { input, value } => self.input(now, input, value),
-            Event::Measure {
-                meter,
-                field,
-                value,
-            } => self.measure(now, meter, field, value),
-            Event::Scan => {
-                let steps = self.scan(now);
-                Ok(Step { scan: Some(steps) })
-            }
-        }
+        self.bay.drop_owner(association);
+        forget(&mut self.due, association);
     }
 }

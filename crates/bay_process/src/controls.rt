@@ -9,7 +9,6 @@ ghost use Rattle.bay_process.specs.Layout.{layout_of};
 ghost use Rattle.bay_process.specs.Nodes.{HasLeaf};
 ghost use Rattle.bay_process.specs.declared.controls.ControlRows as declared;
 
-use bay_config::bay::Switch;
 use bay_nodes::names::{CONTROL, node_name};
 use bay_nodes::paths::{CANCEL, OPERATE, SELECT, SELECT_WITH_VALUE, SELECTED};
 use bay_tree::tree::{Handle, Tree};
@@ -58,18 +57,18 @@ fn selected_at(alloc: Global, tree: &Tree, node: &str) -> Result<Handle, AllocEr
     }
 }
 
-/// The rows of the controls of these switches, in their order.
+/// The rows of the controls of so many switches, in their order.
 pub fn control_rows(
     alloc: Global,
     tree: &Tree,
-    switches: &[Switch],
+    count: usize,
 ) -> Result<Vec<ControlRows>, AllocError>
-    requires { HaveSelected tree.now (length switches.now) }
-    ensures sized { IfOk result (λ controls. length controls.items ≡ length switches.now) }
+    requires { HaveSelected tree.now count }
+    ensures sized { IfOk result (λ controls. length controls.items ≡ count) }
     ensures named { IfOk result (λ controls. AreAllControlRows tree.now controls.items) }
 {
     let mut controls = Vec::new(alloc);
-    for place in 0..switches.len() {
+    for place in 0..count {
         let name = node_name(alloc, CONTROL, place + 1)?;
         let node = name.as_str();
         let selected = selected_at(alloc, tree, node)?;

@@ -1,6 +1,8 @@
 -- What shows the selection shows the last one.
 use Rattle.std.proofs.Common.{◌≡◌, ℕ, zero, suc, ◌+◌, add-one, ◌⊎◌, inl, inr, Bool, true, false, cond, List, [], ◌∷◌, map, Option, Some, None, refl, ap, sym, subst, ◌∙◌}
 use Rattle.std.specs.Str.{bytes_eq}
+use Rattle.std.proofs.lemmas.Slice.Eq.{bytes_eq-Decides}
+use Rattle.bay_tree.proofs.NamedLemmas.{same_text}
 use Rattle.bay_nodes.specs.Names.{control_names}
 use Rattle.bay_tree.specs.Rows.{with_leaf_of}
 use Rattle.bay_tree.specs.declared.leaf.Kind.{Kind}
@@ -8,7 +10,8 @@ use Rattle.bay_tree.specs.declared.leaf.Leaf.{Leaf}
 use Rattle.bay_tree.specs.declared.leaf.Leaf.TheVariants as leaf
 use Rattle.bay_tree.specs.declared.row.Row.{Row}
 use Rattle.bay_process.specs.Layout.{HasKind, Layout, layout_of, name_in}
-use Rattle.bay_services.specs.Bay.{is_selected, shown}
+use Rattle.bay_control.specs.Decisions.{State, selected_switch}
+use Rattle.bay_services.specs.Bay.{ShowSelection, is_selected, shown}
 
 -- one row with a new value, if it has the name
 abbrev written : Bool → Leaf → Row → Row
@@ -107,3 +110,35 @@ shown_more selected k old before after row value same at is shows put =
 
 pub kind_kept : (rows old : List Row) (row : ℕ) (kind : Kind) → layout_of rows ≡ layout_of old → HasKind (layout_of old) row kind → HasKind (layout_of rows) row kind
 kind_kept rows old row kind same has = subst (λ (l : Layout). HasKind l row kind) (sym same) has
+
+-- ---- what is written elsewhere
+
+-- two rows of different names, written in either order
+swap_if : (p q : Bool) (r : Row) (a b : List ℕ) (x y : Leaf) → bytes_eq r.name a ≡ p → bytes_eq r.name b ≡ q → bytes_eq b a ≡ false
+    → written (bytes_eq (written q y r).name a) x (written q y r) ≡ written (bytes_eq (written p x r).name b) y (written p x r)
+swap_if true true r a b x y here there apart =
+    let same : b ≡ a = sym ((bytes_eq-Decides r.name b).0 there) ∙ (bytes_eq-Decides r.name a).0 here in
+    let yes : bytes_eq b a ≡ true = ap (λ n. bytes_eq n a) same ∙ same_text a in
+    absurd (cc)
+swap_if true false r a b x y here there apart = rw (here, there) refl
+swap_if false true r a b x y here there apart = rw (here, there) refl
+swap_if false false r a b x y here there apart = rw (here, there) refl
+
+swapped : (rows : List Row) (a b : List ℕ) (x y : Leaf) → bytes_eq b a ≡ false → with_leaf_of a x (with_leaf_of b y rows) ≡ with_leaf_of b y (with_leaf_of a x rows)
+swapped [] a b x y apart = refl
+swapped (r ∷ rows) a b x y apart =
+    let first = swap_if (bytes_eq r.name a) (bytes_eq r.name b) r a b x y refl refl apart in
+    ap (λ s. s ∷ with_leaf_of a x (with_leaf_of b y rows)) first
+    ∙ ap (λ rs. written (bytes_eq (written (bytes_eq r.name a) x r).name b) y (written (bytes_eq r.name a) x r) ∷ rs) (swapped rows a b x y apart)
+
+shown_beside : (selected : Option ℕ) (count : ℕ) (rows : List Row) (name : List ℕ) (value : Leaf) → ((k : ℕ) → bytes_eq name (control_names k).selected ≡ false)
+    → shown selected count (with_leaf_of name value rows) ≡ with_leaf_of name value (shown selected count rows)
+shown_beside selected zero rows name value apart = refl
+shown_beside selected (suc k) rows name value apart =
+    ap (with_leaf_of ((control_names k).selected) (leaf.Truth (is_selected k selected))) (shown_beside selected k rows name value apart)
+    ∙ swapped (shown selected k rows) ((control_names k).selected) name (leaf.Truth (is_selected k selected)) value (apart k)
+
+pub shown_kept : (controls : State) (count : ℕ) (rows : List Row) (name : List ℕ) (value : Leaf) → ((k : ℕ) → bytes_eq name (control_names k).selected ≡ false)
+    → ShowSelection controls count rows → ShowSelection controls count (with_leaf_of name value rows)
+shown_kept controls count rows name value apart shows =
+    shown_beside (selected_switch controls.selection) count rows name value apart ∙ ap (with_leaf_of name value) shows

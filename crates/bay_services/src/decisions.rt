@@ -58,6 +58,7 @@ impl ServedBay {
         ensures after { bay_view self.new ≡ with_controls (select_outcome client.association switch client.now self.old.controls).after (bay_view self.old) }
         ensures layout { layout_of self.new.tree ≡ layout_of self.old.tree }
         ensures back { (standing : Standing) → standing_again standing (bay_view self.new) ≡ standing_again standing (bay_view self.old) }
+        ensures switches { self.new.switches ≡ self.old.switches }
     {
         let answer = self.controls.select(client.association, switch, client.now);
         show_selection(&mut self.tree, &self.control_rows, &self.controls);
@@ -75,6 +76,7 @@ impl ServedBay {
         ensures after { bay_view self.new ≡ with_controls (select_with_outcome client.association switch ask client.now self.old.controls).after (bay_view self.old) }
         ensures layout { layout_of self.new.tree ≡ layout_of self.old.tree }
         ensures back { (standing : Standing) → standing_again standing (bay_view self.new) ≡ standing_again standing (bay_view self.old) }
+        ensures switches { self.new.switches ≡ self.old.switches }
     {
         let answer = self
             .controls
@@ -89,6 +91,7 @@ impl ServedBay {
         ensures after { bay_view self.new ≡ with_controls (cancel_outcome client.association switch client.now self.old.controls).after (bay_view self.old) }
         ensures layout { layout_of self.new.tree ≡ layout_of self.old.tree }
         ensures back { (standing : Standing) → standing_again standing (bay_view self.new) ≡ standing_again standing (bay_view self.old) }
+        ensures switches { self.new.switches ≡ self.old.switches }
     {
         let answer = self.controls.cancel(client.association, switch, client.now);
         show_selection(&mut self.tree, &self.control_rows, &self.controls);
@@ -121,6 +124,7 @@ impl ServedBay {
         ensures after { bay_view self.new ≡ with_controls (operate_outcome client.association switch ask (view_of client switch (bay_view self.old)) client.now self.old.controls).after (bay_view self.old) }
         ensures layout { layout_of self.new.tree ≡ layout_of self.old.tree }
         ensures back { (standing : Standing) → standing_again standing (bay_view self.new) ≡ standing_again standing (bay_view self.old) }
+        ensures switches { self.new.switches ≡ self.old.switches }
     {
         let view = self.view(client, switch);
         let answer = self
@@ -140,7 +144,9 @@ impl ServedBay {
 
     /// Puts back what was selected and what was operating.
     pub fn restore(&mut self, standing: Standing)
-        ensures { bay_view self.new ≡ standing_again standing (bay_view self.old) }
+        ensures after { bay_view self.new ≡ standing_again standing (bay_view self.old) }
+        ensures switches { self.new.switches ≡ self.old.switches }
+        ensures layout { layout_of self.new.tree ≡ layout_of self.old.tree }
     {
         self.controls.restore(standing);
         show_selection(&mut self.tree, &self.control_rows, &self.controls);
@@ -150,6 +156,8 @@ impl ServedBay {
     pub fn advance(&mut self, now: u64) -> Option<usize>
         ensures run_out { result ≡ run_out now self.old.controls.controls self.old.controls.execution }
         ensures after { bay_view self.new ≡ with_controls (advanced now self.old.controls) (bay_view self.old) }
+        ensures switches { self.new.switches ≡ self.old.switches }
+        ensures layout { layout_of self.new.tree ≡ layout_of self.old.tree }
     {
         if self.controls.selected().is_none() {
             return self.controls.advance(now);
@@ -161,7 +169,9 @@ impl ServedBay {
 
     /// Ends the selection of an association, which is closed.
     pub fn drop_owner(&mut self, association: u16)
-        ensures { bay_view self.new ≡ with_controls (dropped association self.old.controls) (bay_view self.old) }
+        ensures after { bay_view self.new ≡ with_controls (dropped association self.old.controls) (bay_view self.old) }
+        ensures switches { self.new.switches ≡ self.old.switches }
+        ensures layout { layout_of self.new.tree ≡ layout_of self.old.tree }
     {
         self.controls.drop_owner(association);
         show_selection(&mut self.tree, &self.control_rows, &self.controls);

@@ -2,15 +2,16 @@
 // Nothing here knows of connections.
 //
 // `bay` (what clients see of a bay and do to it), `client` (who asks, and when), `answer` (what a
-// PDU comes to), `services` (which answers and does it). Within: `target` tells which control a row is, `decisions` hands
-// what is asked of controls to them and lets the rows show the selection, `reading` and `writing` do the variables of a read and of a
+// PDU comes to), `services` (which answers and does it), `decisions` (which lets a tree show what is selected), `laws` (what holds of it). Within: `target` tells which control a row is, `decisions` also hands
+// what is asked of controls to them, `reading` and `writing` do the variables of a read and of a
 // write, `listing` answers with names, and `reply` keeps answers within the size of a PDU.
 #![tactic(auto)]
 
 pub mod answer;
 pub mod bay;
 pub mod client;
-mod decisions;
+pub mod decisions;
+pub mod laws;
 mod listing;
 mod reading;
 mod reply;

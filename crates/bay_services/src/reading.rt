@@ -5,6 +5,7 @@ ghost use Rattle.bay_mms.specs.RequestViews.{naming};
 ghost use Rattle.bay_mms.specs.declared.fault.WriteFault.TheVariants.{TooLong};
 ghost use Rattle.bay_control.specs.Decisions.{select_outcome};
 ghost use Rattle.bay_tree.specs.Rows.{IsHandle, name_at};
+ghost use Rattle.bay_process.specs.Layout.{layout_of};
 ghost use Rattle.bay_services.specs.Bay.{standing_again};
 ghost use Rattle.bay_services.specs.Places.{IsFound};
 ghost use Rattle.bay_services.specs.Reads.{read_all, read_one, read_row, select_done};
@@ -64,6 +65,8 @@ impl ServedBay {
         ensures ok { OnOk result (reading self.new response.new ≡ select_done client switch (name_at self.old.tree row) (reading self.old response.old) (select_outcome client.association switch client.now self.old.controls)) }
         ensures long { IfErr result (λ fault. fault ≡ TooLong → 4294967296 ≤ length (select_done client switch (name_at self.old.tree row) (reading self.old response.old) (select_outcome client.association switch client.now self.old.controls)).results) }
         ensures back { (standing : Standing) → standing_again standing (bay_view self.new) ≡ standing_again standing (bay_view self.old) }
+        ensures switches { self.new.switches ≡ self.old.switches }
+        ensures layout { layout_of self.new.tree ≡ layout_of self.old.tree }
     {
         match self.select(client, switch) {
             Ok(()) => {
@@ -86,6 +89,8 @@ impl ServedBay {
         ensures ok { OnOk result (reading self.new response.new ≡ read_row client (reading self.old response.old) (Some row)) }
         ensures long { IfErr result (λ fault. fault ≡ TooLong → 4294967296 ≤ length (read_row client (reading self.old response.old) (Some row)).results) }
         ensures back { (standing : Standing) → standing_again standing (bay_view self.new) ≡ standing_again standing (bay_view self.old) }
+        ensures switches { self.new.switches ≡ self.old.switches }
+        ensures layout { layout_of self.new.tree ≡ layout_of self.old.tree }
     {
         match self.target(row) {
             Some(
@@ -109,6 +114,8 @@ impl ServedBay {
         ensures ok { OnOk result (reading self.new response.new ≡ read_one client (naming name.now) (reading self.old response.old)) }
         ensures long { IfErr result (λ fault. fault ≡ TooLong → 4294967296 ≤ length (read_one client (naming name.now) (reading self.old response.old)).results) }
         ensures back { (standing : Standing) → standing_again standing (bay_view self.new) ≡ standing_again standing (bay_view self.old) }
+        ensures switches { self.new.switches ≡ self.old.switches }
+        ensures layout { layout_of self.new.tree ≡ layout_of self.old.tree }
     {
         match self.row_named(name) {
             Some(row) => self.read_row(alloc, client, row, response),
@@ -127,6 +134,8 @@ impl ServedBay {
         ensures ok { OnOk result (reading self.new response.new ≡ read_all client (map naming names.now) (reading self.old response.old)) }
         ensures long { IfErr result (λ fault. fault ≡ TooLong → 4294967296 ≤ length (read_all client (map naming names.now) (reading self.old response.old)).results) }
         ensures back { (standing : Standing) → standing_again standing (bay_view self.new) ≡ standing_again standing (bay_view self.old) }
+        ensures switches { self.new.switches ≡ self.old.switches }
+        ensures layout { layout_of self.new.tree ≡ layout_of self.old.tree }
     {
         for name in names {
             self.read_one(alloc, client, name, response)?;

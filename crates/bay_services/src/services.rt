@@ -6,6 +6,7 @@ ghost use Rattle.bay_mms.specs.RequestViews.{asking, naming};
 ghost use Rattle.bay_mms.specs.Responses.{concluded_text, error_text, read_text};
 ghost use Rattle.bay_mms.specs.Views.{data_in};
 ghost use Rattle.bay_mms.specs.Writing.{written};
+ghost use Rattle.bay_process.specs.Layout.{layout_of};
 ghost use Rattle.bay_services.specs.Answers.{Answered, answer_of, answered, attributes_at, identified, read_asked, refused, rejected, responded, said, served, write_asked};
 ghost use Rattle.bay_services.specs.Bay.{Bay, standing_again};
 ghost use Rattle.bay_services.specs.Rows.{row_named};
@@ -140,6 +141,8 @@ impl ServedBay {
         ensures response { Gives WriteFault.OutOfMemory (λ octets. octets.items) result (written (read_text id (read_all client (map naming names.now) (nothing_read (bay_view self.old))).results)) }
         ensures after { OnOk result (bay_view self.new ≡ (read_all client (map naming names.now) (nothing_read (bay_view self.old))).bay) }
         ensures back { (standing : Standing) → standing_again standing (bay_view self.new) ≡ standing_again standing (bay_view self.old) }
+        ensures switches { self.new.switches ≡ self.old.switches }
+        ensures layout { layout_of self.new.tree ≡ layout_of self.old.tree }
     {
         let mut response = ReadResponse::new(alloc);
         self.read_all(alloc, client, names, &mut response)?;
@@ -155,6 +158,8 @@ impl ServedBay {
     ) -> Result<Answer, AllocError>
         ensures ok { IfOk result (λ answer. AnswersAs answer (bay_view self.new) (read_asked client id (bay_view self.old) (map naming names.now))) }
         ensures back { (standing : Standing) → standing_again standing (bay_view self.new) ≡ standing_again standing (bay_view self.old) }
+        ensures switches { self.new.switches ≡ self.old.switches }
+        ensures layout { layout_of self.new.tree ≡ layout_of self.old.tree }
     {
         let before = self.standing();
         let response = self.read_response(alloc, client, id, names);
@@ -177,6 +182,8 @@ impl ServedBay {
     ) -> Result<Answer, AllocError>
         ensures ok { IfOk result (λ answer. AnswersAs answer (bay_view self.new) (write_asked client id (bay_view self.old) (map naming names.now) (data_in values.now))) }
         ensures back { (standing : Standing) → standing_again standing (bay_view self.new) ≡ standing_again standing (bay_view self.old) }
+        ensures switches { self.new.switches ≡ self.old.switches }
+        ensures layout { layout_of self.new.tree ≡ layout_of self.old.tree }
     {
         let before = self.standing();
         let mut done = Written {
@@ -220,6 +227,8 @@ impl ServedBay {
         requires most { client.size ≤ 65_000 }
         ensures ok { IfOk result (λ answer. AnswersAs answer (bay_view self.new) (served client id (bay_view self.old) (asking call.now))) }
         ensures back { (standing : Standing) → standing_again standing (bay_view self.new) ≡ standing_again standing (bay_view self.old) }
+        ensures switches { self.new.switches ≡ self.old.switches }
+        ensures layout { layout_of self.new.tree ≡ layout_of self.old.tree }
     {
         match call {
             Call::Identify => self.identify(alloc, client, id),
@@ -249,6 +258,8 @@ impl ServedBay {
         ensures ok { IfOk result (λ answer. AnswersAs answer (bay_view self.new) (answer_of client (bay_view self.old) (read_as request.entry))) }
         ensures memory { IfOk result (λ _. request.entry ≢ Err MmsFault.OutOfMemory) }
         ensures back { (standing : Standing) → standing_again standing (bay_view self.new) ≡ standing_again standing (bay_view self.old) }
+        ensures switches { self.new.switches ≡ self.old.switches }
+        ensures layout { layout_of self.new.tree ≡ layout_of self.old.tree }
     {
         match request {
             Ok(Request::Initiate(_)) => rejected(alloc, None, RejectReason::InvalidPdu),
@@ -276,6 +287,8 @@ impl ServedBay {
         ensures err { OnErr result (bay_view self.new ≡ bay_view self.old) }
         // What it did can be undone, where what it is to send finds no memory.
         ensures back { (standing : Standing) → standing_again standing (bay_view self.new) ≡ standing_again standing (bay_view self.old) }
+        ensures switches { self.new.switches ≡ self.old.switches }
+        ensures layout { layout_of self.new.tree ≡ layout_of self.old.tree }
     {
         let before = self.standing();
         let request = read_request(alloc, pdu);

@@ -3,6 +3,7 @@ ghost use Rattle.std.specs.Prelude.{◌≡◌, ◌≤◌, ◌<◌, ◌++◌, Som
 ghost use Rattle.bay_mms.specs.ControlViews.{cancelling, operating};
 ghost use Rattle.bay_mms.specs.Controls.{cancel_in, operate_in};
 ghost use Rattle.bay_tree.specs.Rows.{IsHandle, name_at};
+ghost use Rattle.bay_process.specs.Layout.{layout_of};
 ghost use Rattle.bay_services.specs.Controls.{ask_of, ending_of, endings, has_reports, object_of, refusal_reports};
 ghost use Rattle.bay_services.specs.Places.{IsFound};
 ghost use Rattle.bay_services.specs.Writes.{cancel_asked, commands_for, decision_result, later_ending, operate_asked, select_with_asked, write_all, write_one, write_row};
@@ -209,6 +210,8 @@ impl ServedBay {
         requires { IsHandle self.old.tree part.row }
         ensures ok { OnOk result (writing self.new written.new ≡ select_with_asked client part.switch (name_at self.old.tree part.row) (writing self.old written.old) (operate_in (datum_of given.now))) }
         ensures back { (standing : Standing) → standing_again standing (bay_view self.new) ≡ standing_again standing (bay_view self.old) }
+        ensures switches { self.new.switches ≡ self.old.switches }
+        ensures layout { layout_of self.new.tree ≡ layout_of self.old.tree }
     {
         let operate = match operate_of(given) {
             Ok(operate) => operate,
@@ -230,6 +233,8 @@ impl ServedBay {
         requires { IsHandle self.old.tree part.row }
         ensures ok { OnOk result (writing self.new written.new ≡ cancel_asked client part.switch (name_at self.old.tree part.row) (writing self.old written.old) (cancel_in (datum_of given.now))) }
         ensures back { (standing : Standing) → standing_again standing (bay_view self.new) ≡ standing_again standing (bay_view self.old) }
+        ensures switches { self.new.switches ≡ self.old.switches }
+        ensures layout { layout_of self.new.tree ≡ layout_of self.old.tree }
     {
         let cancel = match cancel_of(given) {
             Ok(cancel) => cancel,
@@ -307,6 +312,8 @@ impl ServedBay {
         requires switch { part.switch < length self.old.switches }
         ensures ok { OnOk result (writing self.new written.new ≡ operate_asked client part.switch (name_at self.old.tree part.row) (writing self.old written.old) (operate_in (datum_of given.now))) }
         ensures back { (standing : Standing) → standing_again standing (bay_view self.new) ≡ standing_again standing (bay_view self.old) }
+        ensures switches { self.new.switches ≡ self.old.switches }
+        ensures layout { layout_of self.new.tree ≡ layout_of self.old.tree }
     {
         let operate = match operate_of(given) {
             Ok(operate) => operate,
@@ -330,6 +337,8 @@ impl ServedBay {
         requires { IsFound self.old.tree row }
         ensures ok { OnOk result (writing self.new written.new ≡ write_row client (datum_of given.now) (writing self.old written.old) (Some row)) }
         ensures back { (standing : Standing) → standing_again standing (bay_view self.new) ≡ standing_again standing (bay_view self.old) }
+        ensures switches { self.new.switches ≡ self.old.switches }
+        ensures layout { layout_of self.new.tree ≡ layout_of self.old.tree }
     {
         let target = match self.target(row) {
             Some(target) => target,
@@ -358,6 +367,8 @@ impl ServedBay {
     ) -> Result<(), AllocError>
         ensures ok { OnOk result (writing self.new written.new ≡ write_one client (naming name.now) (datum_of given.now) (writing self.old written.old)) }
         ensures back { (standing : Standing) → standing_again standing (bay_view self.new) ≡ standing_again standing (bay_view self.old) }
+        ensures switches { self.new.switches ≡ self.old.switches }
+        ensures layout { layout_of self.new.tree ≡ layout_of self.old.tree }
     {
         match self.row_named(name) {
             Some(row) => self.write_row(alloc, client, row, given, written),
@@ -376,6 +387,8 @@ impl ServedBay {
     ) -> Result<(), AllocError>
         ensures ok { OnOk result (writing self.new written.new ≡ write_all client (map naming names.now) (data_in values.now) (writing self.old written.old)) }
         ensures back { (standing : Standing) → standing_again standing (bay_view self.new) ≡ standing_again standing (bay_view self.old) }
+        ensures switches { self.new.switches ≡ self.old.switches }
+        ensures layout { layout_of self.new.tree ≡ layout_of self.old.tree }
     {
         for i in 0..names.len().min(values.len()) {
             self.write_one(alloc, client, &names[i], &values[i], written)?;

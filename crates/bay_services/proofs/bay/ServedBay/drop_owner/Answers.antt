@@ -16,5 +16,5 @@ invariant_of-self c =
       shows = shows c.drop_owner.new.self _ _ _ _ d.sized c.show_selection.ensures.rows;
     }
 
-pub returns : goal.returns
-returns c = decided c.args.self.now _ _ _ _ c.args.self.now.sized c.show_selection.ensures.rows c.drop_owner.ensures
+pub returns-clause-after : goal.returns-clause-after
+returns-clause-after c = decided c.args.self.now _ _ _ _ c.args.self.now.sized c.show_selection.ensures.rows c.drop_owner.ensures

@@ -22,6 +22,6 @@ pub returns-in-None-clause-ok : goal.returns-in-None-clause-ok
 returns-in-None-clause-ok c =
     let old = bay_view c.args.self.now in
     let r = read_all c.args.client (map naming c.args.names.now) (nothing_read old) in
-    let back : bay_view c.restore.new.self ≡ old = c.restore.ensures ∙ c.read_response-response.ensures.back c.standing-before.result ∙ c.standing-before.ensures.own in
+    let back : bay_view c.restore.new.self ≡ old = c.restore.ensures.after ∙ c.read_response-response.ensures.back c.standing-before.result ∙ c.standing-before.ensures.own in
     said_as c.failed.result _ _ _ c.failed.ensures
     (read_over c.args.client c.args.id old r c.in_ok-pdu.field-0 (c.in_ok-pdu.ensures.pdu _ c.read_response-response.ensures.response) c.in-None.is ∙ ap (said (error_text c.args.id Resource)) (sym back))

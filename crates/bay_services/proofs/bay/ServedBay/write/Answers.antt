@@ -14,7 +14,7 @@ pub returns-in-None-clause-ok : goal.returns-in-None-clause-ok
 returns-in-None-clause-ok c =
     let old = bay_view c.args.self.now in
     let w = write_all c.args.client (map naming c.args.names.now) (data_in c.args.values.now) (nothing_written old) in
-    let back : bay_view c.restore.new.self ≡ old = c.restore.ensures ∙ c.write_all.ensures.back c.standing-before.result ∙ c.standing-before.ensures.own in
+    let back : bay_view c.restore.new.self ≡ old = c.restore.ensures.after ∙ c.write_all.ensures.back c.standing-before.result ∙ c.standing-before.ensures.own in
     let made = writing c.write_all.new.self c.write_all.new.written in
     let ok : made ≡ w = rw (c.new.ensures, c.new-2.ensures.items, c.new-3.ensures.items) at c.in_ok-write_all.ensures.ok in
     said_as c.failed.result _ _ _ c.failed.ensures

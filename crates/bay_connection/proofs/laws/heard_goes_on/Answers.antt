@@ -1,0 +1,8 @@
+use Rattle.bay_connection.proofs.GoingLemmas.{heard_going, nothing_going}
+use Rattle.bay_connection.proofs.laws.heard_goes_on.Goals as goal
+
+pub returns-clause-quiet : goal.returns-clause-quiet
+returns-clause-quiet c = nothing_going
+
+pub returns-clause-heard : goal.returns-clause-heard
+returns-clause-heard c = heard_going

@@ -1,0 +1,88 @@
+-- A Recv, from what its octets come to.
+use Rattle.std.proofs.Common.{◌≡◌, ◌<◌, ℕ, List, [], ◌∷◌, length, Option, None, Some, IsSome, is_some, unwrap_or, Result, Ok, Err, refl, ap, sym, ◌∙◌, true, slice_get, slice_set, arith}
+use Rattle.std.proofs.lemmas.List.{set-set}
+use Rattle.std.specs.Result.{OnOk, IfErr, result_err}
+use Rattle.bay_connection.specs.Talk.{Talk, indications, left_by}
+use Rattle.bay_device.specs.Device.{State, advanced, ended_at}
+use Rattle.bay_device.specs.Hearing.{Done, Heard, heard}
+use Rattle.bay_device.specs.HearingViews.{ComesTo}
+use Rattle.bay_device.specs.Outcomes.{Outcome, closed, closed_by, connection_at, nothing_done, octets_outcome, place_of, recv_after, recv_done, recv_outcome, with_connection, without_owner}
+use Rattle.bay_device.specs.Steps.{Hears, HearsFrom, Receives}
+use Rattle.bay_device.specs.declared.event.Sent.{Sent}
+use Rattle.bay_device.specs.declared.event.Step.{Step}
+use Rattle.bay_device.specs.declared.event.Why.{Why}
+use Rattle.bay_device.specs.declared.fault.StepFault.{StepFault}
+
+pub ended : {T : Type 0} (r : Result T Why) (P : Option Why → Type 0) → OnOk r (P None) → IfErr r (λ why. P (Some why)) → P (result_err r)
+ended (Ok x) P ok err = ok
+ended (Err why) P ok err = err
+
+-- what is left is asked only where the association goes on
+pub left-if : {T : Type 0} (r : Result T Why) (a : ℕ) (s : State) (left wanted : Talk) → OnOk r (left ≡ wanted) → recv_after a left s (result_err r) ≡ recv_after a wanted s (result_err r)
+left-if (Ok x) a s left wanted is = ap (λ (t : Talk). recv_after a t s None) is
+left-if (Err why) a s left wanted is = refl
+
+-- the connection may have been taken out before
+one : (place : ℕ) (x : Option Talk) (s : State) → with_connection (Some place) x (record s { connections = slice_set s.connections place None }) ≡ with_connection (Some place) x s
+one place x s = ap (λ (cs : List (Option Talk)). record s { connections = cs }) (set-set s.connections place None x)
+
+placed : (a place : ℕ) (x : Option Talk) (s : State) → place_of a ≡ Some place
+    → with_connection (place_of a) x (record s { connections = slice_set s.connections place None }) ≡ with_connection (place_of a) x s
+placed a place x s here =
+    ap (λ (o : Option ℕ). with_connection o x (record s { connections = slice_set s.connections place None })) here ∙ one place x s ∙ sym (ap (λ (o : Option ℕ). with_connection o x s) here)
+
+pub after-taken : (a place : ℕ) (s : State) (left : Talk) (why : Option Why) → place_of a ≡ Some place
+    → recv_after a left (record s { connections = slice_set s.connections place None }) why ≡ recv_after a left s why
+after-taken a place s left None here = placed a place (Some left) s here
+after-taken a place s left (Some why) here = placed a place None (without_owner a s) here
+
+-- the device and its answer, from what the octets come to
+pub heard-from : (now a : ℕ) (octets : List ℕ) (told : Option Sent) (s new : State) (talk : Talk) (why : Option Why) (e : Done) → ComesTo now a talk octets (nothing_done s) why e
+    → new ≡ recv_after a (left_by talk octets) e.state why
+    → HearsFrom now a octets told s talk (record { ended = told; sent = e.sent; commands = e.commands; closed = closed_by a why; scan = None }) new
+heard-from now a octets told s new talk why e comes is =
+    let whole = ap (recv_done a (left_by talk octets) told) comes.is in
+    record {
+      choice = comes.choice;
+      answered = sym (ap (λ (o : Outcome). o.answer) whole);
+      left = is ∙ sym (ap (λ (o : Outcome). o.after) whole);
+    }
+
+-- ---- a Recv
+
+pub received : (now a : ℕ) (octets : List ℕ) (old new : State) (talk : Talk) (step : Step) → connection_at (place_of a) old ≡ Some talk → 0 < length octets
+    → HearsFrom now a octets (ended_at now old) (advanced now old) talk step new → Receives now a octets old (Ok step) new
+received now a [] old new talk step open some hears = absurd (omega arith)
+received now a (octet ∷ octets) old new talk step open some hears =
+    let whole = ap (recv_outcome hears.choice now a (octet ∷ octets) old) open in
+    record {
+      choice = hears.choice;
+      answered = hears.answered ∙ sym (ap (λ (o : Outcome). o.answer) whole);
+      left = hears.left ∙ sym (ap (λ (o : Outcome). o.after) whole);
+    }
+
+-- without octets, which need no choice
+pub received-none : (now a : ℕ) (old : State) (talk : Talk) → connection_at (place_of a) old ≡ Some talk
+    → Receives now a [] old (Ok (record { ended = ended_at now old; sent = []; commands = []; closed = None; scan = None })) (advanced now old)
+received-none now a old talk open =
+    let whole = ap (recv_outcome None now a [] old) open in
+    record {
+      choice = None;
+      answered = sym (ap (λ (o : Outcome). o.answer) whole);
+      left = sym (ap (λ (o : Outcome). o.after) whole);
+    }
+
+pub received-refused : (now a : ℕ) (octets : List ℕ) (old : State) (fault : StepFault) → connection_at (place_of a) old ≡ None → Err fault ≡ (recv_outcome None now a octets old None).answer
+    → Receives now a octets old (Err fault) old
+received-refused now a octets old fault none is =
+    let whole = ap (recv_outcome None now a octets old) none in
+    record {
+      choice = None;
+      answered = is ∙ sym (ap (λ (o : Outcome). o.answer) whole);
+      left = sym (ap (λ (o : Outcome). o.after) whole);
+    }
+
+-- an association that is open has a connection
+pub opened : (o : Option Talk) → is_some o ≡ true → (talk : Talk) × (o ≡ Some talk)
+opened (Some talk) is = (talk, refl)
+opened None is = absurd (cc)

@@ -1,0 +1,35 @@
+-- What the code has made of a device so far, and how octets are heard turn by turn.
+use Rattle.std.specs.Prelude.{ℕ, ◌≡◌, ◌≢◌, List, Option, Some, None}
+use Rattle.bay_control.specs.declared.selection.Standing.{Standing}
+use Rattle.bay_connection.specs.Talk.{Indication, Talk, indications}
+use Rattle.bay_connection.specs.Feeding.{IsContinued}
+use Rattle.bay_services.specs.Bay.{standing_again}
+use Rattle.bay_device.specs.Device.{State, bay_of, with_bay}
+use Rattle.bay_device.specs.Hearing.{Done, Heard, heard, on_heard}
+use Rattle.bay_device.specs.declared.event.Why.{Why}
+use Rattle.bay_device.specs.declared.message.Output.{Output}
+
+abbrev pub done_of : State → Output → Done
+done_of s output = record { state = s; sent = output.sent.items; commands = output.commands.items }
+
+-- a device with what stood before
+abbrev pub put_back : Standing → State → State
+put_back standing s = with_bay (standing_again standing (bay_of s)) s
+
+-- one thing that was heard, if there is one, and then what follows
+abbrev pub on_heard_if : ℕ → ℕ → Option Indication → Done → (Done → Heard) → Heard
+on_heard_if now a None d later = later d
+on_heard_if now a (Some i) d later = on_heard now a i d later
+
+abbrev pub IsContinuedIf : Option Indication → Type 0
+IsContinuedIf None = Unit {0}
+IsContinuedIf (Some i) = IsContinued i
+
+-- Octets do something, and then the rest of them, wherever memory is refused later.
+pub record Moves (now a : ℕ) (old : Talk) (octets : List ℕ) (d : Done) (new : Talk) (rest : List ℕ) (e : Done) : Type 0 where
+  pub goes : (later : Option ℕ) → (choice : Option ℕ) × (heard choice now a (indications old octets) d ≡ heard later now a (indications new rest) e)
+
+-- There is a choice with which the octets come to this.
+pub record ComesTo (now a : ℕ) (old : Talk) (octets : List ℕ) (d : Done) (why : Option Why) (e : Done) : Type 0 where
+  pub choice : Option ℕ
+  pub is : heard choice now a (indications old octets) d ≡ record { done = e; why = why }

@@ -1,0 +1,98 @@
+// The connections of a device's eight associations, each at its place.
+ghost use Rattle.std.specs.Prelude.{◌≡◌, ◌<◌, None, IfSome, is_some, replicate, slice_get, slice_index_or, slice_set, unwrap_or};
+ghost use Rattle.bay_transport.specs.Feeding.{IsGoing};
+ghost use Rattle.bay_device.specs.Connections.{talk_in};
+ghost use Rattle.bay_device.specs.Outcomes.{place_of};
+
+use bay_connection::connection::Connection;
+use std::marker::Model;
+
+/// How many associations there are.
+const PLACES: usize = 8;
+
+/// The connections of the associations that are open, which contracts see as what the octets of each have left. Octets are taken of
+/// each.
+#[derive(Drop)]
+pub struct Connections {
+    places: [Option<Connection>; PLACES],
+}
+
+impl Model for Connections {
+    ghost use Rattle.std.specs.Prelude.{List, Option};
+    ghost use Rattle.bay_connection.specs.Talk.{Talk};
+    ghost use Rattle.bay_device.specs.Connections.{talks, AreEight};
+
+    ghost Value = { List (Option Talk) };
+
+    ghost view = { λ c. talks c.places };
+
+    ghost invariant = { λ c. AreEight (talks c.places) };
+}
+
+/// Where an association stands among the eight: none has another number than 1 to 8.
+pub fn place_of(association: u16) -> Option<usize>
+    ensures value { result ≡ place_of association }
+    ensures within { IfSome result (λ place. place < 8) }
+{
+    if 0 < association && association < 9 {
+        Some(usize::from(association - 1))
+    } else {
+        None
+    }
+}
+
+/// Takes the connection at a place out.
+fn take_at(places: &mut [Option<Connection>; PLACES], place: usize) -> Option<Connection>
+    requires { place < 8 }
+    ensures value { result ≡ slice_index_or places.old place None }
+    ensures rest { places.new ≡ slice_set places.old place None }
+{
+    places[place].take()
+}
+
+/// Puts a connection at a place, or none.
+fn put_at(places: &mut [Option<Connection>; PLACES], place: usize, connection: Option<Connection>)
+    requires { place < 8 }
+    ensures { places.new ≡ slice_set places.old place connection }
+{
+    places[place] = connection;
+}
+
+impl Connections {
+    /// No association is open.
+    pub fn new() -> Self
+        ensures { result ≡ replicate 8 None }
+    {
+        Connections {
+            places: [None, None, None, None, None, None, None, None],
+        }
+    }
+
+    /// Whether the association at a place is open.
+    pub fn is_open(&self, place: usize) -> bool
+        requires { place < 8 }
+        ensures { result ≡ is_some (unwrap_or (slice_get self.now place) None) }
+    {
+        self.places[place].is_some()
+    }
+
+    /// Takes the connection at a place out, which is not open then.
+    pub fn take(&mut self, place: usize) -> Option<Connection>
+        requires { place < 8 }
+        ensures value { talk_in result ≡ unwrap_or (slice_get self.old place) None }
+        ensures rest { self.new ≡ slice_set self.old place None }
+        ensures none { result ≡ None → self.new ≡ self.old }
+        ensures going { IfSome result (λ c. IsGoing c.talk.stream.left) }
+    {
+        take_at(&mut self.places, place)
+    }
+
+    /// Puts a connection at a place, or none.
+    pub fn put(&mut self, place: usize, connection: Option<Connection>)
+        requires within { place < 8 }
+        requires going { IfSome connection (λ c. IsGoing c.talk.stream.left) }
+        ensures { self.new ≡ slice_set self.old place (talk_in connection) }
+    {
+        put_at(&mut self.places, place, connection);
+    }
+}

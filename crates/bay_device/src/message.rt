@@ -1,0 +1,201 @@
+// A PDU of a client: its answer is made, and then what it asks for stands.
+ghost use Rattle.std.specs.Prelude.{◌≡◌, ◌≤◌, ◌++◌, List, Option, [], All, IfOk, IfSome, IsSome, OnErr, OnOk, length, map, take};
+ghost use Rattle.bay_assoc.specs.Hears.{link_of};
+ghost use Rattle.bay_connection.specs.Talk.{Talk, sending, terms_of};
+ghost use Rattle.bay_control.specs.declared.selection.Standing.{Standing};
+ghost use Rattle.bay_services.specs.Answers.{answered};
+ghost use Rattle.bay_services.specs.Controls.{AreShort, IsShort};
+ghost use Rattle.bay_device.specs.Device.{bay_of};
+ghost use Rattle.bay_device.specs.Hearing.{answered_with, due_if, due_of, later_due, said, sending_if, sent_on};
+ghost use Rattle.bay_device.specs.HearingViews.{done_of, put_back};
+ghost use Rattle.bay_device.specs.StateView.{state_view};
+
+use crate::due::Due;
+use crate::event::Sent;
+use crate::state::DeviceState;
+use bay_base::listing::Listing;
+use bay_connection::connection::Connection;
+use bay_services::answer::{Command, Ending};
+use bay_services::client::Client;
+use std::alloc::{AllocError, Global};
+
+/// What an event has made so far: octets that are to be sent, and switches that are to be operated.
+#[derive(Drop)]
+pub struct Output {
+    pub sent: Vec<Sent>,
+    pub commands: Vec<Command>,
+}
+
+impl Output {
+    /// Nothing is made yet.
+    pub fn new(alloc: Global) -> Output
+        ensures sent { result.sent.items ≡ [] }
+        ensures commands { result.commands.items ≡ [] }
+    {
+        Output {
+            sent: Vec::new(alloc),
+            commands: Vec::new(alloc),
+        }
+    }
+}
+
+/// The octets in which a PDU is sent.
+fn framed(connection: &Connection, pdu: &[u8]) -> Result<Listing<u8>, AllocError>
+    requires open { IsSome (link_of connection.now.talk.phase) }
+    requires short { length pdu.now ≤ 65_000 }
+    ensures { IfOk result (λ octets. octets ≡ sending (terms_of connection.now.talk) pdu.now) }
+{
+    let octets = connection.send(pdu)?;
+    Ok(Listing::new(octets))
+}
+
+/// The same of a report, if there is one.
+fn framed_report(
+    connection: &Connection,
+    report: &Option<Listing<u8>>,
+) -> Result<Option<Listing<u8>>, AllocError>
+    requires open { IsSome (link_of connection.now.talk.phase) }
+    requires short { IfSome report.now (λ pdu. length pdu ≤ 65_000) }
+    ensures { IfOk result (λ octets. octets ≡ sending_if (terms_of connection.now.talk) report.now) }
+{
+    match report {
+        Some(pdu) => {
+            let octets = framed(connection, pdu.as_slice())?;
+            Ok(Some(octets))
+        }
+        None => Ok(None),
+    }
+}
+
+/// What will tell an association of the end of what it operates.
+fn due_of(
+    connection: &Connection,
+    association: u16,
+    ending: &Ending,
+) -> Result<Due, AllocError>
+    requires open { IsSome (link_of connection.now.talk.phase) }
+    requires short { AreShort ending.now }
+    ensures { IfOk result (λ due. due ≡ due_of association (terms_of connection.now.talk) ending.now) }
+{
+    let positive = framed_report(connection, &ending.positive)?;
+    let negative = framed_report(connection, &ending.negative)?;
+    Ok(Due {
+        association,
+        positive,
+        negative,
+    })
+}
+
+/// The same, if it operates something of which it is to be told.
+fn due_if(
+    connection: &Connection,
+    association: u16,
+    ending: &Option<Ending>,
+) -> Result<Option<Due>, AllocError>
+    requires open { IsSome (link_of connection.now.talk.phase) }
+    requires short { IsShort ending.now }
+    ensures { IfOk result (λ due. due ≡ due_if association (terms_of connection.now.talk) ending.now) }
+{
+    match ending {
+        Some(ending) => {
+            let due = due_of(connection, association, ending)?;
+            Ok(Some(due))
+        }
+        None => Ok(None),
+    }
+}
+
+/// What is due of a new execution takes the place of what was.
+fn replace_due(due: &mut Option<Due>, new: Option<Due>)
+    ensures { due.new ≡ later_due due.old new }
+{
+    if new.is_some() {
+        *due = new;
+    }
+}
+
+/// Sends these PDUs on an association.
+fn send_all(
+    connection: &Connection,
+    association: u16,
+    pdus: &[Listing<u8>],
+    sent: &mut Vec<Sent>,
+) -> Result<(), AllocError>
+    requires open { IsSome (link_of connection.now.talk.phase) }
+    requires short { All (λ pdu. length pdu ≤ 65_000) pdus.now }
+    ensures ok { OnOk result (sent.new.items ≡ sent.old.items ++ map (λ pdu. sent_on association (sending (terms_of connection.now.talk) pdu)) pdus.now) }
+    ensures kept { take (length sent.old.items) sent.new.items ≡ sent.old.items }
+{
+    for pdu in pdus {
+        let octets = framed(connection, pdu.as_slice())?;
+        sent.push(Sent {
+            association,
+            octets,
+        })?;
+    }
+    Ok(())
+}
+
+/// Answers a PDU and does what it asks for; where there is no memory, the selection and the execution may be changed, and more be
+/// made than before.
+fn answer(
+    alloc: Global,
+    state: &mut DeviceState,
+    client: Client,
+    connection: &Connection,
+    output: &mut Output,
+) -> Result<(), AllocError>
+    requires open { IsSome (link_of connection.now.talk.phase) }
+    requires least { 256 ≤ client.size }
+    requires most { client.size ≤ 65_000 }
+    ensures ok { OnOk result ((connections : List (Option Talk)) → done_of (state_view connections state.new) output.new
+        ≡ answered_with client.association (terms_of connection.now.talk) (answered client connection.now.pdu (bay_of (state_view connections state.old)))
+        (done_of (state_view connections state.old) output.old)) }
+    ensures back { OnErr result ((connections : List (Option Talk)) (standing : Standing) → put_back standing (state_view connections state.new) ≡ put_back standing (state_view connections state.old)) }
+    ensures sent { take (length output.old.sent.items) output.new.sent.items ≡ output.old.sent.items }
+    ensures commands { take (length output.old.commands.items) output.new.commands.items ≡ output.old.commands.items }
+{
+    let answer = state.bay.answer(alloc, client, connection.pdu())?;
+    let due = due_if(connection, client.association, &answer.ending)?;
+    send_all(
+        connection,
+        client.association,
+        answer.sent.as_slice(),
+        &mut output.sent,
+    )?;
+    output.commands.extend_from_slice(answer.commands.as_slice())?;
+    replace_due(&mut state.due, due);
+    Ok(())
+}
+
+/// Answers a PDU of an association and does what it asks for. Where there is no memory it changes nothing.
+pub fn message(
+    alloc: Global,
+    now: u64,
+    association: u16,
+    state: &mut DeviceState,
+    connection: &Connection,
+    output: &mut Output,
+) -> Result<(), AllocError>
+    requires { IsSome (link_of connection.now.talk.phase) }
+    ensures ok { OnOk result ((connections : List (Option Talk)) → done_of (state_view connections state.new) output.new
+        ≡ said now association (terms_of connection.now.talk) connection.now.pdu (done_of (state_view connections state.old) output.old)) }
+    ensures err { OnErr result ((connections : List (Option Talk)) → done_of (state_view connections state.new) output.new ≡ done_of (state_view connections state.old) output.old) }
+{
+    let client = Client {
+        association,
+        size: connection.pdu_size(),
+        now,
+        fresh: state.is_fresh(now),
+    };
+    let before = state.bay.standing();
+    let sent = output.sent.len();
+    let commands = output.commands.len();
+    let answered = answer(alloc, state, client, connection, output);
+    if answered.is_err() {
+        state.bay.restore(before);
+        output.sent.truncate(sent);
+        output.commands.truncate(commands);
+    }
+    answered
+}

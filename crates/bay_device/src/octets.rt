@@ -1,0 +1,138 @@
+// The octets of a client, PDU by PDU.
+ghost use Rattle.std.specs.Prelude.{◌≡◌, ◌≢◌, ◌<◌, ◌≤◌, ◌++◌, ◌∷◌, [], List, Option, None, Some, IfOk, IfErr, OnOk, OnErr, drop, length, take};
+ghost use Rattle.bay_transport.specs.Feeding.{IsGoing};
+ghost use Rattle.bay_connection.specs.Talk.{Talk, left_by};
+ghost use Rattle.bay_connection.specs.Feeding.{IsOpenFor, indication_of};
+ghost use Rattle.bay_device.specs.Hearing.{Done, Heard as HeardSo, sent_on};
+ghost use Rattle.bay_device.specs.HearingViews.{done_of, on_heard_if, ComesTo, IsContinuedIf, Moves};
+ghost use Rattle.bay_device.specs.StateView.{state_view};
+ghost use Rattle.bay_device.specs.declared.event.Why.TheVariants.{Memory};
+
+use crate::event::{Sent, Why};
+use crate::message::{Output, message};
+use crate::state::DeviceState;
+use bay_base::listing::Listing;
+use bay_connection::connection::Connection;
+use bay_connection::heard::Heard;
+use std::alloc::{AllocError, Global};
+
+impl From<AllocError> for Why {
+    ghost from_gives = { λ _ why. why ≡ Memory };
+
+    fn from(_error: AllocError) -> Why {
+        Why::Memory
+    }
+}
+
+/// Sends octets on an association.
+fn send(association: u16, octets: Vec<u8>, output: &mut Output) -> Result<(), AllocError>
+    ensures ok { OnOk result (output.new.sent.items ≡ output.old.sent.items ++ sent_on association octets.items ∷ []) }
+    ensures err { OnErr result (output.new.sent.items ≡ output.old.sent.items) }
+    ensures commands { output.new.commands.items ≡ output.old.commands.items }
+{
+    let octets = Listing::new(octets);
+    output.sent.push(Sent {
+        association,
+        octets,
+    })?;
+    Ok(())
+}
+
+/// Does what was heard on an association, or says why the association is to be closed.
+fn hear(
+    alloc: Global,
+    now: u64,
+    association: u16,
+    state: &mut DeviceState,
+    connection: &Connection,
+    heard: Heard,
+    output: &mut Output,
+) -> Result<(), Why>
+    requires { IsOpenFor heard connection.now.talk.phase }
+    ensures ok { OnOk result ((connections : List (Option Talk)) (later : Done → HeardSo) → on_heard_if now association (indication_of heard connection.now) (done_of (state_view connections state.old) output.old) later ≡ later (done_of (state_view connections state.new) output.new)) }
+    ensures goes { OnOk result (IsContinuedIf (indication_of heard connection.now)) }
+    ensures memory { IfErr result (λ why. why ≡ Memory → (connections : List (Option Talk)) → done_of (state_view connections state.new) output.new ≡ done_of (state_view connections state.old) output.old) }
+    ensures stops { IfErr result (λ why. why ≢ Memory → (connections : List (Option Talk)) (later : Done → HeardSo) → on_heard_if now association (indication_of heard connection.now) (done_of (state_view connections state.old) output.old) later ≡ record { done = done_of (state_view connections state.new) output.new; why = Some why }) }
+{
+    match heard {
+        Heard::Nothing => Ok(()),
+        Heard::Answer(octets) => {
+            send(association, octets, output)?;
+            Ok(())
+        }
+        Heard::Mms => {
+            message(alloc, now, association, state, connection, output)?;
+            Ok(())
+        }
+        Heard::Released(octets) => {
+            send(association, octets, output)?;
+            Err(Why::Ended)
+        }
+        Heard::Ended => Err(Why::Ended),
+        Heard::Fault(code) => Err(Why::Fault(code)),
+    }
+}
+
+/// Takes octets up to the end of what they come to first and does it, or takes all of them, and says how many.
+fn turn(
+    alloc: Global,
+    now: u64,
+    association: u16,
+    state: &mut DeviceState,
+    connection: &mut Connection,
+    rest: &[u8],
+    output: &mut Output,
+) -> Result<usize, Why>
+    requires going { IsGoing connection.old.talk.stream.left }
+    requires some { 0 < length rest.now }
+    ensures within { IfOk result (λ used. used ≤ length rest.now) }
+    ensures moves { IfOk result (λ used. 0 < used) }
+    ensures left { IfOk result (λ used. connection.new.talk ≡ left_by connection.old.talk (take used rest.now)) }
+    ensures going { OnOk result (IsGoing connection.new.talk.stream.left) }
+    ensures ok { IfOk result (λ used. (connections : List (Option Talk)) → Moves now association connection.old.talk rest.now (done_of (state_view connections state.old) output.old) connection.new.talk (drop used rest.now) (done_of (state_view connections state.new) output.new)) }
+    ensures err { IfErr result (λ why. (connections : List (Option Talk)) → ComesTo now association connection.old.talk rest.now (done_of (state_view connections state.old) output.old) (Some why) (done_of (state_view connections state.new) output.new)) }
+{
+    let fed = connection.feed(rest)?;
+    hear(
+        alloc,
+        now,
+        association,
+        state,
+        connection,
+        fed.heard,
+        output,
+    )?;
+    Ok(fed.used)
+}
+
+/// Does what the octets of an association come to, in order, up to what closes it.
+pub fn drain(
+    alloc: Global,
+    now: u64,
+    association: u16,
+    state: &mut DeviceState,
+    connection: &mut Connection,
+    octets: &[u8],
+    output: &mut Output,
+) -> Result<(), Why>
+    requires going { IsGoing connection.old.talk.stream.left }
+    requires some { 0 < length octets.now }
+    ensures left { OnOk result (connection.new.talk ≡ left_by connection.old.talk octets.now) }
+    ensures going { OnOk result (IsGoing connection.new.talk.stream.left) }
+    ensures ok { OnOk result ((connections : List (Option Talk)) → ComesTo now association connection.old.talk octets.now (done_of (state_view connections state.old) output.old) None (done_of (state_view connections state.new) output.new)) }
+    ensures err { IfErr result (λ why. (connections : List (Option Talk)) → ComesTo now association connection.old.talk octets.now (done_of (state_view connections state.old) output.old) (Some why) (done_of (state_view connections state.new) output.new)) }
+{
+    let mut at = 0;
+    while at < octets.len() {
+        at += turn(
+            alloc,
+            now,
+            association,
+            state,
+            connection,
+            &octets[at..],
+            output,
+        )?;
+    }
+    Ok(())
+}

@@ -1,0 +1,74 @@
+// What contacts, measures and scans do to a bay that clients see: its rows go on showing which switch is selected.
+ghost use Rattle.std.specs.Prelude.{◌≡◌, ◌<◌, Some, length, not, slice_get};
+ghost use Rattle.bay_control.specs.Decisions.{contacted, is_done};
+ghost use Rattle.bay_nodes.specs.Names.{meter_names, switch_names};
+ghost use Rattle.bay_nodes.specs.declared.switch.Switch.{Switch};
+ghost use Rattle.bay_process.specs.Layout.{layout_of, switches_of, IsMeterBound};
+ghost use Rattle.bay_process.specs.Names.{field_names};
+ghost use Rattle.bay_process.specs.Scans.{outputs_put};
+ghost use Rattle.bay_process.specs.Told.{AreInterlocked, AreTold};
+ghost use Rattle.bay_process.specs.Values.{rows_after_contact, rows_after_measure, tells, tells_measure};
+ghost use Rattle.bay_services.specs.Views.{bay_view};
+
+use bay_config::bay::MeterField;
+use bay_process::contact::take_position;
+use bay_process::meter::{MeterRows, take_measure};
+use bay_process::scan::write_outputs;
+use bay_process::values::ToldValues;
+use bay_services::bay::ServedBay;
+use bay_tree::leaf::Dbpos;
+use il_scan::points::Outputs;
+
+/// Takes the position of the switch at a place, and answers whether that changed its value or its quality.
+pub fn contact(bay: &mut ServedBay, now: u64, switch: usize, position: Dbpos) -> bool
+    requires { switch < length bay.old.switches }
+    ensures changed { (s : Switch) → slice_get (switches_of bay.old.switches) switch ≡ Some s → result ≡ not (tells (switch_names (switches_of bay.old.switches) switch s).position position bay.old.tree) }
+    ensures after { (s : Switch) → slice_get (switches_of bay.old.switches) switch ≡ Some s → bay_view bay.new ≡ record (bay_view bay.old) { rows = rows_after_contact (switch_names (switches_of bay.old.switches) switch s) position now bay.old.tree } }
+    ensures switches { bay.new.switches ≡ bay.old.switches }
+    ensures layout { layout_of bay.new.tree ≡ layout_of bay.old.tree }
+{
+    let rows = bay.switches.as_slice()[switch].rows;
+    take_position(&mut bay.tree, &rows, position, now)
+}
+
+/// Tells the controls of the position of the switch at a place, and answers whether that ends its execution.
+pub fn reach(bay: &mut ServedBay, switch: usize, position: Dbpos) -> bool
+    ensures done { result ≡ is_done switch position bay.old.controls.execution }
+    ensures after { bay_view bay.new ≡ record (bay_view bay.old) { controls = contacted switch position bay.old.controls } }
+    ensures switches { bay.new.switches ≡ bay.old.switches }
+    ensures tree { bay.new.tree ≡ bay.old.tree }
+{
+    bay.controls.contact(switch, position)
+}
+
+/// Takes a measured value of the meter at a place, and answers whether that changed it or its quality.
+pub fn measure(
+    bay: &mut ServedBay,
+    now: u64,
+    _meter: usize,
+    rows: MeterRows,
+    field: MeterField,
+    value: i32,
+) -> bool
+    requires { IsMeterBound (layout_of bay.old.tree) _meter rows }
+    ensures changed { result ≡ not (tells_measure (field_names field (meter_names _meter)) value bay.old.tree) }
+    ensures after { bay_view bay.new ≡ record (bay_view bay.old) { rows = rows_after_measure (field_names field (meter_names _meter)) value now bay.old.tree } }
+    ensures switches { bay.new.switches ≡ bay.old.switches }
+    ensures layout { layout_of bay.new.tree ≡ layout_of bay.old.tree }
+{
+    take_measure(&mut bay.tree, rows.field(field), value, now)
+}
+
+/// Gives each switch's interlocking values the values of their points.
+pub fn write_scan(bay: &mut ServedBay, told: &mut ToldValues, outputs: &Outputs<'_>, now: u64)
+    requires interlocked { AreInterlocked (layout_of bay.old.tree) bay.old.switches }
+    requires told { AreTold bay.old.tree told.old }
+    requires sized { length told.old ≡ length bay.old.switches }
+    ensures after { bay_view bay.new ≡ record (bay_view bay.old) { rows = outputs_put (layout_of bay.old.tree) bay.old.switches outputs.now now bay.old.tree } }
+    ensures switches { bay.new.switches ≡ bay.old.switches }
+    ensures layout { layout_of bay.new.tree ≡ layout_of bay.old.tree }
+    ensures told { AreTold bay.new.tree told.new }
+    ensures sized { length told.new ≡ length bay.old.switches }
+{
+    write_outputs(&mut bay.tree, told, bay.switches.as_slice(), outputs, now);
+}
