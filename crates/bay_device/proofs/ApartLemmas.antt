@@ -10,12 +10,12 @@ use Rattle.bay_tree.specs.declared.leaf.Leaf.TheVariants as leaf
 use Rattle.bay_tree.specs.declared.leaf.Quality.{Quality}
 use Rattle.bay_tree.specs.declared.leaf.Quality.TheVariants.{Good}
 use Rattle.bay_nodes.specs.declared.switch.Switch.{Switch}
-use Rattle.bay_nodes.specs.Names.{StatusNames, SwitchNames, control_names, control_of, interlocking_of, node_of, position_names, operation_names, opening_names, closing_names, switch_names, meter_names}
+use Rattle.bay_nodes.specs.Names.{StatusNames, SwitchNames, control_names, control_of, interlocking_of, node_of, opening_of, position_names, operation_names, opening_names, closing_names, switch_names, meter_names, total_names, phase_names}
 use Rattle.bay_nodes.specs.Node.{node_name}
 use Rattle.bay_config.specs.declared.bay.MeterField.{MeterField}
 use Rattle.bay_config.specs.declared.bay.MeterField.TheVariants.{TotW, TotVAr, Hz, PhaseA, PhaseB, PhaseC}
 use Rattle.il_image.specs.declared.value.Value.{Value}
-use Rattle.bay_process.specs.Layout.{Layout, switch_in}
+use Rattle.bay_process.specs.Layout.{Layout, status_in, switch_in}
 use Rattle.bay_process.specs.Names.{field_names}
 use Rattle.bay_process.specs.Scans.{outputs_put}
 use Rattle.bay_process.specs.Told.{AreEnabling, AreInterlocked}
@@ -56,6 +56,11 @@ apart-of : (node : List ℕ) (x : ℕ) (xs : List ℕ) → nat_eq (ending x xs) 
 apart-of node x xs ends k =
     apart-if (bytes_eq (node ++ x ∷ xs) ((control_names k).selected)) (node ++ x ∷ xs) k refl (ap (λ n. nat_eq n 100) (ending-behind 0 node x xs) ∙ ends)
 
+-- the same behind an object
+behind-apart : (node : List ℕ) (x : ℕ) (xs word : List ℕ) → nat_eq (ending 100 word) 100 ≡ false → IsApart (node ++ ((x ∷ xs) ++ word))
+behind-apart node x xs [] ends = absurd (cc)
+behind-apart node x xs (y ∷ ys) ends = apart-of node x (xs ++ y ∷ ys) (ap (λ n. nat_eq n 100) (ending-behind x xs y ys) ∙ ends)
+
 -- ---- what is written there
 
 pub record AreApart (names : StatusNames) : Type 0 where
@@ -75,13 +80,22 @@ opening-apart node = record { value_apart = apart-of node 36 _ refl; quality_apa
 closing-apart : (node : List ℕ) → AreApart (closing_names node)
 closing-apart node = record { value_apart = apart-of node 36 _ refl; quality_apart = apart-of node 36 _ refl; time_apart = apart-of node 36 _ refl }
 
+total-apart : (node : List ℕ) (object : List ℕ) → AreApart (total_names node (36 ∷ object))
+total-apart node object = record { value_apart = behind-apart node 36 object (codes "$mag$i") refl; quality_apart = behind-apart node 36 object (codes "$q") refl; time_apart = behind-apart node 36 object (codes "$t") refl }
+
+phase-apart : (node : List ℕ) (object : List ℕ) → AreApart (phase_names node (36 ∷ object))
+phase-apart node object = record { value_apart = behind-apart node 36 object (codes "$cVal$mag$i") refl; quality_apart = behind-apart node 36 object (codes "$q") refl; time_apart = behind-apart node 36 object (codes "$t") refl }
+
+abbrev meter_node : ℕ → List ℕ
+meter_node k = node_name (codes "MMXU") (k + 1)
+
 pub field-apart : (k : ℕ) (field : MeterField) → AreApart (field_names field (meter_names k))
-field-apart k TotW = record { value_apart = apart-of (node_name (codes "MMXU") (k + 1)) 36 _ refl; quality_apart = apart-of (node_name (codes "MMXU") (k + 1)) 36 _ refl; time_apart = apart-of (node_name (codes "MMXU") (k + 1)) 36 _ refl }
-field-apart k TotVAr = record { value_apart = apart-of (node_name (codes "MMXU") (k + 1)) 36 _ refl; quality_apart = apart-of (node_name (codes "MMXU") (k + 1)) 36 _ refl; time_apart = apart-of (node_name (codes "MMXU") (k + 1)) 36 _ refl }
-field-apart k Hz = record { value_apart = apart-of (node_name (codes "MMXU") (k + 1)) 36 _ refl; quality_apart = apart-of (node_name (codes "MMXU") (k + 1)) 36 _ refl; time_apart = apart-of (node_name (codes "MMXU") (k + 1)) 36 _ refl }
-field-apart k PhaseA = record { value_apart = apart-of (node_name (codes "MMXU") (k + 1)) 36 _ refl; quality_apart = apart-of (node_name (codes "MMXU") (k + 1)) 36 _ refl; time_apart = apart-of (node_name (codes "MMXU") (k + 1)) 36 _ refl }
-field-apart k PhaseB = record { value_apart = apart-of (node_name (codes "MMXU") (k + 1)) 36 _ refl; quality_apart = apart-of (node_name (codes "MMXU") (k + 1)) 36 _ refl; time_apart = apart-of (node_name (codes "MMXU") (k + 1)) 36 _ refl }
-field-apart k PhaseC = record { value_apart = apart-of (node_name (codes "MMXU") (k + 1)) 36 _ refl; quality_apart = apart-of (node_name (codes "MMXU") (k + 1)) 36 _ refl; time_apart = apart-of (node_name (codes "MMXU") (k + 1)) 36 _ refl }
+field-apart k TotW = total-apart (meter_node k) (codes "MX$TotW")
+field-apart k TotVAr = total-apart (meter_node k) (codes "MX$TotVAr")
+field-apart k Hz = total-apart (meter_node k) (codes "MX$Hz")
+field-apart k PhaseA = phase-apart (meter_node k) (codes "MX$A$phsA")
+field-apart k PhaseB = phase-apart (meter_node k) (codes "MX$A$phsB")
+field-apart k PhaseC = phase-apart (meter_node k) (codes "MX$A$phsC")
 
 -- the rows go on showing the selection
 module _ (controls : State) (count : ℕ) where
@@ -139,8 +153,9 @@ module _ (controls : State) (count : ℕ) where
   shows-output : (layout : Layout) (k : ℕ) (own : SwitchRows) (opens closes : Bool) (now : ℕ) (rows : List Row) → AreEnabling layout k own → Shows rows
       → Shows (with_output (switch_in layout own) opens closes now rows)
   shows-output layout k own opens closes now rows named shows =
-      rw (named.opening, named.closing)
-      (shows-enabled (closing_names (interlocking_of k)) closes now _ (closing-apart (interlocking_of k)) (shows-enabled (opening_names (interlocking_of k)) opens now rows (opening-apart (interlocking_of k)) shows))
+      subst (λ (o : StatusNames). Shows (with_enabled (status_in layout own.ena_cls) closes now (with_enabled o opens now rows))) (sym named.opening)
+      (subst (λ (o : StatusNames). Shows (with_enabled o closes now (with_enabled (opening_of k) opens now rows))) (sym named.closing)
+      (shows-enabled (closing_names (interlocking_of k)) closes now _ (closing-apart (interlocking_of k)) (shows-enabled (opening_names (interlocking_of k)) opens now rows (opening-apart (interlocking_of k)) shows)))
 
   shows-outputs : (layout : Layout) (outputs : List Value) (now k : ℕ) (bound : List BoundSwitch) (rows : List Row)
       → ((j : ℕ) (b : BoundSwitch) → slice_get bound j ≡ Some b → AreEnabling layout (k + j) b.rows) → Shows rows → Shows (outputs_put layout bound outputs now rows)

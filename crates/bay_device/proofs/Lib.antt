@@ -1,9 +1,13 @@
 pub mod ApartLemmas
+pub mod ConnectionLemmas
 pub mod LoadLemmas
 pub mod MeaningLemmas
+pub mod MessageLemmas
+pub mod ProcessLemmas
 pub mod RecvLemmas
 pub mod RunLemmas
 pub mod ScanLemmas
+pub mod StateLemmas
 pub mod StepLemmas
 pub mod TableLemmas
 pub mod TurnLemmas

@@ -32,7 +32,7 @@ use Rattle.bay_device.specs.Load.{initial_device}
 use Rattle.bay_process.proofs.SourceLemmas.{IsTyped, bay-typed, points-fit, reads-typed}
 use Rattle.il_compile.specs.Meaning.{Memory}
 use Rattle.il_scan.specs.Scans.{Held, first_input, first_slots, first_value, outputs_of, read_only, type_of_point, with_inputs}
-use Rattle.bay_connection.specs.Talk.{Talk, Indication, answers, tells, releases, ends as ends-heard, fails}
+use Rattle.bay_connection.specs.Talk.{Talk, Indication, indications, left_by, answers, tells, releases, ends as ends-heard, fails}
 use Rattle.bay_device.specs.Device.{State, Ran, advanced, ending_at, inputs_of, point_value, ran_at, ran_of, scanned}
 use Rattle.bay_device.specs.Hearing.{Done, Heard, heard, on_heard}
 use Rattle.bay_device.specs.Outcomes.{Outcome, close_outcome, closed, connection_at, contact_outcome, event_outcome, input_outcome, last_moment, measure_outcome, nothing_done, octets_outcome, open_outcome, outcome, outcomes, place_of, recv_after, recv_outcome, with_connection}
@@ -230,7 +230,7 @@ same-after a left s t (Some why) same = connected (place_of a) None s _ (record 
 same-octets : (choice : Option ℕ) (now a : ℕ) (s : State) (talk : Talk) (octets : List ℕ) → SameProgram s (octets_outcome choice now a s talk octets).after
 same-octets choice now a s talk [] = record { machine = refl; reads = refl }
 same-octets choice now a s talk (octet ∷ octets) =
-    same-after a _ s _ _ (same-heard choice now a _ s (nothing_done (advanced now s)) (record { machine = refl; reads = refl }))
+    same-after a (left_by talk (octet ∷ octets)) s _ _ (same-heard choice now a (indications talk (octet ∷ octets)) s (nothing_done (advanced now s)) (record { machine = refl; reads = refl }))
 
 same-recv : (choice : Option ℕ) (now a : ℕ) (octets : List ℕ) (s : State) (talk : Option Talk) → SameProgram s (recv_outcome choice now a octets s talk).after
 same-recv choice now a octets s None = record { machine = refl; reads = refl }

@@ -1,13 +1,16 @@
 -- A Recv, from what its octets come to.
-use Rattle.std.proofs.Common.{◌≡◌, ◌<◌, ℕ, List, [], ◌∷◌, length, Option, None, Some, IsSome, is_some, unwrap_or, Result, Ok, Err, refl, ap, sym, ◌∙◌, true, slice_get, slice_set, arith}
+use Rattle.std.proofs.Common.{◌≡◌, ◌<◌, ℕ, List, [], ◌∷◌, length, Option, None, Some, IsSome, is_some, unwrap_or, Result, Ok, Err, refl, ap, sym, ◌∙◌, true, false, cond, nat_lt, slice_get, slice_set, arith}
 use Rattle.std.proofs.lemmas.List.{set-set}
 use Rattle.std.specs.Result.{OnOk, IfErr, result_err}
 use Rattle.bay_connection.specs.Talk.{Talk, indications, left_by}
 use Rattle.bay_device.specs.Device.{State, advanced, ended_at}
 use Rattle.bay_device.specs.Hearing.{Done, Heard, heard}
 use Rattle.bay_device.specs.HearingViews.{ComesTo}
-use Rattle.bay_device.specs.Outcomes.{Outcome, closed, closed_by, connection_at, nothing_done, octets_outcome, place_of, recv_after, recv_done, recv_outcome, with_connection, without_owner}
-use Rattle.bay_device.specs.Steps.{Hears, HearsFrom, Receives}
+use Rattle.bay_device.specs.Outcomes.{Outcome, closed, closed_by, connection_at, event_outcome, last_moment, nothing_done, octets_outcome, outcome, place_of, refused, recv_after, recv_done, recv_outcome, with_connection, without_owner}
+use Rattle.bay_device.specs.Steps.{Gives, Hears, HearsFrom, IsWithoutOctets, Receives, Steps}
+use Rattle.bay_device.specs.declared.event.Event.{Event}
+use Rattle.bay_device.specs.declared.event.Event.TheVariants.{Open, Recv, Close, Contact, Input, Measure, Scan}
+use Rattle.bay_device.specs.declared.fault.StepFault.TheVariants.{MomentTooLarge, TimeWentBack}
 use Rattle.bay_device.specs.declared.event.Sent.{Sent}
 use Rattle.bay_device.specs.declared.event.Step.{Step}
 use Rattle.bay_device.specs.declared.event.Why.{Why}
@@ -52,9 +55,9 @@ heard-from now a octets told s new talk why e comes is =
 
 pub received : (now a : ℕ) (octets : List ℕ) (old new : State) (talk : Talk) (step : Step) → connection_at (place_of a) old ≡ Some talk → 0 < length octets
     → HearsFrom now a octets (ended_at now old) (advanced now old) talk step new → Receives now a octets old (Ok step) new
-received now a [] old new talk step open some hears = absurd (omega arith)
-received now a (octet ∷ octets) old new talk step open some hears =
-    let whole = ap (recv_outcome hears.choice now a (octet ∷ octets) old) open in
+received now a [] old new talk step here some hears = absurd (omega arith)
+received now a (octet ∷ octets) old new talk step here some hears =
+    let whole = ap (recv_outcome hears.choice now a (octet ∷ octets) old) here in
     record {
       choice = hears.choice;
       answered = hears.answered ∙ sym (ap (λ (o : Outcome). o.answer) whole);
@@ -64,8 +67,8 @@ received now a (octet ∷ octets) old new talk step open some hears =
 -- without octets, which need no choice
 pub received-none : (now a : ℕ) (old : State) (talk : Talk) → connection_at (place_of a) old ≡ Some talk
     → Receives now a [] old (Ok (record { ended = ended_at now old; sent = []; commands = []; closed = None; scan = None })) (advanced now old)
-received-none now a old talk open =
-    let whole = ap (recv_outcome None now a [] old) open in
+received-none now a old talk here =
+    let whole = ap (recv_outcome None now a [] old) here in
     record {
       choice = None;
       answered = sym (ap (λ (o : Outcome). o.answer) whole);
@@ -86,3 +89,43 @@ received-refused now a octets old fault none is =
 pub opened : (o : Option Talk) → is_some o ≡ true → (talk : Talk) × (o ≡ Some talk)
 opened (Some talk) is = (talk, refl)
 opened None is = absurd (cc)
+
+pub not-opened : (o : Option Talk) → is_some o ≡ false → o ≡ None
+not-opened None is = refl
+not-opened (Some talk) is = absurd (cc)
+
+-- what octets come to, whichever it is
+pub ended-at : {T : Type 0} (r : Result T Why) (P : List (Option Talk) → Option Why → Type 0) → OnOk r ((cs : List (Option Talk)) → P cs None)
+    → IfErr r (λ why. (cs : List (Option Talk)) → P cs (Some why)) → (cs : List (Option Talk)) → P cs (result_err r)
+ended-at (Ok x) P ok err = ok
+ended-at (Err why) P ok err = err
+
+pub same-talk : (t u : Talk) (o : Option Talk) → Some t ≡ o → o ≡ Some u → t ≡ u
+same-talk t u o a b = let e : Some t ≡ Some u = a ∙ b in cc
+
+pub no-octets : (xs : List ℕ) → length xs ≡ 0 → xs ≡ []
+no-octets [] is = refl
+no-octets (x ∷ xs) is = absurd (omega arith)
+
+-- ---- an event without octets has one outcome
+
+none-heard : (choice : Option ℕ) (now a : ℕ) (s : State) (o : Option Talk) → recv_outcome choice now a [] s o ≡ recv_outcome None now a [] s o
+none-heard choice now a s None = refl
+none-heard choice now a s (Some talk) = refl
+
+one-event : (choice : Option ℕ) (now : ℕ) (event : Event) (s : State) → IsWithoutOctets event → event_outcome choice now event s ≡ event_outcome None now event s
+one-event choice now (Open a) s h = refl
+one-event choice now (Recv a octets) s h =
+    ap (λ xs. recv_outcome choice now a xs s (connection_at (place_of a) s)) h ∙ none-heard choice now a s (connection_at (place_of a) s)
+    ∙ sym (ap (λ xs. recv_outcome None now a xs s (connection_at (place_of a) s)) h)
+one-event choice now (Close a) s h = refl
+one-event choice now (Contact k position) s h = refl
+one-event choice now (Input k value) s h = refl
+one-event choice now (Measure k field value) s h = refl
+one-event choice now Scan s h = refl
+
+pub one-outcome : (now : ℕ) (event : Event) (s : State) (answer : Result Step StepFault) (new : State) → Steps now event s answer new → IsWithoutOctets event → Gives (outcome None now event s) answer new
+one-outcome now event s answer new steps h =
+    let same : outcome steps.choice now event s ≡ outcome None now event s =
+    ap (λ (x : Outcome). cond (nat_lt last_moment now) (refused MomentTooLarge s) (cond (nat_lt now s.moment) (refused TimeWentBack s) x)) (one-event steps.choice now event s h) in
+    record { answered = steps.answered ∙ ap (λ (o : Outcome). o.answer) same; left = steps.left ∙ ap (λ (o : Outcome). o.after) same }

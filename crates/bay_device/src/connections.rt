@@ -81,7 +81,6 @@ impl Connections {
         requires { place < 8 }
         ensures value { talk_in result ≡ unwrap_or (slice_get self.old place) None }
         ensures rest { self.new ≡ slice_set self.old place None }
-        ensures none { result ≡ None → self.new ≡ self.old }
         ensures going { IfSome result (λ c. IsGoing c.talk.stream.left) }
     {
         take_at(&mut self.places, place)

@@ -15,7 +15,7 @@ use crate::event::Sent;
 use crate::state::DeviceState;
 use bay_base::listing::Listing;
 use bay_connection::connection::Connection;
-use bay_services::answer::{Command, Ending};
+use bay_services::answer::{Answer, Command, Ending};
 use bay_services::client::Client;
 use std::alloc::{AllocError, Global};
 
@@ -136,6 +136,36 @@ fn send_all(
     Ok(())
 }
 
+/// Makes of an answer what is to be sent and done, and gives what will tell of the end of what it operates. Where there is no memory,
+/// more may be made than before.
+fn reply(
+    connection: &Connection,
+    association: u16,
+    answer: &Answer,
+    output: &mut Output,
+) -> Result<Option<Due>, AllocError>
+    requires open { IsSome (link_of connection.now.talk.phase) }
+    requires short { All (λ pdu. length pdu ≤ 65_000) answer.now.sent.items }
+    requires ending { IsShort answer.now.ending }
+    ensures due { IfOk result (λ due. due ≡ due_if association (terms_of connection.now.talk) answer.now.ending) }
+    ensures sent { OnOk result (output.new.sent.items ≡ output.old.sent.items ++ map (λ pdu. sent_on association (sending (terms_of connection.now.talk) pdu)) answer.now.sent.items) }
+    ensures commands { OnOk result (output.new.commands.items ≡ output.old.commands.items ++ answer.now.commands.items) }
+    ensures sent_before { take (length output.old.sent.items) output.new.sent.items ≡ output.old.sent.items }
+    ensures commands_before { take (length output.old.commands.items) output.new.commands.items ≡ output.old.commands.items }
+{
+    let due = due_if(connection, association, &answer.ending)?;
+    send_all(
+        connection,
+        association,
+        answer.sent.as_slice(),
+        &mut output.sent,
+    )?;
+    output
+        .commands
+        .extend_from_slice(answer.commands.as_slice())?;
+    Ok(due)
+}
+
 /// Answers a PDU and does what it asks for; where there is no memory, the selection and the execution may be changed, and more be
 /// made than before.
 fn answer(
@@ -156,14 +186,7 @@ fn answer(
     ensures commands { take (length output.old.commands.items) output.new.commands.items ≡ output.old.commands.items }
 {
     let answer = state.bay.answer(alloc, client, connection.pdu())?;
-    let due = due_if(connection, client.association, &answer.ending)?;
-    send_all(
-        connection,
-        client.association,
-        answer.sent.as_slice(),
-        &mut output.sent,
-    )?;
-    output.commands.extend_from_slice(answer.commands.as_slice())?;
+    let due = reply(connection, client.association, &answer, output)?;
     replace_due(&mut state.due, due);
     Ok(())
 }

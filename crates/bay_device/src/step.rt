@@ -76,6 +76,8 @@ impl DeviceState {
     pub fn advance(&mut self, now: u64) -> Option<Sent>
         ensures sent { (connections : List (Option Talk)) → result ≡ ended_at now (state_view connections self.old) }
         ensures after { (connections : List (Option Talk)) → state_view connections self.new ≡ advanced now (state_view connections self.old) }
+        ensures meters { self.new.meters ≡ self.old.meters }
+        ensures layout { layout_of self.new.bay.tree ≡ layout_of self.old.bay.tree }
     {
         let over = self.bay.advance(now);
         self.moment = now;

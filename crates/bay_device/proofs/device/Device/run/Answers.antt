@@ -1,18 +1,52 @@
-use Rattle.std.proofs.Common.{◌≡◌, ◌≤◌, List, [], ℕ, length, drop, subst, ap, ◌∙◌, arith}
+use Rattle.std.proofs.Common.{◌≡◌, ◌≤◌, ◌<◌, ◌+◌, ◌∷◌, [], ℕ, List, length, drop, get_or, subst, sym, arith}
 use Rattle.std.proofs.Math.ListN.{drop_of_length-le}
-use Rattle.bay_device.specs.Device.{outcomes}
+use Rattle.std.proofs.lemmas.Grind.{common_steps}
 use Rattle.bay_device.specs.Meaning.{Runs}
 use Rattle.bay_device.specs.declared.event.Event.{Event}
+use Rattle.bay_device.specs.declared.event.Event.TheVariants.{Open}
 use Rattle.bay_device.proofs.MeaningLemmas.{all-mean, all-run}
+use Rattle.bay_device.proofs.RunLemmas.{leads-none, leads-step, runs-all}
 use Rattle.bay_device.proofs.device.Device.run.Goals as goal
 
 pub returns-in_err-answers-clause-means : goal.returns-in_err-answers-clause-means
-returns-in_err-answers-clause-means c program runs = (all-mean program c.args.events.now c.args.self.now runs, runs)
+returns-in_err-answers-clause-means c program runs choices = all-mean program choices c.args.events.now c.args.self.now runs
 
-pub returns-clause-means : goal.returns-clause-means
-returns-clause-means c program runs =
+pub loop-now-init : goal.loop-now-init
+loop-now-init c = record {
+  counted = c.in_ok-answers.ensures.len;
+  room = omega (arith, c.in_ok-answers.ensures.capacity);
+  leads = rw c.in_ok-answers.ensures.items (leads-none c.args.events.now c.args.self.now);
+}
+
+rest-more : (events : List (ℕ × Event)) (i : ℕ) (d : ℕ × Event) → i < length events → drop i events ≡ get_or events i d ∷ drop (i + 1) events
+rest-more events i d within = grind (arith, common_steps)
+
+pub loop-now-preserved : goal.loop-now-preserved
+loop-now-preserved c =
+    let events = c.args.events.now in
+    let i = c.loop-now.now-index in
+    let e : ℕ × Event = get_or events i (0, Open 0) in
+    let here = rest-more events i (0, Open 0) c.loop-now-test.true in
+    let room = rw c.unwrap.ensures at c.push.ensures in
+    record {
+      counted = omega (arith, room.len, c.loop-now.invariant.counted);
+      room = omega (arith, room.capacity, c.loop-now.invariant.room);
+      leads = rw room.items (leads-step events c.args.self.now c.loop-now.answers.items e (drop (i + 1) events) c.loop-now.self i
+          c.step-answer.result c.step-answer.new.self (rw here at c.loop-now.invariant.leads) c.step-answer.ensures.steps c.step-answer.ensures.halts);
+    }
+
+pub returns-clause-ok : goal.returns-clause-ok
+returns-clause-ok c =
     let events = c.args.events.now in
     let past : length events ≤ c.loop-now.now-index = omega (arith, c.loop-now-test.false) in
     let none : drop c.loop-now.now-index events ≡ [] = drop_of_length-le events past in
-    let after = c.loop-now.invariant.done ∙ ap (λ (es : List (ℕ × Event)). (outcomes es c.loop-now.self).after) none in
-    (all-mean program events c.args.self.now runs, subst (Runs program) after (all-run program events c.args.self.now runs))
+    let all : c.loop-now.now-index ≡ length events = omega (arith, c.loop-now.auto.now-index-end) in
+    runs-all events c.args.self.now c.loop-now.answers.items c.loop-now.self c.loop-now.now-index all (rw none at c.loop-now.invariant.leads)
+
+pub returns-clause-means : goal.returns-clause-means
+returns-clause-means c program runs choices = all-mean program choices c.args.events.now c.args.self.now runs
+
+pub returns-clause-runs : goal.returns-clause-runs
+returns-clause-runs c program runs =
+    let done = returns-clause-ok c in
+    subst (Runs program) (sym done.steps.left) (all-run program done.steps.choices c.args.events.now c.args.self.now runs)

@@ -1,10 +1,13 @@
-use Rattle.std.proofs.Common.{subst, sym, ap, ◌∙◌}
-use Rattle.bay_device.specs.Device.{outcome}
+use Rattle.std.proofs.Common.{subst, sym}
 use Rattle.bay_device.specs.Meaning.{Runs}
 use Rattle.bay_device.proofs.MeaningLemmas.{means-event, runs-still}
+use Rattle.bay_device.proofs.RecvLemmas.{one-outcome}
 use Rattle.bay_device.proofs.device.Device.step.Goals as goal
+
+pub returns-clause-sure : goal.returns-clause-sure
+returns-clause-sure c without = one-outcome c.args.now c.args.event c.args.self.now c.do_event.result c.do_event.new.self c.do_event.ensures.steps without
 
 pub returns-clause-means : goal.returns-clause-means
 returns-clause-means c program runs =
-    let after = c.step.ensures.after ∙ ap (λ s. (outcome c.args.now c.args.event s).after) c.self.view_is in
-    (means-event program c.args.self.now runs c.args.now c.args.event, subst (Runs program) (sym after) (runs-still program c.args.self.now runs c.args.now c.args.event))
+    let steps = c.do_event.ensures.steps in
+    (means-event program c.args.self.now runs c.args.now c.args.event, subst (Runs program) (sym steps.left) (runs-still program c.args.self.now runs c.args.now steps.choice c.args.event))

@@ -1,0 +1,15 @@
+use Rattle.std.proofs.Common.{ℕ, List, Option, Some, None, ap, sym, ◌∙◌}
+use Rattle.bay_connection.specs.Talk.{Talk}
+use Rattle.bay_device.specs.Device.{State}
+use Rattle.bay_device.specs.Outcomes.{closed, with_connection, without_owner}
+use Rattle.bay_device.specs.StateView.{state_view}
+use Rattle.bay_device.proofs.device.Device.drop_connection.Goals as goal
+
+pub returns : goal.returns
+returns c =
+    let a = c.args.association in
+    let inside = c.self.inside in
+    ap (λ (cs : List (Option Talk)). state_view cs c.drop_owner.new.self) c.put.ensures
+    ∙ ap (with_connection (Some c.args.place) None) (c.drop_owner.ensures inside.connections)
+    ∙ sym (ap (λ (o : Option ℕ). with_connection o None (without_owner a (state_view inside.connections inside.state))) c.requires)
+    ∙ ap (closed a) c.self.view_is

@@ -1,0 +1,7 @@
+use Rattle.std.proofs.Common.{ap, ◌∙◌}
+use Rattle.bay_device.specs.Device.{State}
+use Rattle.bay_device.specs.LookUps.{enabled_of}
+use Rattle.bay_device.proofs.device.Device.ena.Goals as goal
+
+pub returns : goal.returns
+returns c = c.ena.ensures c.self.inside.connections ∙ ap (λ (s : State). enabled_of s c.args.switch) c.self.view_is
