@@ -1,5 +1,5 @@
 -- A line that can be read is UTF-8.
-use Rattle.std.proofs.Common.{◌≡◌, ℕ, ℤ, ◌&&◌, ◌^◌, Bool, true, false, cond, eqb, nat_lt, List, Option, option_map, option_and_then, [], ◌∷◌, length, codes, Some, None, refl, sym, subst, arith}
+use Rattle.std.proofs.Common.{◌≡◌, ℕ, ℤ, ◌^◌, Bool, true, false, cond, eqb, nat_lt, List, Option, option_map, option_and_then, [], ◌∷◌, length, codes, Some, None, refl, sym, subst, arith}
 use Rattle.std.proofs.lemmas.Bool.Decides.{nat_tests}
 use Rattle.std.proofs.lemmas.List.Splits.{join_with_byte-slice_split}
 use Rattle.std.proofs.lemmas.Slice.Eq.{bytes_eq-Decides}

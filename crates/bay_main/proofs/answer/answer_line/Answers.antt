@@ -1,6 +1,5 @@
-use Rattle.std.proofs.Common.{◌≡◌, None, sym}
+use Rattle.std.proofs.Common.{None, sym}
 use Rattle.bay_main.specs.LineAnswers.{Replaying, heard, line_answer}
-use Rattle.bay_main.specs.Trace.{LineData, trace_line_of}
 use Rattle.bay_main.proofs.AnswerLemmas.{answers-err}
 use Rattle.bay_main.proofs.answer.answer_line.Goals as goal
 

@@ -1,5 +1,5 @@
 use Rattle.std.proofs.Common.{true, false, refl, sym, ap₂, ◌∙◌}
-use Rattle.bay_main.specs.LineAnswers.{Choice, Replaying, heard, named_answer, placed_event, unread}
+use Rattle.bay_main.specs.LineAnswers.{Replaying, heard, named_answer, placed_event, unread}
 use Rattle.bay_main.specs.TraceView.{named_view}
 use Rattle.bay_main.proofs.AnswerLemmas.{Does-same, answers-err, answers-ok, memory-said, took, took-not}
 use Rattle.bay_main.proofs.answer.answer_named.Goals as goal

@@ -1,5 +1,5 @@
-use Rattle.std.proofs.Common.{◌+◌, ◌<◌, length, drop, get_or, arith}
-use Rattle.bay_main.specs.LineAnswers.{command_text, commands_text}
+use Rattle.std.proofs.Common.{◌+◌, drop}
+use Rattle.bay_main.specs.LineAnswers.{commands_text}
 use Rattle.bay_main.proofs.AnswerLemmas.{Rest-step, Rest-cut}
 use Rattle.bay_main.proofs.ReportLemmas.{commands-turn}
 use Rattle.bay_main.proofs.lines.put_commands.Goals as goal

@@ -1,9 +1,9 @@
-use Rattle.std.proofs.Common.{rules, tests, ◌≡◌, ◌%◌, length, sym, ◌∙◌, arith}
+use Rattle.std.proofs.Common.{rules, tests, ◌≡◌, sym, ◌∙◌, arith}
 use Rattle.std.proofs.lemmas.Iterator.{YieldsList-from_slice}
 use Rattle.std.proofs.lemmas.Iterator.Search.{all_from_yields_List}
 use Rattle.std.specs.Char.{is_ascii_hexdigit}
 use Rattle.std.specs.List.{list_all}
-use Rattle.bay_main.proofs.DigitLemmas.{octets-even, octets-none, octets-odd}
+use Rattle.bay_main.proofs.DigitLemmas.{octets-even, octets-none}
 use Rattle.bay_main.proofs.octets.are_octets.Goals as goal
 
 pub returns-then-is_empty : goal.returns-then-is_empty

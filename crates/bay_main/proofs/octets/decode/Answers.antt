@@ -1,4 +1,4 @@
-use Rattle.std.proofs.Common.{◌≡◌, ◌≤◌, ◌∙◌, length, length-take, ap, arith}
+use Rattle.std.proofs.Common.{◌≡◌, ◌∙◌, length, length-take, ap, arith}
 use Rattle.std.proofs.lemmas.List.{take_all, take-append-le}
 use Rattle.bay_main.proofs.DigitLemmas.{decoded}
 use Rattle.bay_main.proofs.octets.decode.Goals as goal

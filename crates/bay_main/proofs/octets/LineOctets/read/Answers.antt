@@ -1,4 +1,4 @@
-use Rattle.std.proofs.Common.{◌≡◌, ◌≤◌, ◌/◌, ◌∙◌, length, length-take, take, ap, arith}
+use Rattle.std.proofs.Common.{◌≡◌, ◌/◌, ◌∙◌, length, length-take, take, ap, arith}
 use Rattle.bay_io.proofs.SentLemmas.{at-err}
 use Rattle.bay_main.specs.Answering.{LineRoom}
 use Rattle.bay_main.proofs.DigitLemmas.{front-of, octets-half}
