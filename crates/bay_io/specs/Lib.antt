@@ -1,3 +1,4 @@
+pub mod Calls
 pub mod Input
 pub mod Sent
 pub mod Watched

@@ -2,9 +2,9 @@
 ghost use Rattle.std.specs.Prelude.{◌≡◌, ◌+◌, ◌-◌, ◌^◌, ◌<◌, ◌≤◌, length, vec_len, IfOk, IfSome};
 ghost use Rattle.bay_io.specs.Input.{failed_of};
 
+use crate::calls::Source;
 use crate::reader::WatchedReader;
 use std::alloc::Global;
-use std::io::Read;
 use thiserror::Error;
 
 /// How many octets are asked for at a time.
@@ -25,7 +25,7 @@ pub enum ReadFault {
 
 /// All octets that the reader has left, if they are at most so many. It is read once more than that at most; a reader of
 /// which a read has failed is not read again.
-pub fn read_all<R: Read>(
+pub fn read_all<R: Source>(
     alloc: Global,
     reader: &mut WatchedReader<R>,
     limit: usize,

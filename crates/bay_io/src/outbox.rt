@@ -4,10 +4,10 @@ ghost use Rattle.std.specs.Fmt.{decimal};
 ghost use Rattle.std.specs.Io.KnownBytes.{Appends, Keeps};
 ghost use Rattle.bay_io.specs.Sent.{Puts, SendsPart};
 
+use crate::calls::Sink;
 use crate::writer::WatchedWriter;
 use arrayvec::ArrayVec;
 use itoa::Buffer;
-use std::io::Write;
 use std::marker::Model;
 use thiserror::Error;
 
@@ -23,7 +23,7 @@ const SHORT: usize = 4;
 pub struct WriteFault;
 
 /// Writes all of the text, or a front of it. A writer of which a write has failed is not written to again.
-fn write_out<W: Write>(writer: &mut WatchedWriter<W>, text: &[u8]) -> Result<(), WriteFault>
+fn write_out<W: Sink>(writer: &mut WatchedWriter<W>, text: &[u8]) -> Result<(), WriteFault>
     ensures ok { OnOk result (Appends (W.contents writer.old.inner) (W.contents writer.new.inner) text.now) }
     ensures err { OnErr result (SendsPart (W.contents writer.old.inner) (W.contents writer.new.inner) text.now) }
     ensures fault { is_err result ≡ writer.new.has_failed }
@@ -43,7 +43,7 @@ fn write_out<W: Write>(writer: &mut WatchedWriter<W>, text: &[u8]) -> Result<(),
 }
 
 /// Flushes the writer. One of which a write has failed is not flushed.
-fn flush_out<W: Write>(writer: &mut WatchedWriter<W>) -> Result<(), WriteFault>
+fn flush_out<W: Sink>(writer: &mut WatchedWriter<W>) -> Result<(), WriteFault>
     ensures kept { Keeps (W.contents writer.old.inner) (W.contents writer.new.inner) }
     ensures flushed { OnOk result (writer.new.is_flushed ≡ true) }
     ensures fault { is_err result ≡ writer.new.has_failed }
@@ -58,7 +58,7 @@ fn flush_out<W: Write>(writer: &mut WatchedWriter<W>) -> Result<(), WriteFault>
 }
 
 /// Writes all of the text, or a front of it, and flushes the writer.
-pub fn write_last<W: Write>(writer: &mut WatchedWriter<W>, text: &[u8]) -> Result<(), WriteFault>
+pub fn write_last<W: Sink>(writer: &mut WatchedWriter<W>, text: &[u8]) -> Result<(), WriteFault>
     ensures ok { OnOk result (Appends (W.contents writer.old.inner) (W.contents writer.new.inner) text.now) }
     ensures err { OnErr result (SendsPart (W.contents writer.old.inner) (W.contents writer.new.inner) text.now) }
     ensures flushed { OnOk result (writer.new.is_flushed ≡ true) }
@@ -141,7 +141,7 @@ impl Outbox {
     }
 
     /// Writes out what is pending.
-    pub fn flush<W: Write>(&mut self, writer: &mut WatchedWriter<W>) -> Result<(), WriteFault>
+    pub fn flush<W: Sink>(&mut self, writer: &mut WatchedWriter<W>) -> Result<(), WriteFault>
         ensures puts { Puts W.contents self.old writer.old [] self.new writer.new result }
         ensures empty { OnOk result (self.new ≡ []) }
     {
@@ -151,7 +151,7 @@ impl Outbox {
     }
 
     /// Adds the text to the buffer that was just emptied, or writes out a text that is longer than the buffer.
-    fn put_first<W: Write>(
+    fn put_first<W: Sink>(
         &mut self,
         writer: &mut WatchedWriter<W>,
         text: &[u8],
@@ -168,7 +168,7 @@ impl Outbox {
 
     /// Writes out what is pending, and then adds the text.
     #[inline(never)]
-    fn put_after_flush<W: Write>(
+    fn put_after_flush<W: Sink>(
         &mut self,
         writer: &mut WatchedWriter<W>,
         text: &[u8],
@@ -181,7 +181,7 @@ impl Outbox {
 
     /// Adds the text; where the buffer has no room for it, what is pending is written out before.
     #[inline(always)]
-    pub fn put<W: Write>(
+    pub fn put<W: Sink>(
         &mut self,
         writer: &mut WatchedWriter<W>,
         text: &[u8],
@@ -196,7 +196,7 @@ impl Outbox {
     }
 
     /// Adds a text that is mostly short, like the id of a switch: of up to four octets faster than `put`.
-    pub fn put_short<W: Write>(
+    pub fn put_short<W: Sink>(
         &mut self,
         writer: &mut WatchedWriter<W>,
         text: &[u8],
@@ -212,7 +212,7 @@ impl Outbox {
 
     /// Adds a number, in decimal digits.
     #[inline(always)]
-    pub fn put_number<W: Write>(
+    pub fn put_number<W: Sink>(
         &mut self,
         writer: &mut WatchedWriter<W>,
         number: u64,
@@ -227,7 +227,7 @@ impl Outbox {
     }
 
     /// Adds a last text, writes out all, and flushes the writer.
-    pub fn finish<W: Write>(
+    pub fn finish<W: Sink>(
         mut self,
         writer: &mut WatchedWriter<W>,
         text: &[u8],

@@ -1,10 +1,11 @@
 // A reader that is watched: nothing but a read changes what is known of it.
-ghost use Rattle.std.specs.Prelude.{◌≡◌, ◌+◌, ◌-◌, ◌^◌, ◌<◌, ◌≤◌, ◌||◌, false, is_err};
+ghost use Rattle.std.specs.Prelude.{◌≡◌, ◌+◌, ◌-◌, ◌^◌, ◌<◌, ◌≤◌, ◌||◌, false, is_err, length};
 ghost use Rattle.std.specs.Io.{ReadsAtMost};
 ghost use Rattle.std.specs.Io.KnownBytes.{ReadConsumes};
+ghost use Rattle.bay_io.specs.Calls.{reads as read_call};
 
+use crate::calls::Source;
 use std::io;
-use std::io::Read;
 use std::marker::Model;
 
 /// A reader that counts its reads, and knows whether one has failed.
@@ -50,18 +51,19 @@ impl<R> WatchedReader<R> {
     }
 }
 
-impl<R: Read> Read for WatchedReader<R> {
-    ghost remaining = { λ w. R.remaining w.inner };
-
-    fn read(&mut self, buf: &mut [u8]) -> io::Result<usize>
-        ensures bound { ReadsAtMost result buf.new }
-        ensures bytes { ReadConsumes (R.remaining self.old.inner) (R.remaining self.new.inner) result buf.new }
+impl<R: Source> WatchedReader<R> {
+    /// Reads once, at most as many octets as there is room for; 0 are the end.
+    pub fn read(&mut self, room: &mut [u8]) -> io::Result<usize>
+        ensures bound { ReadsAtMost result room.new }
+        ensures bytes { ReadConsumes (R.remaining self.old.inner) (R.remaining self.new.inner) result room.new }
+        // The source was read once, with this room, and gave this.
+        ensures call { R.does self.old.inner (read_call (length room.old) result room.new) self.new.inner }
         ensures at_most_one { self.new.reads ≤ self.old.reads + 1 }
         ensures counted { self.old.reads < 2 ^ 64 - 1 → self.new.reads ≡ self.old.reads + 1 }
         ensures failed { self.new.has_failed ≡ (self.old.has_failed || is_err result) }
     {
         self.reads = self.reads.saturating_add(1);
-        let outcome = self.inner.read(buf);
+        let outcome = self.inner.read_octets(room);
         if outcome.is_err() {
             self.has_failed = true;
         }

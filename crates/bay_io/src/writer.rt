@@ -2,10 +2,11 @@
 ghost use Rattle.std.specs.Prelude.{◌≡◌, ◌||◌, true, false, is_ok, is_err, if◌then◌else◌};
 ghost use Rattle.std.specs.Io.{WritesAtMost};
 ghost use Rattle.std.specs.Io.KnownBytes.{WriteAppends, Keeps};
+ghost use Rattle.bay_io.specs.Calls.{writes, flushes};
 ghost use Rattle.bay_io.specs.Watched.{write_fails};
 
+use crate::calls::Sink;
 use std::io;
-use std::io::Write;
 use std::marker::Model;
 
 /// A writer that knows whether a write or a flush has failed, or a write took nothing of what it was given,
@@ -62,29 +63,32 @@ fn write_fails(text: &[u8], outcome: &io::Result<usize>) -> bool
     }
 }
 
-impl<W: Write> Write for WatchedWriter<W> {
-    ghost contents = { λ w. W.contents w.inner };
-
-    fn write(&mut self, buf: &[u8]) -> io::Result<usize>
-        ensures bound { WritesAtMost result buf.now }
-        ensures bytes { WriteAppends (W.contents self.old.inner) (W.contents self.new.inner) result buf.now }
-        ensures failed { self.new.has_failed ≡ (self.old.has_failed || write_fails buf.now result) }
+impl<W: Sink> WatchedWriter<W> {
+    /// Writes a front of the octets at once, and answers how many.
+    pub fn write(&mut self, octets: &[u8]) -> io::Result<usize>
+        ensures bound { WritesAtMost result octets.now }
+        ensures bytes { WriteAppends (W.contents self.old.inner) (W.contents self.new.inner) result octets.now }
+        // The sink was offered these octets once, and took so many.
+        ensures call { W.does self.old.inner (writes octets.now result) self.new.inner }
+        ensures failed { self.new.has_failed ≡ (self.old.has_failed || write_fails octets.now result) }
         ensures flushed { self.new.is_flushed ≡ false }
     {
-        let outcome = self.inner.write(buf);
-        if write_fails(buf, &outcome) {
+        let outcome = self.inner.write_octets(octets);
+        if write_fails(octets, &outcome) {
             self.has_failed = true;
         }
         self.is_flushed = false;
         outcome
     }
 
-    fn flush(&mut self) -> io::Result<()>
+    /// Flushes the sink.
+    pub fn flush(&mut self) -> io::Result<()>
         ensures bytes { Keeps (W.contents self.old.inner) (W.contents self.new.inner) }
+        ensures call { W.does self.old.inner (flushes result) self.new.inner }
         ensures failed { self.new.has_failed ≡ (self.old.has_failed || is_err result) }
         ensures flushed { self.new.is_flushed ≡ (if is_ok result then true else self.old.is_flushed) }
     {
-        let outcome = self.inner.flush();
+        let outcome = self.inner.flush_octets();
         if outcome.is_ok() {
             self.is_flushed = true;
         } else {

@@ -1,6 +1,7 @@
 pub mod AnswerLemmas
 pub mod CheckLemmas
 pub mod CommandLemmas
+pub mod DigitLemmas
 pub mod FeedLemmas
 pub mod JobLemmas
 pub mod PieceLemmas

@@ -1,5 +1,5 @@
 -- A line that can be read is UTF-8.
-use Rattle.std.proofs.Common.{◌≡◌, ℕ, ℤ, ◌&&◌, Bool, true, false, cond, eqb, nat_lt, List, Option, option_map, option_and_then, [], ◌∷◌, length, codes, Some, None, refl, sym, subst, arith}
+use Rattle.std.proofs.Common.{◌≡◌, ℕ, ℤ, ◌^◌, Bool, true, false, cond, eqb, nat_lt, List, Option, option_map, option_and_then, [], ◌∷◌, length, codes, Some, None, refl, sym, subst, arith}
 use Rattle.std.proofs.lemmas.Bool.Decides.{nat_tests}
 use Rattle.std.proofs.lemmas.List.Splits.{join_with_byte-slice_split}
 use Rattle.std.proofs.lemmas.Slice.Eq.{bytes_eq-Decides}
@@ -10,12 +10,14 @@ use Rattle.std.specs.List.{join_with_byte, list_all, slice_split}
 use Rattle.std.specs.Str.{all_ascii_digits, bytes_eq, IsAscii, is_utf8, IsUtf8}
 use Rattle.std.proofs.lemmas.Bool.{and_parts}
 use Rattle.std.specs.Prelude.{IfSome}
+use Rattle.bay_main.proofs.DigitLemmas.{hex-ascii, octets-digits}
+use Rattle.bay_main.specs.Digits.{octets_of}
 use Rattle.bay_main.proofs.WordLemmas.{chosen, none-chosen}
 use Rattle.bay_main.specs.declared.trace.TraceLine.{TraceLine}
 use Rattle.bay_main.specs.TraceView.{line_view}
 use Rattle.bay_tree.specs.declared.leaf.Dbpos.{Dbpos}
 use Rattle.bay_config.specs.declared.bay.MeterField.{MeterField}
-use Rattle.bay_main.specs.Trace.{at_moment, contact, event_of, input, measure, negative_of, positive_of, field_of, is_space, LineData, measure_of, name_of, named_of, NamedData, only_word, position_of, read_integer, read_number, trace_line_of, truth_of, words_line}
+use Rattle.bay_main.specs.Trace.{association_of, at_moment, disconnects, contact, event_of, input, measure, negative_of, positive_of, field_of, is_space, is_talk, LineData, measure_of, name_of, named_of, NamedData, only_word, connects, position_of, read_integer, read_number, received_of, receives, talk_of, trace_line_of, truth_of, words_line}
 
 -- ---- what has a value has parts that have theirs
 
@@ -81,6 +83,14 @@ integer_text (b ∷ bs) z e = IsUtf8-from_ascii (b ∷ bs) (by_test (eqb b 45) r
         let parts : Parts positive_of (read_number (b ∷ bs)) z = and_then positive_of (read_number (b ∷ bs)) z (rw minus at e) in
         number_ascii (b ∷ bs) parts.part parts.whole
 
+association_text : (word : List ℕ) (a : ℕ) → association_of word ≡ Some a → IsUtf8 word
+association_text word a e =
+    let parts : Parts (λ n. cond (nat_lt n (2 ^ 16)) (Some n) None) (read_number word) a = and_then _ (read_number word) a e in
+    IsUtf8-from_ascii word (number_ascii word parts.part parts.whole)
+
+octets_text : (word octets : List ℕ) → octets_of word ≡ Some octets → IsUtf8 word
+octets_text word octets e = IsUtf8-from_ascii word (hex-ascii word (octets-digits word octets e))
+
 name_text : (word name : List ℕ) → name_of word ≡ Some name → IsUtf8 word
 name_text [] name e = absurd cc
 name_text (b ∷ bs) name e = by_test (is_utf8 (b ∷ bs)) refl
@@ -126,13 +136,33 @@ named_text word name words d e =
     verb word (codes "contact") words _ _ d refl (position_words name words d)
     (verb word (codes "input") words _ _ d refl (truth_words name words d) (verb word (codes "measure") words _ None d refl (measure_text name words d) (λ none. absurd cc))) e
 
+association_words : (f : ℕ → NamedData) (words : List (List ℕ)) (d : NamedData) → option_map f (option_and_then association_of (only_word words)) ≡ Some d → AreText words
+association_words f words d e =
+    let a = mapped f (option_and_then association_of (only_word words)) d e in only_text association_of words a.0 (λ w h. association_text w a.0 h) a.1
+
+received_words : (words : List (List ℕ)) (d : NamedData) → received_of words ≡ Some d → AreText words
+received_words [] d e = absurd cc
+received_words (word ∷ octets) d e =
+    let a : Parts (λ a. option_map (receives a) (option_and_then octets_of (only_word octets))) (association_of word) d = and_then _ (association_of word) d e in
+    let xs = mapped (receives a.part) (option_and_then octets_of (only_word octets)) d a.gives in
+    (association_text word a.part a.whole, only_text octets_of octets xs.0 (λ w h. octets_text w xs.0 h) xs.1)
+
+talk_text : (word : List ℕ) (words : List (List ℕ)) (d : NamedData) → talk_of word words ≡ Some d → AreText (word ∷ words)
+talk_text word words d e =
+    verb word (codes "open") words _ _ d refl (association_words connects words d)
+    (verb word (codes "close") words _ _ d refl (association_words disconnects words d) (verb word (codes "recv") words _ None d refl (received_words words d) (λ none. absurd cc))) e
+
 event_text : (words : List (List ℕ)) (d : NamedData) → event_of words ≡ Some d → AreText words
 event_text [] d e = absurd cc
 event_text (word ∷ []) d e = (choice word (codes "scan") _ d _ refl (none-chosen IsUtf8 word d) e, tt)
-event_text (word ∷ name ∷ words) d e =
-    let parts : Parts (λ n. named_of word n words) (name_of name) d = and_then _ (name_of name) d e in
-    let others = named_text word parts.part words d parts.gives in
-    (others.0, (name_text name parts.part parts.whole, others.1))
+event_text (word ∷ name ∷ words) d e = by_test (is_talk word) refl
+  where
+    by_test : (v : Bool) → is_talk word ≡ v → AreText (word ∷ name ∷ words)
+    by_test true is = talk_text word (name ∷ words) d (rw is at e)
+    by_test false is =
+        let parts : Parts (λ n. named_of word n words) (name_of name) d = and_then _ (name_of name) d (rw is at e) in
+        let others = named_text word parts.part words d parts.gives in
+        (others.0, (name_text name parts.part parts.whole, others.1))
 
 joined : (words : List (List ℕ)) → AreText words → IsUtf8 (join_with_byte 32 words)
 joined [] h = IsUtf8-from_ascii [] IsAscii-nil

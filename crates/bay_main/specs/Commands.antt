@@ -1,5 +1,5 @@
 -- What the commands come to: what is printed, the exit status, and what becomes of files.
-use Rattle.std.specs.Prelude.{◌≡◌, ℕ, ◌==◌, Bool, true, false, List, [], codes, Option, None, Some, Result, Ok, Err, is_err, ◌⊎◌, MatchBool}
+use Rattle.std.specs.Prelude.{◌≡◌, ℕ, ◌==◌, Bool, true, false, List, codes, Option, None, Some, Result, Ok, Err, is_err, ◌⊎◌, MatchBool}
 use Rattle.il_image.specs.Images.{encoded}
 use Rattle.il_image.specs.declared.opcode.Version.TheVariants.{Two}
 use Rattle.bay_device.specs.Device.{State}

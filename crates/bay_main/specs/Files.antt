@@ -1,7 +1,6 @@
 -- Files as a command sees them: what a read of a name gave, and what a write to a name did.
-use Rattle.std.specs.Prelude.{◌≡◌, ℕ, List, Option, None, Some, Result, Ok, Err, ◌⊎◌}
+use Rattle.std.specs.Prelude.{ℕ, List, Result, Ok, Err, ◌⊎◌}
 use Rattle.bay_io.specs.declared.input.ReadFault.{ReadFault}
-use Rattle.bay_main.specs.declared.files.FileFault.{FileFault}
 
 -- what the two files of a command hold: the bay, and a program or an image
 pub record FilesData : Type 0 where

@@ -1,4 +1,6 @@
+pub mod Answering
 pub mod Commands
+pub mod Digits
 pub mod Ending
 pub mod Files
 pub mod Jobs

@@ -5,7 +5,7 @@ use Rattle.std.specs.Io.KnownBytes.{Appends}
 use Rattle.bay_device.specs.Device.{State}
 use Rattle.bay_device.specs.Report.{IsReport as IsReportOf}
 use Rattle.bay_device.specs.declared.report.Report.{Report}
-use Rattle.bay_main.specs.LineAnswers.{line_answer}
+use Rattle.bay_main.specs.LineAnswers.{Choice, Replaying, line_answer}
 use Rattle.bay_main.specs.Load.{load_of, LoadsTo}
 use Rattle.bay_main.specs.declared.load.Form.{Form}
 use Rattle.bay_main.specs.Scenario.{ScenarioParts, scenario_of, lines_of}
@@ -37,17 +37,18 @@ report_text report =
 abbrev pub ran_out : List ℕ → ℕ → Type 0
 ran_out text status = (text ≡ codes "fault memory\n") × (status ≡ 3)
 
--- the text and the status for the lines of a trace, from line k on: the answers one after the other up to
--- a line that can't be read. No line wants memory.
-abbrev pub TraceReport : State → ℕ → List (List ℕ) → List ℕ → ℕ → Type 0
-TraceReport s k [] text status = (text ≡ []) × (status ≡ 0)
-TraceReport s k (line ∷ lines) text status =
-    let answer = line_answer k (trace_line_of line) s in
-    MatchBool answer.is_last ((text ≡ answer.text) × (status ≡ 3)) ((rest : List ℕ) × (text ≡ answer.text ++ rest) × TraceReport answer.after (k + 1) lines rest status)
+-- the text and the status for the lines of a trace, from line k on: for each line there is a choice with which its answer is printed, one
+-- after the other up to a line that can't be read, or for which there is no memory
+abbrev pub TraceReport : Replaying → ℕ → List (List ℕ) → List ℕ → ℕ → Type 0
+TraceReport r k [] text status = (text ≡ []) × (status ≡ 0)
+TraceReport r k (line ∷ lines) text status =
+    (choice : Choice) × (let answer = line_answer choice k (trace_line_of line) r in
+    MatchBool answer.is_last ((text ≡ answer.text) × (status ≡ 3)) ((rest : List ℕ) × (text ≡ answer.text ++ rest) × TraceReport answer.after (k + 1) lines rest status))
 
--- a line, and behind it the text and the status of a device's trace
+-- a line, and behind it the text and the status of a device's trace; there is no room for octets at first
 abbrev pub HeadReport : List ℕ → State → List (List ℕ) → List ℕ → ℕ → Type 0
-HeadReport head s lines text status = (rest : List ℕ) × (text ≡ head ++ rest) × TraceReport s 1 lines rest status
+HeadReport head s lines text status =
+    (rest : List ℕ) × (text ≡ head ++ rest) × TraceReport (record { device = s; room = 0 }) 1 lines rest status
 
 -- the text and the status of a device and its trace
 abbrev pub DeviceReport : State → List (List ℕ) → List ℕ → ℕ → Type 0

@@ -1,5 +1,5 @@
 -- What a line of the trace says: words parted by one space.
-use Rattle.std.specs.Prelude.{ℕ, ℤ, pos, neg_ℤ, ◌==◌, ◌&&◌, ◌+◌, ◌-◌, ◌*◌, ◌^◌, Bool, true, false, nat_lt, nat_le, List, [], ◌∷◌, length, codes, Option, None, Some, option_map, option_and_then, if◌then◌else◌}
+use Rattle.std.specs.Prelude.{ℕ, ℤ, pos, neg_ℤ, ◌==◌, ◌&&◌, ◌||◌, ◌+◌, ◌-◌, ◌*◌, ◌^◌, Bool, true, false, nat_lt, nat_le, List, [], ◌∷◌, length, codes, Option, None, Some, option_map, option_and_then, if◌then◌else◌}
 use Rattle.std.specs.List.{slice_split}
 use Rattle.std.specs.Char.{is_ascii_digit}
 use Rattle.std.specs.Str.{all_ascii_digits, bytes_eq, is_utf8}
@@ -8,9 +8,14 @@ use Rattle.bay_config.specs.declared.bay.MeterField.{MeterField}
 use Rattle.bay_config.specs.declared.bay.MeterField.TheVariants.{TotW, TotVAr, Hz, PhaseA, PhaseB, PhaseC}
 use Rattle.bay_tree.specs.declared.leaf.Dbpos.{Dbpos}
 use Rattle.bay_tree.specs.declared.leaf.Dbpos.TheVariants.{Intermediate, Off, On, Bad}
+use Rattle.bay_main.specs.Digits.{octets_of}
 
--- what happens at a moment: a switch's position, an input's value or a field of a meter is told, or the program runs
+-- what happens at a moment: an association is opened, octets of its client come, or it is closed; a switch's position, an input's
+-- value or a field of a meter is told; or the program runs
 pub data NamedData : Type 0 where
+  connects : ℕ → NamedData
+  receives : ℕ → List ℕ → NamedData
+  disconnects : ℕ → NamedData
   contact : List ℕ → Dbpos → NamedData
   input : List ℕ → Bool → NamedData
   measure : List ℕ → MeterField → ℤ → NamedData
@@ -107,11 +112,38 @@ named_of verb name values =
     else if bytes_eq verb (codes "measure") then measure_of name values
     else None
 
--- `scan` stands alone; the other verbs stand before a name and what is told
+-- the number of an association, below 2 ^ 16
+abbrev pub association_of : List ℕ → Option ℕ
+association_of word = option_and_then (λ n. if nat_lt n (2 ^ 16) then Some n else None) (read_number word)
+
+-- an association, and octets of its client
+abbrev pub received_of : List (List ℕ) → Option NamedData
+received_of [] = None
+received_of (word ∷ octets) =
+    option_and_then (λ a. option_map (receives a) (option_and_then octets_of (only_word octets))) (association_of word)
+
+-- what is told of an association: `open` and `close` stand before it alone, `recv` before it and octets
+abbrev pub talk_of : List ℕ → List (List ℕ) → Option NamedData
+talk_of verb words =
+    if bytes_eq verb (codes "open") then option_map connects (option_and_then association_of (only_word words))
+    else if bytes_eq verb (codes "close") then option_map disconnects (option_and_then association_of (only_word words))
+    else if bytes_eq verb (codes "recv") then received_of words
+    else None
+
+-- what words tell of an association, if the first is one of these three
+abbrev pub talk_in : List (List ℕ) → Option NamedData
+talk_in [] = None
+talk_in (verb ∷ words) = talk_of verb words
+
+abbrev pub is_talk : List ℕ → Bool
+is_talk verb = bytes_eq verb (codes "open") || (bytes_eq verb (codes "close") || bytes_eq verb (codes "recv"))
+
+-- `scan` stands alone; the other verbs stand before an association, or before a name and what is told
 abbrev pub event_of : List (List ℕ) → Option NamedData
 event_of [] = None
 event_of (verb ∷ []) = if bytes_eq verb (codes "scan") then Some scan else None
-event_of (verb ∷ word ∷ values) = option_and_then (λ name. named_of verb name values) (name_of word)
+event_of (verb ∷ word ∷ values) =
+    if is_talk verb then talk_of verb (word ∷ values) else option_and_then (λ name. named_of verb name values) (name_of word)
 
 -- a moment, and what happens then
 abbrev pub words_line : List (List ℕ) → Option LineData

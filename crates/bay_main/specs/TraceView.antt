@@ -1,11 +1,15 @@
 -- A line of the trace without its place in memory.
 use Rattle.bay_main.specs.declared.trace.NamedEvent.{NamedEvent}
-use Rattle.bay_main.specs.declared.trace.NamedEvent.TheVariants.{Contact, Input, Measure, Scan}
+use Rattle.bay_main.specs.declared.trace.NamedEvent.TheVariants.{Open, Recv, Close, Contact, Input, Measure, Scan}
 use Rattle.bay_main.specs.declared.trace.TraceLine.{TraceLine}
 use Rattle.bay_main.specs.declared.trace.TraceLine.TheVariants.{Blank, At}
-use Rattle.bay_main.specs.Trace.{NamedData, LineData, contact, input, measure, scan, blank, at_moment}
+use Rattle.bay_main.specs.Digits.{octets_in}
+use Rattle.bay_main.specs.Trace.{NamedData, LineData, connects, receives, disconnects, contact, input, measure, scan, blank, at_moment}
 
 abbrev pub named_view : NamedEvent → NamedData
+named_view (Open a) = connects a
+named_view (Recv a digits) = receives a (octets_in digits.text.now)
+named_view (Close a) = disconnects a
 named_view (Contact id position) = contact id.now position
 named_view (Input name value) = input name.now value
 named_view (Measure id field value) = measure id.now field value

@@ -6,6 +6,7 @@ ghost use Rattle.bay_main.specs.ScenarioView.{scenario_view};
 
 use crate::answer::answer_line;
 use crate::load::load_octets;
+use crate::octets::LineOctets;
 use crate::output::{CLEAN, FAULT, OUT_OF_MEMORY, REFUSED, write_refusal, write_text};
 use crate::report::report_text;
 use crate::scenario::{Scenario, cut_line, cut_scenario};
@@ -22,6 +23,7 @@ const SCENARIO_LIMIT: usize = 16_777_216;
 
 /// Writes a line, replays a trace line by line, and writes as it goes.
 fn replay_trace<W: Write>(
+    alloc: Global,
     device: &mut Device,
     head: &[u8],
     trace: &[u8],
@@ -35,11 +37,12 @@ fn replay_trace<W: Write>(
     }
     let mut outbox = Outbox::new();
     outbox.put(writer, head)?;
+    let mut octets = LineOctets::new(alloc);
     let mut rest = trace;
     let mut number = 1usize;
     while !rest.is_empty() {
         let (line, after) = cut_line(rest);
-        if answer_line(&mut outbox, writer, device, number, line)? {
+        if answer_line(&mut outbox, writer, device, &mut octets, number, line)? {
             outbox.finish(writer, b"")?;
             return Ok(FAULT);
         }
@@ -61,7 +64,7 @@ fn replay_device<W: Write>(
     ensures { Prints W.contents (MayReport device.old (lines_of trace.now)) writer.old writer.new result }
 {
     match report_text(alloc, device.report()) {
-        Ok(head) => replay_trace(device, head.as_bytes(), trace, writer),
+        Ok(head) => replay_trace(alloc, device, head.as_bytes(), trace, writer),
         Err(_) => write_text(writer, OUT_OF_MEMORY, REFUSED),
     }
 }

@@ -2,15 +2,29 @@
 ghost use Rattle.std.specs.Prelude.{◌≡◌, ◌∷◌, ◌≤◌, ◌^◌, ◌<◌, ℕ, length, option_map, IfSome, Some, codes, neg_ℤ, pos};
 ghost use Rattle.std.specs.List.{slice_split};
 ghost use Rattle.std.specs.Str.{IsUtf8};
-ghost use Rattle.bay_main.specs.Trace.{is_space, rest_words, with_digit, read_number, first_number, positive_of, negative_of, read_integer, position_of, truth_of, field_of, name_of, measure_of, event_of, words_line, trace_line_of};
+ghost use Rattle.bay_main.specs.Trace.{association_of, is_space, received_of, rest_words, talk_in, with_digit, read_number, first_number, positive_of, negative_of, read_integer, position_of, truth_of, field_of, name_of, measure_of, event_of, words_line, trace_line_of};
 ghost use Rattle.bay_main.specs.TraceView.{named_view, line_view};
 
+use crate::octets::Digits;
 use bay_config::bay::MeterField;
 use bay_tree::leaf::Dbpos;
 
 /// What happens at a moment.
 #[derive(Clone, Copy)]
 pub enum NamedEvent<'a> {
+    /// The association with this number is opened.
+    Open {
+        association: u16,
+    },
+    /// Octets of the client of this association come.
+    Recv {
+        association: u16,
+        digits: Digits<'a>,
+    },
+    /// The association with this number is closed.
+    Close {
+        association: u16,
+    },
     /// The switch with this id takes this position.
     Contact {
         id: &'a str,
@@ -212,6 +226,42 @@ fn measure(text: &[u8]) -> Option<NamedEvent<'_>>
     measured(name(id)?, told?)
 }
 
+/// The number of an association.
+fn association(word: &[u8]) -> Option<u16>
+    ensures { result ≡ association_of word.now }
+{
+    u16::try_from(number(word)?).ok()
+}
+
+/// Octets of the client of an association.
+fn received(text: &[u8]) -> Option<NamedEvent<'_>>
+    ensures { option_map named_view result ≡ received_of (slice_split is_space text.now) }
+{
+    let (word, told) = cut_word(text);
+    let association = association(word)?;
+    let digits = Digits::of(told?)?;
+    Some(NamedEvent::Recv {
+        association,
+        digits,
+    })
+}
+
+/// What is told of an association: it is opened, octets of its client come, or it is closed.
+fn talk(text: &[u8]) -> Option<NamedEvent<'_>>
+    ensures { option_map named_view result ≡ talk_in (slice_split is_space text.now) }
+{
+    if let Some(told) = text.strip_prefix(b"recv ") {
+        return received(told);
+    }
+    if let Some(word) = text.strip_prefix(b"open ") {
+        let association = association(word)?;
+        return Some(NamedEvent::Open { association });
+    }
+    let word = text.strip_prefix(b"close ")?;
+    let association = association(word)?;
+    Some(NamedEvent::Close { association })
+}
+
 /// What happens, by the words after the moment.
 fn event(text: &[u8]) -> Option<NamedEvent<'_>>
     ensures { option_map named_view result ≡ event_of (slice_split is_space text.now) }
@@ -225,12 +275,10 @@ fn event(text: &[u8]) -> Option<NamedEvent<'_>>
     if let Some(told) = text.strip_prefix(b"measure ") {
         return measure(told);
     }
-    let told = text.strip_prefix(b"scan")?;
-    if told.is_empty() {
-        Some(NamedEvent::Scan)
-    } else {
-        None
+    if text == b"scan".as_slice() {
+        return Some(NamedEvent::Scan);
     }
+    talk(text)
 }
 
 /// The number before the first space, and what follows that space.

@@ -35,12 +35,13 @@ impl Read for Dripping<'_> {
     }
 }
 
-/// A writer that takes at most three octets at a call, and fails once it is full, or at each flush.
+/// A writer that takes at most three octets at a call, and fails once it is full, or at each flush; it counts its flushes.
 #[derive(Drop)]
 struct Narrow {
     taken: Vec<u8>,
     room: usize,
-    flushes: bool,
+    can_flush: bool,
+    flushes: u64,
 }
 
 impl Write for Narrow {
@@ -61,7 +62,8 @@ impl Write for Narrow {
     fn flush(&mut self) -> io::Result<()>
         ensures bytes { Keeps (Some self.old.taken.items) (Some self.new.taken.items) }
     {
-        if self.flushes {
+        self.flushes = self.flushes.saturating_add(1);
+        if self.can_flush {
             Ok(())
         } else {
             Err(io::Error::from(ErrorKind::Other))
@@ -69,14 +71,18 @@ impl Write for Narrow {
     }
 }
 
-/// What a scenario's replay wrote, its status (255 for a failed write), and what is known of reader and writer.
+/// What a scenario's replay wrote, its status (255 for a failed write), what is known of reader and writer, and what these counted
+/// themselves.
 #[derive(Drop)]
 struct Outcome {
     report: Vec<u8>,
     status: u8,
+    reads: u64,
     read_failed: bool,
     write_failed: bool,
     is_flushed: bool,
+    reads_below: u64,
+    flushes_below: u64,
 }
 
 fn outcome_of(
@@ -84,32 +90,37 @@ fn outcome_of(
     scenario: &[u8],
     fails_at: u64,
     room: usize,
-    flushes: bool,
+    can_flush: bool,
 ) -> Outcome {
-    let mut reader = WatchedReader::new(Dripping {
+    let mut given = Dripping {
         rest: scenario,
         reads: 0,
         fails_at,
-    });
+    };
     let mut taken = Narrow {
         taken: Vec::new(alloc),
         room,
-        flushes,
+        can_flush,
+        flushes: 0,
     };
+    let mut reader = WatchedReader::new(&mut given);
     let mut writer = WatchedWriter::new(&mut taken);
     let status = match replay_run(alloc, &mut reader, &mut writer) {
         Ok(status) => status,
         Err(_) => 255,
     };
-    let write_failed = writer.has_failed();
-    let is_flushed = writer.is_flushed();
-    let Narrow { taken, .. } = taken;
+    let (reads, read_failed) = (reader.reads(), reader.has_failed());
+    let (write_failed, is_flushed) = (writer.has_failed(), writer.is_flushed());
+    let Narrow { taken, flushes, .. } = taken;
     Outcome {
         report: taken,
         status,
-        read_failed: reader.has_failed(),
+        reads,
+        read_failed,
         write_failed,
         is_flushed,
+        reads_below: given.reads,
+        flushes_below: flushes,
     }
 }
 
@@ -136,6 +147,14 @@ fn goes_by_pieces(rt: HostRuntime) -> Result<(), Fail> {
     let found = outcome_of(rt.alloc(), scenario(), 0, 1000, true);
     assert!(rt; found.report.as_slice() == report() && found.status == 0);
     assert!(rt; !found.read_failed && !found.write_failed && found.is_flushed);
+    Ok(())
+}
+
+#[test]
+fn reaches_what_is_below(rt: HostRuntime) -> Result<(), Fail> {
+    let found = outcome_of(rt.alloc(), scenario(), 0, 1000, true);
+    assert_eq!(rt; found.reads_below, found.reads);
+    assert_eq!(rt; found.flushes_below, 1);
     Ok(())
 }
 

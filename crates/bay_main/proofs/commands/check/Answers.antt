@@ -1,4 +1,4 @@
-use Rattle.std.proofs.Common.{◌≡◌, Ok, Err}
+use Rattle.std.proofs.Common.{Ok, Err}
 use Rattle.bay_main.specs.Commands.{FilesReport, UnreadReport}
 use Rattle.bay_main.specs.Files.{FilesData}
 use Rattle.bay_main.specs.Report.{CheckReport}

@@ -1,4 +1,4 @@
-use Rattle.std.proofs.Common.{◌≡◌, Ok, Err, inr, refl}
+use Rattle.std.proofs.Common.{Ok, Err, inr, refl}
 use Rattle.bay_main.specs.Files.{FilesData}
 use Rattle.bay_main.proofs.commands.compile.Goals as goal
 

@@ -18,26 +18,26 @@ returns-in_err-put g c =
 pub returns-in_err-answer_line : goal.returns-in_err-answer_line
 returns-in_err-answer_line g c =
     Prints-err g.W.Write.contents (HeadReport c.args.head.now c.args.device.now (lines_of c.args.trace.now)) c.args.writer.now c.answer_line.new.writer c.from_residual-in_err-answer_line.result c.from_residual-in_err-answer_line.ensures.0
-    (Progress-line_cut _ _ _ _ _ _ _ _ _ _ (lines-cut _ _ _ c.cut_line.ensures.cuts) c.loop-rest.invariant.progress c.in_err-answer_line.ensures.text.0)
+    (Progress-line_cut _ _ _ c.in_err-answer_line.ensures.choice _ _ _ _ _ _ _ (lines-cut _ _ _ c.cut_line.ensures.cuts) c.loop-rest.invariant.progress c.in_err-answer_line.ensures.text.0)
     (sym c.in_err-answer_line.ensures.text.1)
 
 pub returns-in_err-finish : goal.returns-in_err-finish
 returns-in_err-finish g c =
     Prints-err g.W.Write.contents (HeadReport c.args.head.now c.args.device.now (lines_of c.args.trace.now)) c.args.writer.now c.finish.new.writer c.from_residual-in_err-finish.result c.from_residual-in_err-finish.ensures.0
-    (Progress-fault_cut _ _ _ _ _ _ _ _ _ _ (lines-cut _ _ _ c.cut_line.ensures.cuts) _ _ c.in_ok-answer_line.ensures.text.0 c.loop-rest.invariant.progress (sym c.in_ok-answer_line.ensures.last ∙ c.if-branch.true) c.in_err-finish.ensures.err)
+    (Progress-fault_cut _ _ _ c.in_ok-answer_line.ensures.choice _ _ _ _ _ _ _ (lines-cut _ _ _ c.cut_line.ensures.cuts) _ _ c.in_ok-answer_line.ensures.text.0 c.loop-rest.invariant.progress (sym c.in_ok-answer_line.ensures.last ∙ c.if-branch.true) c.in_err-finish.ensures.err)
     c.in_err-finish.ensures.fault
 
 pub returns-then-branch : goal.returns-then-branch
 returns-then-branch g c = (
-  Progress-fault _ _ _ _ _ _ _ _ _ _ (lines-cut _ _ _ c.cut_line.ensures.cuts) _ _ c.in_ok-answer_line.ensures.text.0 c.loop-rest.invariant.progress (sym c.in_ok-answer_line.ensures.last ∙ c.if-branch.true) c.in_ok-finish.ensures.ok,
+  Progress-fault _ _ _ c.in_ok-answer_line.ensures.choice _ _ _ _ _ _ _ (lines-cut _ _ _ c.cut_line.ensures.cuts) _ _ c.in_ok-answer_line.ensures.text.0 c.loop-rest.invariant.progress (sym c.in_ok-answer_line.ensures.last ∙ c.if-branch.true) c.in_ok-finish.ensures.ok,
   (sym c.in_ok-finish.ensures.fault, c.in_ok-finish.ensures.flushed),
 )
 
 pub loop-rest-preserved : goal.loop-rest-preserved
 loop-rest-preserved g c =
     record {
-      progress = rw c.in_ok-answer_line.ensures.device
-          (Progress-step _ _ _ _ _ _ _ _ _ _ (lines-cut _ _ _ c.cut_line.ensures.cuts) _ c.loop-rest.invariant.progress (sym c.in_ok-answer_line.ensures.last ∙ c.if-branch.false) c.in_ok-answer_line.ensures.text.0);
+      progress = rw (c.in_ok-answer_line.ensures.left_is c.if-branch.false)
+          (Progress-step _ _ _ c.in_ok-answer_line.ensures.choice _ _ _ _ _ _ _ (lines-cut _ _ _ c.cut_line.ensures.cuts) _ c.loop-rest.invariant.progress (sym c.in_ok-answer_line.ensures.last ∙ c.if-branch.false) c.in_ok-answer_line.ensures.text.0);
       bound = omega (arith, c.cut_line.ensures.shorter, c.loop-rest.invariant.bound);
       well = c.in_ok-answer_line.ensures.text.1;
     }

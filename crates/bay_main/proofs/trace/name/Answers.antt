@@ -1,4 +1,4 @@
-use Rattle.std.proofs.Common.{rules, tests, ◌≡◌, true, subst, sym, ◌∙◌, ap, Some}
+use Rattle.std.proofs.Common.{rules, tests, ◌≡◌, subst, sym, ◌∙◌, ap, Some}
 use Rattle.std.specs.Char.{is_ascii}
 use Rattle.std.specs.List.{list_all}
 use Rattle.std.specs.Str.{IsUtf8}

@@ -1,0 +1,30 @@
+PROGRAM operated
+
+VAR_EXTERNAL
+    QA1_OPEN : BOOL;
+    QB1_OPEN, QB1_CLOSED : BOOL;
+    QC1_OPEN : BOOL;
+    QA1_ENA_OPN, QA1_ENA_CLS : BOOL;
+    QB1_ENA_OPN, QB1_ENA_CLS : BOOL;
+    QC1_ENA_OPN, QC1_ENA_CLS : BOOL;
+END_VAR
+
+    (* The breaker may always be opened, and closed where the disconnector is in an end position and no earth is behind it. *)
+    LD TRUE
+    ST QA1_ENA_OPN
+    LD QB1_OPEN
+    OR QB1_CLOSED
+    AND QC1_OPEN
+    ST QA1_ENA_CLS
+
+    (* The disconnector can't break a current. *)
+    LD QA1_OPEN
+    AND QC1_OPEN
+    ST QB1_ENA_OPN
+    ST QB1_ENA_CLS
+
+    (* Only what is apart from the busbar is earthed. *)
+    LD QB1_OPEN
+    ST QC1_ENA_OPN
+    ST QC1_ENA_CLS
+END_PROGRAM
