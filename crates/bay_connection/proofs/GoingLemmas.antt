@@ -95,10 +95,10 @@ one_going s (Answers n reply ∷ ds) size phase i e delivers one goes =
 one_going s (Delivers tsdu ∷ ds) size phase i e delivers one goes =
     hearing_going s (hearing phase tsdu) size (told s ds size) i one goes
     (λ p none.
-        let quiet : ds ≡ [] = told_none s ds size p none in
-        let size_is : agreed s ≡ size = e ∙ ap (size_after size) quiet in
-        let some : IsSome (agreed s) = rw size_is (delivers tsdu ds refl) in
-        going_left s ds size p none (agreed_going s.left some))
+    let quiet : ds ≡ [] = told_none s ds size p none in
+    let size_is : agreed s ≡ size = e ∙ ap (size_after size) quiet in
+    let some : IsSome (agreed s) = rw size_is (delivers tsdu ds refl) in
+    going_left s ds size p none (agreed_going s.left some))
 one_going s (Ends ∷ ds) size phase i e delivers one goes = absurd (over_not 0 i goes one)
 one_going s (Fails fault ∷ ds) size phase i e delivers one goes = absurd (fails_not _ i goes one)
 

@@ -143,13 +143,7 @@ impl Device {
     }
 
     // Puts the connection of an association back, or closes the association.
-    fn finish(
-        &mut self,
-        association: u16,
-        place: usize,
-        connection: Connection,
-        why: Option<Why>,
-    )
+    fn finish(&mut self, association: u16, place: usize, connection: Connection, why: Option<Why>)
         requires here { place_of association ≡ Some place }
         requires going { why ≡ None → IsGoing connection.talk.stream.left }
         ensures { self.new ≡ recv_after association connection.talk self.old why }

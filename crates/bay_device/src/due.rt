@@ -57,7 +57,10 @@ pub fn missed(due: &mut Option<Due>) -> Option<Sent>
 pub fn forget(due: &mut Option<Due>, association: u16)
     ensures { due.new ≡ due_without association due.old }
 {
-    if due.as_ref().is_some_and(|due| due.association == association) {
+    if due
+        .as_ref()
+        .is_some_and(|due| due.association == association)
+    {
         *due = None;
     }
 }

@@ -12,14 +12,18 @@ pub(crate) const LAST_MOMENT: u64 = 4_294_967_295_999;
 #[derive(Clone, Copy, Debug)]
 pub enum Event<'a> {
     /// A client connects, and has this number until it is closed.
-    Open { association: u16 },
+    Open {
+        association: u16,
+    },
     /// Octets of a client come.
     Recv {
         association: u16,
         octets: &'a [u8],
     },
     /// A client has closed its connection.
-    Close { association: u16 },
+    Close {
+        association: u16,
+    },
     /// The contacts of the switch at this place, counted from 0, report a position.
     Contact {
         switch: usize,

@@ -43,7 +43,9 @@ impl DeviceState {
     pub fn switch(&self, id: &str) -> Option<usize>
         ensures { (connections : List (Option Talk)) → result ≡ switch_place (state_view connections self.now) id.now }
     {
-        self.tables.switches.place_of(self.bay.switches.as_slice(), id)
+        self.tables
+            .switches
+            .place_of(self.bay.switches.as_slice(), id)
     }
 
     /// The id of the switch at a place, as the bay file spells it.

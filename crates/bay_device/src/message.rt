@@ -68,11 +68,7 @@ fn framed_report(
 }
 
 /// What will tell an association of the end of what it operates.
-fn due_of(
-    connection: &Connection,
-    association: u16,
-    ending: &Ending,
-) -> Result<Due, AllocError>
+fn due_of(connection: &Connection, association: u16, ending: &Ending) -> Result<Due, AllocError>
     requires open { IsSome (link_of connection.now.talk.phase) }
     requires short { AreShort ending.now }
     ensures { IfOk result (λ due. due ≡ due_of association (terms_of connection.now.talk) ending.now) }

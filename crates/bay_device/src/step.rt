@@ -16,8 +16,8 @@ ghost use Rattle.bay_device.specs.declared.event.Event.TheVariants.{Contact, Inp
 use crate::due::{forget, missed, reached};
 use crate::event::Sent;
 use crate::fault::StepFault;
-use crate::state::DeviceState;
 use crate::process;
+use crate::state::DeviceState;
 use bay_config::bay::{MeterField, Source};
 use bay_process::meter::BoundMeter;
 use bay_process::scan::ReadPoints;
@@ -120,12 +120,7 @@ impl DeviceState {
     }
 
     /// The input at a place has a value.
-    pub fn input(
-        &mut self,
-        now: u64,
-        input: usize,
-        value: bool,
-    ) -> Result<Option<Sent>, StepFault>
+    pub fn input(&mut self, now: u64, input: usize, value: bool) -> Result<Option<Sent>, StepFault>
         ensures { (connections : List (Option Talk)) → IsQuiet result (state_view connections self.new) (event_outcome None now (Input input value) (state_view connections self.old)) }
     {
         let before = match self.input_values.get(input) {

@@ -58,8 +58,12 @@ invariant_of-result c =
     let bound = are-bound bay nodes layout writes rows c.in_ok-nodes.ensures.switches_named did.of_switches.named c.in_ok-nodes.ensures.switches_sized did.of_switches.sized in
     let placed : ArePlaced layout (bound_from writes 0 bay.switches rows) = λ k b h. record { named = (bound k b h).named; kinded = (bound k b h).kinded } in
     let same = did.of_switches.sized ∙ c.in_ok-nodes.ensures.switches_sized in
-    let count : length (switches_of c.new.result) ≡ c.len.result = omega (arith, c.len.ensures, ap length (ap switches_of made ∙ bound-switches writes 0 bay.switches rows (sym same)),
-        many bay.switches c.in_ok-bound.bound.switches.items writes rows (sym c.new.ensures ∙ made) (sym same)) in
+    let count : length (switches_of c.new.result) ≡ c.len.result = omega (
+      arith,
+      c.len.ensures,
+      ap length (ap switches_of made ∙ bound-switches writes 0 bay.switches rows (sym same)),
+      many bay.switches c.in_ok-bound.bound.switches.items writes rows (sym c.new.ensures ∙ made) (sym same),
+    ) in
     record {
       placed = subst (λ (l : Layout). ArePlaced l c.new.result) (sym c.in_ok-control_rows.ensures.layout) (subst (ArePlaced layout) (sym made) placed);
       controlled = c.in_ok-control_rows.ensures.named;

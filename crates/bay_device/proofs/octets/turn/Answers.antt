@@ -13,7 +13,7 @@ pub returns-in_err-fed-clause-err : goal.returns-in_err-fed-clause-err
 returns-in_err-fed-clause-err c =
     let p = err_from_is_err_and c.from_residual.result c.from_residual.ensures.1 in
     rw (p.1, p.2) (λ connections.
-        stops-memory c.args.now c.args.association c.args.connection.now.talk c.args.rest.now (done_of (state_view connections c.args.state.now) c.args.output.now) _ refl)
+    stops-memory c.args.now c.args.association c.args.connection.now.talk c.args.rest.now (done_of (state_view connections c.args.state.now) c.args.output.now) _ refl)
 
 pub returns-in_err-hear-clause-err : goal.returns-in_err-hear-clause-err
 returns-in_err-hear-clause-err c =
@@ -23,12 +23,12 @@ returns-in_err-hear-clause-err c =
     let fed = c.in_ok-fed.ensures in
     let why = c.in_err-hear.field-0.0 in
     rw (p.1, p.2) (λ connections.
-        let d = done_of (state_view connections c.args.state.now) c.args.output.now in
-        let e = done_of (state_view connections c.hear.new.state) c.hear.new.output in
-        stops-by c.args.now c.args.association old c.args.rest.now d e why
-        (λ is. c.in_err-hear.ensures.memory is connections)
-        (λ other. stops-heard c.args.now c.args.association old c.args.rest.now c.in_ok-fed.fed.used new.talk c.requires.going fed.left
-            (indication_of c.in_ok-fed.fed.heard new) d e why fed.fed (λ later. c.in_err-hear.ensures.stops other connections later)))
+    let d = done_of (state_view connections c.args.state.now) c.args.output.now in
+    let e = done_of (state_view connections c.hear.new.state) c.hear.new.output in
+    stops-by c.args.now c.args.association old c.args.rest.now d e why
+    (λ is. c.in_err-hear.ensures.memory is connections)
+    (λ other. stops-heard c.args.now c.args.association old c.args.rest.now c.in_ok-fed.fed.used new.talk c.requires.going fed.left
+    (indication_of c.in_ok-fed.fed.heard new) d e why fed.fed (λ later. c.in_err-hear.ensures.stops other connections later)))
 
 pub returns-clause-moves : goal.returns-clause-moves
 returns-clause-moves c =

@@ -22,6 +22,6 @@ returns c =
     let whole = ap (close_outcome now a s) some in
     subst (λ (t : State). Gives (close_outcome now a t (connection_at (place_of a) t)) (let r : Result Step StepFault = Ok c.quiet.result in r) c.drop_connection.new.self) c.self.view_is
     (record {
-        answered = ap (λ (x : Step). let r : Result Step StepFault = Ok x in r) c.quiet.ensures ∙ ap (λ (o : Option Sent). quiet_answer (Ok o)) (c.advance-ended.ensures.sent cs) ∙ sym (ap (λ (o : Outcome). o.answer) whole);
-        left = c.drop_connection.ensures ∙ ap (closed a) (c.advance-ended.ensures.after cs) ∙ sym (ap (λ (o : Outcome). o.after) whole);
+      answered = ap (λ (x : Step). let r : Result Step StepFault = Ok x in r) c.quiet.ensures ∙ ap (λ (o : Option Sent). quiet_answer (Ok o)) (c.advance-ended.ensures.sent cs) ∙ sym (ap (λ (o : Outcome). o.answer) whole);
+      left = c.drop_connection.ensures ∙ ap (closed a) (c.advance-ended.ensures.after cs) ∙ sym (ap (λ (o : Outcome). o.after) whole);
     })

@@ -23,11 +23,11 @@ returns-clause-gives c =
     let after = c.advance-ended.ensures.after cs in
     subst (λ (t : State). Gives (scan_outcome now t) (told c.advance-ended.result c.new-2.result c.new-4.result c.scan-steps.result) new) c.self.view_is
     (record {
-        answered = ap (λ (o : Option Sent). told o c.new-2.result c.new-4.result c.scan-steps.result) (c.advance-ended.ensures.sent cs)
-            ∙ ap (λ (xs : List Sent). told (ended_at now s) xs c.new-4.result c.scan-steps.result) (c.new-2.ensures ∙ c.new.ensures.items)
-            ∙ ap (λ (xs : List Command). told (ended_at now s) [] xs c.scan-steps.result) (c.new-4.ensures ∙ c.new-3.ensures.items)
-            ∙ ap (told (ended_at now s) [] []) (c.scan-steps.ensures.steps cs ∙ ap (λ (t : State). (ran_at now t).steps) after);
-        left = c.scan-steps.ensures.after cs ∙ ap (scanned now) after;
+      answered = ap (λ (o : Option Sent). told o c.new-2.result c.new-4.result c.scan-steps.result) (c.advance-ended.ensures.sent cs)
+          ∙ ap (λ (xs : List Sent). told (ended_at now s) xs c.new-4.result c.scan-steps.result) (c.new-2.ensures ∙ c.new.ensures.items)
+          ∙ ap (λ (xs : List Command). told (ended_at now s) [] xs c.scan-steps.result) (c.new-4.ensures ∙ c.new-3.ensures.items)
+          ∙ ap (told (ended_at now s) [] []) (c.scan-steps.ensures.steps cs ∙ ap (λ (t : State). (ran_at now t).steps) after);
+      left = c.scan-steps.ensures.after cs ∙ ap (scanned now) after;
     })
 
 pub returns-clause-halts : goal.returns-clause-halts
