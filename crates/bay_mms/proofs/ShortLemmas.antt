@@ -1,5 +1,5 @@
 -- How long errors and rejects are.
-use Rattle.std.proofs.Common.{ℕ, ℤ, pos, ◌≤◌, Option, Some, None, List, ◌++◌, length, arith}
+use Rattle.std.proofs.Common.{ℕ, ℤ, pos, ◌≤◌, Option, Some, None, ◌++◌, length, arith}
 use Rattle.std.proofs.lemmas.List.{length-append}
 use Rattle.bay_ber.specs.Writing.{element, integer_octets}
 use Rattle.bay_ber.specs.declared.tag.Tag.{Tag}

@@ -16,7 +16,7 @@ use Rattle.il_check.specs.Checking.{start}
 use Rattle.il_check.specs.Declaring.{labels_from, names_in, looked_up}
 use Rattle.il_check.specs.Faults.{fault_if}
 use Rattle.il_check.specs.Given.{Names, resolved}
-use Rattle.il_check.specs.Labelling.{Labelling, Becomes, IsRight, IsJoined, IsRightEntry, AreRightEntries, Coming, Falls, Jumps, is_named, with_target, Carried, carried, beginning, coming_behind_label, coming_behind_action, with_result, Flows, IsWellTyped, behind_all, coming_behind}
+use Rattle.il_check.specs.Labelling.{Labelling, Becomes, IsRight, IsJoined, IsRightEntry, AreRightEntries, Coming, Falls, Jumps, is_named, with_target, carried, beginning, coming_behind_label, coming_behind_action, with_result, Flows, IsWellTyped, behind_all, coming_behind}
 use Rattle.il_check.specs.Rules.{is_wrong, is_unset, type_after, allows, uses_result, any_type, joins_unset, jumps_back, gives, goes_on, target_of}
 use Rattle.il_check.specs.WellTyped.{Standing, is_first, type_behind, type_behind_all, instruction_faults, entry_faults, entries_faults, items_faults, same_result, met_type, met, unreached, arrival, arrived, moved, behind}
 use Rattle.il_check.specs.declared.reach.Reach.{Reach}

@@ -13,7 +13,7 @@ use Rattle.il_verify.specs.Slots.{slots_of}
 use Rattle.il_verify.specs.Verdicts.{IsBudget, IsDepth, KeepsReadOnly}
 use Rattle.il_image.specs.declared.image.ImagePoint.{ImagePoint}
 use Rattle.il_image.specs.Values.{value_of}
-use Rattle.il_scan.specs.Scans.{Held, IsWithin}
+use Rattle.il_scan.specs.Scans.{IsWithin}
 use Rattle.il_scan.specs.PointPlaces.{writable_count}
 use Rattle.il_scan.specs.PointPlaces.{read_places, write_places}
 use Rattle.il_scan.specs.Words.{AreTyped, StandFor, value_at, values_of, words_of}
