@@ -1,5 +1,6 @@
 pub mod AnswerLemmas
 pub mod DecisionLemmas
+pub mod EntryLemmas
 pub mod NameLemmas
 pub mod PlaceLemmas
 pub mod ReadLemmas

@@ -1,9 +1,13 @@
 // Laws of what clients see of a bay. Each function does nothing, and its contract is the law.
-ghost use Rattle.std.specs.Prelude.{◌≡◌, ℕ, List, false};
+ghost use Rattle.std.specs.Prelude.{◌≡◌, ℕ, Bool, List, false, true};
 ghost use Rattle.std.specs.Str.{bytes_eq};
 ghost use Rattle.bay_control.specs.Decisions.{State};
+ghost use Rattle.bay_control.specs.Happenings.{Leads};
 ghost use Rattle.bay_nodes.specs.Names.{control_names};
-ghost use Rattle.bay_services.specs.Bay.{ShowSelection};
+ghost use Rattle.bay_services.specs.Answers.{answered};
+ghost use Rattle.bay_services.specs.Bay.{Bay, ShowSelection};
+ghost use Rattle.bay_services.specs.Entries.{entries_in};
+ghost use Rattle.bay_services.specs.declared.client.Client.{Client};
 ghost use Rattle.bay_tree.specs.Rows.{with_leaf_of};
 ghost use Rattle.bay_tree.specs.declared.leaf.Leaf.{Leaf};
 ghost use Rattle.bay_tree.specs.declared.row.Row.{Row};
@@ -12,4 +16,11 @@ ghost use Rattle.bay_tree.specs.declared.row.Row.{Row};
 pub fn selection_stays_shown()
     ensures { (controls : State) (count : ℕ) (rows : List Row) (name : List ℕ) (value : Leaf) → ((k : ℕ) → bytes_eq name (control_names k).selected ≡ false)
         → ShowSelection controls count rows → ShowSelection controls count (with_leaf_of name value rows) }
+{}
+
+/// What a PDU of an open association asks of the controls leads them from those before it to those after it: what is seen of that are
+/// its entries. No request opens or closes an association.
+pub fn requests_lead()
+    ensures { (c : Client) (pdu : List ℕ) (b : Bay) (opens : ℕ → Bool) → opens c.association ≡ true
+        → Leads (entries_in c pdu b) opens b.controls opens (answered c pdu b).after.controls }
 {}
