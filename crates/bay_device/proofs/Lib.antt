@@ -1,5 +1,6 @@
 pub mod ApartLemmas
 pub mod ConnectionLemmas
+pub mod EntryLemmas
 pub mod LoadLemmas
 pub mod MeaningLemmas
 pub mod MessageLemmas

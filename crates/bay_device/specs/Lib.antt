@@ -1,6 +1,7 @@
 pub mod Code
 pub mod Connections
 pub mod Device
+pub mod Entries
 pub mod Hearing
 pub mod HearingViews
 pub mod Load

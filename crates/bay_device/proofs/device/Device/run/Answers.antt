@@ -4,12 +4,16 @@ use Rattle.std.proofs.lemmas.Grind.{common_steps}
 use Rattle.bay_device.specs.Meaning.{Runs}
 use Rattle.bay_device.specs.declared.event.Event.{Event}
 use Rattle.bay_device.specs.declared.event.Event.TheVariants.{Open}
+use Rattle.bay_device.proofs.EntryLemmas.{all-are-backed}
 use Rattle.bay_device.proofs.MeaningLemmas.{all-mean, all-run}
 use Rattle.bay_device.proofs.RunLemmas.{leads-none, leads-step, runs-all}
 use Rattle.bay_device.proofs.device.Device.run.Goals as goal
 
 pub returns-in_err-answers-clause-means : goal.returns-in_err-answers-clause-means
 returns-in_err-answers-clause-means c program runs choices = all-mean program choices c.args.events.now c.args.self.now runs
+
+pub returns-in_err-answers-clause-backed : goal.returns-in_err-answers-clause-backed
+returns-in_err-answers-clause-backed c none choices = all-are-backed choices c.args.events.now c.args.self.now c.has_places.ensures none
 
 pub loop-now-init : goal.loop-now-init
 loop-now-init c = record {
@@ -50,3 +54,6 @@ pub returns-clause-runs : goal.returns-clause-runs
 returns-clause-runs c program runs =
     let done = returns-clause-ok c in
     subst (Runs program) (sym done.steps.left) (all-run program done.steps.choices c.args.events.now c.args.self.now runs)
+
+pub returns-clause-backed : goal.returns-clause-backed
+returns-clause-backed c none choices = all-are-backed choices c.args.events.now c.args.self.now c.has_places.ensures none
