@@ -1,3 +1,4 @@
+pub mod AcceptedLemmas
 pub mod AnswerLemmas
 pub mod DecisionLemmas
 pub mod EntryLemmas
