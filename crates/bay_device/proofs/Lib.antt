@@ -2,6 +2,7 @@ pub mod AcceptLemmas
 pub mod ApartLemmas
 pub mod CommandLemmas
 pub mod ConnectionLemmas
+pub mod EntryLemmas
 pub mod LoadLemmas
 pub mod MeaningLemmas
 pub mod MessageLemmas

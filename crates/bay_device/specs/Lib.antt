@@ -11,6 +11,7 @@ pub mod Code
 pub mod Commands
 pub mod Connections
 pub mod Device
+pub mod Entries
 pub mod Hearing
 pub mod HearingViews
 pub mod Load

@@ -1,5 +1,5 @@
 // The connections of a device's eight associations, each at its place.
-ghost use Rattle.std.specs.Prelude.{◌≡◌, ◌<◌, None, IfSome, is_some, replicate, slice_get, slice_index_or, slice_set, unwrap_or};
+ghost use Rattle.std.specs.Prelude.{◌≡◌, ◌<◌, None, IfSome, is_some, length, replicate, slice_get, slice_index_or, slice_set, unwrap_or};
 ghost use Rattle.bay_transport.specs.Feeding.{IsGoing};
 ghost use Rattle.bay_device.specs.Connections.{talk_in};
 ghost use Rattle.bay_device.specs.Outcomes.{place_of};
@@ -66,6 +66,13 @@ impl Connections {
         Connections {
             places: [None, None, None, None, None, None, None, None],
         }
+    }
+
+    /// There is a place for each of the eight. It does nothing: its callers learn this.
+    pub fn are_eight(&self)
+        ensures { length self.now ≡ 8 }
+    {
+        let _ = &self.places;
     }
 
     /// Whether the association at a place is open.

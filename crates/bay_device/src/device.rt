@@ -1,10 +1,12 @@
 // The device that is handed out: one bay, stepped by events.
 ghost use Rattle.std.specs.Prelude.{◌≡◌, ◌<◌, ℕ, [], List, Option, None, Some, false, length, slice_get, option_map, replicate, IfOk, IsSome, OnErr};
+ghost use Rattle.bay_control.specs.Backing.{AreBacked};
 ghost use Rattle.bay_transport.specs.Feeding.{IsGoing};
 ghost use Rattle.il_check.specs.Program.{Checked};
 ghost use Rattle.il_image.specs.Images.{encoded};
 ghost use Rattle.il_image.specs.declared.opcode.Version.TheVariants.{Two};
 ghost use Rattle.bay_device.specs.Commands.{AllCommanded, AreCommanded};
+ghost use Rattle.bay_device.specs.Entries.{Leading, entries_all};
 ghost use Rattle.bay_device.specs.LookUps.{switch_place, input_place, meter_place, enabled_of};
 ghost use Rattle.bay_device.specs.Meaning.{AllMean, Halting, HaltsAt, MeansAt, Runs, is_refused};
 ghost use Rattle.bay_device.specs.Outcomes.{closed, closed_by, connection_at, event_outcome, outcome, place_of, recv_after};
@@ -257,6 +259,13 @@ impl Device {
         })
     }
 
+    // There is a place for each association's connection. It does nothing: its callers learn this.
+    fn has_places(&self)
+        ensures { length self.now.connections ≡ 8 }
+    {
+        self.connections.are_eight();
+    }
+
     // Does one event at a moment.
     fn do_event(&mut self, now: u64, event: Event<'_>) -> Result<Step, StepFault>
         ensures steps { Steps now event.entry self.old result self.new }
@@ -298,11 +307,14 @@ impl Device {
         ensures sure { IsWithoutOctets event.entry → Gives (outcome None now event.entry self.old) result self.new }
         // Each command is one that the interlocking releases, on a fresh scan, while no switch is operating, and comes with its reply.
         ensures commanded { IfOk result (AreCommanded now self.old) }
+        // What is seen of the event leads its controls on, with such a choice.
+        ensures leads { Leading now event.entry self.old result self.new }
         // A scan halts without a trap within the budget,
         ensures halts { is_refused now self.old ≡ false → HaltsAt now event.entry self.old }
         // and on a device that runs a text it does what the text means.
         ensures means { (c : Checked) → Runs c self.old → MeansAt c now event.entry self.old × Runs c self.new }
     {
+        self.has_places();
         self.do_event(now, event)
     }
 
@@ -321,7 +333,10 @@ impl Device {
         // and on a device that runs a text the tree then holds what the text means, whatever the choices.
         ensures means { (c : Checked) → Runs c self.old → (choices : List (Option ℕ)) → AllMean c choices events.now self.old }
         ensures runs { (c : Checked) → Runs c self.old → Runs c self.new }
+        // From no selection on each accepted operate of an SBO switch is backed by a select, whatever the choices.
+        ensures backed { self.old.controls.selection ≡ None → (choices : List (Option ℕ)) → AreBacked self.old.controls.controls (entries_all choices events.now self.old) }
     {
+        self.has_places();
         let mut answers = Vec::with_capacity(self.alloc, events.len())?;
         for (now, event) in events {
             let answer = self.step(*now, *event);

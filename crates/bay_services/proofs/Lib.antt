@@ -1,5 +1,7 @@
+pub mod AcceptedLemmas
 pub mod AnswerLemmas
 pub mod DecisionLemmas
+pub mod EntryLemmas
 pub mod NameLemmas
 pub mod PlaceLemmas
 pub mod ReadLemmas

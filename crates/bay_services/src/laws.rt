@@ -1,10 +1,13 @@
 // Laws of what clients see of a bay. Each function does nothing, and its contract is the law.
-ghost use Rattle.std.specs.Prelude.{◌≡◌, ℕ, All, List, false};
+ghost use Rattle.std.specs.Prelude.{◌≡◌, ◌≤◌, ℕ, All, Bool, List, false, true};
 ghost use Rattle.std.specs.Str.{bytes_eq};
 ghost use Rattle.bay_control.specs.Decisions.{State};
+ghost use Rattle.bay_control.specs.Happenings.{Leads};
 ghost use Rattle.bay_nodes.specs.Names.{control_names};
+ghost use Rattle.bay_services.specs.Accepted.{AreNamedAlike, accepted_in};
 ghost use Rattle.bay_services.specs.Answers.{answered};
 ghost use Rattle.bay_services.specs.Bay.{Bay, ShowSelection};
+ghost use Rattle.bay_services.specs.Entries.{entries_in};
 ghost use Rattle.bay_services.specs.Released.{IsReleased, Leaves};
 ghost use Rattle.bay_services.specs.declared.client.Client.{Client};
 ghost use Rattle.bay_tree.specs.Rows.{with_leaf_of};
@@ -22,4 +25,18 @@ pub fn selection_stays_shown()
 pub fn commands_are_released()
     ensures released { (c : Client) (pdu : List ℕ) (b : Bay) → All (IsReleased c b) (answered c pdu b).commands }
     ensures leaves { (c : Client) (pdu : List ℕ) (b : Bay) → Leaves c.now b (answered c pdu b).after }
+{}
+
+/// What a PDU of an open association asks of the controls leads them from those before it to those after it: what is seen of that are
+/// its entries. No request opens or closes an association.
+pub fn requests_lead()
+    ensures { (c : Client) (pdu : List ℕ) (b : Bay) (opens : ℕ → Bool) → opens c.association ≡ true
+        → Leads (entries_in c pdu b) opens b.controls opens (answered c pdu b).after.controls }
+{}
+
+/// What the octets of an answer tell, beside the names of a bay's variables, is what the PDU asked of the controls and what was accepted
+/// of it: a select by a text that is not empty, another request by a success.
+pub fn answers_tell()
+    ensures { (c : Client) (pdu : List ℕ) (named b : Bay) → c.size ≤ 65000 → AreNamedAlike named b
+        → accepted_in c pdu named (answered c pdu b).sent ≡ entries_in c pdu b }
 {}

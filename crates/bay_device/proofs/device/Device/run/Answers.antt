@@ -5,6 +5,7 @@ use Rattle.bay_device.specs.Meaning.{Runs}
 use Rattle.bay_device.specs.declared.event.Event.{Event}
 use Rattle.bay_device.specs.declared.event.Event.TheVariants.{Open}
 use Rattle.bay_device.proofs.CommandLemmas.{all-commanded}
+use Rattle.bay_device.proofs.EntryLemmas.{all-are-backed}
 use Rattle.bay_device.proofs.MeaningLemmas.{all-mean, all-run}
 use Rattle.bay_device.proofs.RunLemmas.{leads-none, leads-step, runs-all}
 use Rattle.bay_device.proofs.device.Device.run.Goals as goal
@@ -14,6 +15,9 @@ returns-in_err-answers-clause-means c program runs choices = all-mean program ch
 
 pub returns-in_err-answers-clause-commanded : goal.returns-in_err-answers-clause-commanded
 returns-in_err-answers-clause-commanded c choices = all-commanded choices c.args.events.now c.args.self.now
+
+pub returns-in_err-answers-clause-backed : goal.returns-in_err-answers-clause-backed
+returns-in_err-answers-clause-backed c none choices = all-are-backed choices c.args.events.now c.args.self.now c.has_places.ensures none
 
 pub loop-now-init : goal.loop-now-init
 loop-now-init c = record {
@@ -57,3 +61,6 @@ returns-clause-runs c program runs =
 
 pub returns-clause-commanded : goal.returns-clause-commanded
 returns-clause-commanded c choices = all-commanded choices c.args.events.now c.args.self.now
+
+pub returns-clause-backed : goal.returns-clause-backed
+returns-clause-backed c none choices = all-are-backed choices c.args.events.now c.args.self.now c.has_places.ensures none

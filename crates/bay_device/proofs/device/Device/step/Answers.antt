@@ -4,6 +4,7 @@ use Rattle.bay_device.specs.Meaning.{Runs}
 use Rattle.bay_device.specs.declared.event.Step.{Step}
 use Rattle.bay_device.specs.declared.fault.StepFault.{StepFault}
 use Rattle.bay_device.proofs.CommandLemmas.{step-commanded}
+use Rattle.bay_device.proofs.EntryLemmas.{leading}
 use Rattle.bay_device.proofs.MeaningLemmas.{means-event, runs-still}
 use Rattle.bay_device.proofs.RecvLemmas.{one-outcome}
 use Rattle.bay_device.proofs.device.Device.step.Goals as goal
@@ -20,3 +21,7 @@ pub returns-clause-means : goal.returns-clause-means
 returns-clause-means c program runs =
     let steps = c.do_event.ensures.steps in
     (means-event program c.args.self.now runs c.args.now c.args.event, subst (Runs program) (sym steps.left) (runs-still program c.args.self.now runs c.args.now steps.choice c.args.event))
+
+pub returns-clause-leads : goal.returns-clause-leads
+returns-clause-leads c =
+    leading c.args.now c.args.event c.args.self.now c.do_event.result c.do_event.new.self c.has_places.ensures c.do_event.ensures.steps

@@ -1,0 +1,102 @@
+-- What events ask of a device's controls, and what was accepted of it, as it is seen from outside; and which associations are open.
+use Rattle.std.specs.Prelude.{ℕ, ◌≡◌, zero, suc, nat_lt, Bool, true, List, [], ◌∷◌, ◌++◌, Option, None, Some, is_some, Result, if◌then◌else◌}
+use Rattle.bay_control.specs.Acts.{Act, Opened, Closed, Entry}
+use Rattle.bay_control.specs.Decisions as control
+use Rattle.bay_control.specs.Happenings.{Leads}
+use Rattle.bay_connection.specs.Talk.{Indication, Talk, answers, tells, releases, ends, fails, indications}
+use Rattle.bay_services.specs.Entries.{entries_in}
+use Rattle.bay_device.specs.Device.{State, advanced, bay_of}
+use Rattle.bay_device.specs.Hearing.{Done, client_at, heard, said, with_sent}
+use Rattle.bay_device.specs.Outcomes.{connection_at, last_moment, nothing_done, outcome, place_of}
+use Rattle.bay_device.specs.Steps.{Steps}
+use Rattle.bay_device.specs.declared.event.Event.{Event}
+use Rattle.bay_device.specs.declared.event.Event.TheVariants.{Open, Recv, Close, Contact, Input, Measure, Scan}
+use Rattle.bay_device.specs.declared.event.Step.{Step}
+use Rattle.bay_device.specs.declared.event.Why.{Why}
+use Rattle.bay_device.specs.declared.fault.StepFault.{StepFault}
+
+-- an association is open
+abbrev pub opens : State → ℕ → Bool
+opens s a = is_some (connection_at (place_of a) s)
+
+-- an association was opened, or closed
+abbrev pub told : ℕ → Act → List Entry
+told now act = record { now = now; act = act; is_accepted = true } ∷ []
+
+-- ---- octets
+
+-- one thing that was heard, and then what follows: a PDU that is told asks for something
+abbrev pub entries_on : ℕ → ℕ → Indication → Done → (Done → List Entry) → List Entry
+entries_on now a (answers octets) d later = later (with_sent a octets d)
+entries_on now a (tells terms pdu) d later = entries_in (client_at now a terms d.state) pdu (bay_of d.state) ++ later (said now a terms pdu d)
+entries_on now a (releases octets) d later = []
+entries_on now a ends d later = []
+entries_on now a (fails code) d later = []
+
+-- of all that was heard, in its order, with the same choice
+abbrev pub entries_heard : Option ℕ → ℕ → ℕ → List Indication → Done → List Entry
+entries_heard None now a [] d = []
+entries_heard None now a (i ∷ is) d = entries_on now a i d (entries_heard None now a is)
+entries_heard (Some zero) now a is d = []
+entries_heard (Some (suc n)) now a [] d = []
+entries_heard (Some (suc n)) now a (i ∷ is) d = entries_on now a i d (entries_heard (Some n) now a is)
+
+-- the device closes the association
+abbrev pub entries_closed : ℕ → ℕ → Option Why → List Entry
+entries_closed now a None = []
+entries_closed now a (Some why) = told now (Closed a)
+
+abbrev pub entries_octets : Option ℕ → ℕ → ℕ → State → Talk → List ℕ → List Entry
+entries_octets choice now a s talk [] = []
+entries_octets choice now a s talk (octet ∷ octets) =
+    entries_heard choice now a (indications talk (octet ∷ octets)) (nothing_done (advanced now s))
+    ++ entries_closed now a (heard choice now a (indications talk (octet ∷ octets)) (nothing_done (advanced now s))).why
+
+abbrev pub entries_recv : Option ℕ → ℕ → ℕ → List ℕ → State → Option Talk → List Entry
+entries_recv choice now a octets s None = []
+entries_recv choice now a octets s (Some talk) = entries_octets choice now a s talk octets
+
+-- ---- events
+
+-- an association is opened that is not open
+abbrev pub entries_open : ℕ → ℕ → Option ℕ → Option Talk → List Entry
+entries_open now a None talk = []
+entries_open now a (Some place) (Some talk) = []
+entries_open now a (Some place) None = told now (Opened a)
+
+-- one that is open is closed
+abbrev pub entries_close : ℕ → ℕ → Option Talk → List Entry
+entries_close now a None = []
+entries_close now a (Some talk) = told now (Closed a)
+
+-- of an event that its moment does not refuse; the process and the program ask for nothing
+abbrev pub entries_of_event : Option ℕ → ℕ → Event → State → List Entry
+entries_of_event choice now (Open a) s = entries_open now a (place_of a) (connection_at (place_of a) s)
+entries_of_event choice now (Recv a octets) s = entries_recv choice now a octets.now s (connection_at (place_of a) s)
+entries_of_event choice now (Close a) s = entries_close now a (connection_at (place_of a) s)
+entries_of_event choice now (Contact k position) s = []
+entries_of_event choice now (Input k value) s = []
+entries_of_event choice now (Measure k field value) s = []
+entries_of_event choice now Scan s = []
+
+-- Of an event at a moment, with the free choice of its outcome. A refused event asks for nothing.
+abbrev pub entries_at : Option ℕ → ℕ → Event → State → List Entry
+entries_at choice now event s =
+    if nat_lt last_moment now then []
+    else if nat_lt now s.moment then []
+    else entries_of_event choice now event s
+
+-- Of a list of events, one after the other, with a choice for each; where there is none left memory is not refused.
+abbrev pub entries_all : List (Option ℕ) → List (ℕ × Event) → State → List Entry
+entries_all choices [] s = []
+entries_all [] (e ∷ es) s = entries_at None e.0 e.1 s ++ entries_all [] es (outcome None e.0 e.1 s).after
+entries_all (choice ∷ choices) (e ∷ es) s = entries_at choice e.0 e.1 s ++ entries_all choices es (outcome choice e.0 e.1 s).after
+
+-- ---- steps
+
+-- An event is answered so, and leaves this: whatever led to the controls before it, seen as these entries, leads with what is seen of
+-- the event to the controls after it.
+pub record Leading (now : ℕ) (event : Event) (old : State) (answer : Result Step StepFault) (new : State) : Type 0 where
+  pub steps : Steps now event old answer new
+  pub leads : (past : List Entry) (open_before : ℕ → Bool) (before : control.State) → Leads past open_before before (opens old) old.controls
+    → Leads (past ++ entries_at steps.choice now event old) open_before before (opens new) new.controls

@@ -1,0 +1,144 @@
+-- What a PDU asks of controls, by what its variables are named and its data, and what was accepted of it, by the octets of its answer
+-- (ISO 9506-2, Read and Write; IEC 61850-8-1). Nothing here looks at controls.
+use Rattle.std.specs.Prelude.{ℕ, ◌≡◌, Bool, true, false, ◌&&◌, List, [], ◌∷◌, ◌++◌, Option, Some, None, unwrap_or, Result, Ok, Err}
+use Rattle.bay_ber.specs.Options.{◌>>=◌}
+use Rattle.bay_ber.specs.Tags.{same_tag}
+use Rattle.bay_ber.specs.Values.{Part, under, value_in, values_in}
+use Rattle.bay_nodes.specs.declared.switch.Switch.{Switch}
+use Rattle.bay_tree.specs.Rows.{names_of}
+use Rattle.bay_control.specs.Acts as act
+use Rattle.bay_control.specs.Acts.{Act, Entry}
+use Rattle.bay_control.specs.Happenings.{entries_of}
+use Rattle.bay_control.specs.Requests.{asked_choice}
+use Rattle.bay_mms.specs.Controls as asked
+use Rattle.bay_mms.specs.Controls.{Control, operate_in, cancel_in}
+use Rattle.bay_mms.specs.Data.{Datum}
+use Rattle.bay_mms.specs.Grammar.{answer_to}
+use Rattle.bay_mms.specs.Requests.{Naming, Asking, identify, names, attributes, read, write, Message, initiate, conclude, confirmed}
+use Rattle.bay_mms.specs.Tags.{context, constructed}
+use Rattle.bay_mms.specs.declared.fault.ControlFault.{ControlFault}
+use Rattle.bay_mms.specs.declared.fault.MmsFault.{MmsFault}
+use Rattle.bay_services.specs.Bay.{Bay}
+use Rattle.bay_services.specs.Controls.{ask_of}
+use Rattle.bay_services.specs.Entries.{target_at}
+use Rattle.bay_services.specs.Rows.{row_named}
+use Rattle.bay_services.specs.declared.client.Client.{Client}
+use Rattle.bay_services.specs.declared.target.ControlPart.{ControlPart}
+use Rattle.bay_services.specs.declared.target.ControlPart.TheVariants.{Select, SelectWith, Operate, Cancel}
+use Rattle.bay_services.specs.declared.target.Target.{Target}
+
+-- The variables of two bays have the same names.
+pub record AreNamedAlike (b d : Bay) : Type 0 where
+  pub domain : d.domain ≡ b.domain
+  pub switches : d.switches ≡ b.switches
+  pub names : names_of d.rows ≡ names_of b.rows
+
+-- ---- what is asked
+
+-- a read of SBO selects
+abbrev pub read_act : ℕ → ℕ → ControlPart → Option Act
+read_act a k Select = Some (act.Select a k)
+read_act a k SelectWith = None
+read_act a k Operate = None
+read_act a k Cancel = None
+
+abbrev pub act_of_read : ℕ → Option Target → Option Act
+act_of_read a None = None
+act_of_read a (Some t) = read_act a t.switch t.part
+
+-- a write of data that are of the right type and in range
+abbrev pub select_with_act : ℕ → ℕ → Result asked.Operate ControlFault → Option Act
+select_with_act a k (Ok o) = Some (act.SelectWith a k (asked_choice (ask_of o)))
+select_with_act a k (Err fault) = None
+
+abbrev pub operate_act : ℕ → ℕ → Result asked.Operate ControlFault → Option Act
+operate_act a k (Ok o) = Some (act.Operate a k (asked_choice (ask_of o)))
+operate_act a k (Err fault) = None
+
+abbrev pub cancel_act : ℕ → ℕ → Result Control ControlFault → Option Act
+cancel_act a k (Ok control) = Some (act.Cancel a k)
+cancel_act a k (Err fault) = None
+
+abbrev pub write_act : ℕ → Datum → ℕ → ControlPart → Option Act
+write_act a given k Select = None
+write_act a given k SelectWith = select_with_act a k (operate_in given)
+write_act a given k Operate = operate_act a k (operate_in given)
+write_act a given k Cancel = cancel_act a k (cancel_in given)
+
+abbrev pub act_of_write : ℕ → Datum → Option Target → Option Act
+act_of_write a given None = None
+act_of_write a given (Some t) = write_act a given t.switch t.part
+
+-- ---- what was accepted
+
+abbrev pub is_some_text : List ℕ → Bool
+is_some_text [] = false
+is_some_text (octet ∷ octets) = true
+
+-- a select is granted by a text that is not empty
+abbrev pub is_granted : Part → Bool
+is_granted result = same_tag result.tag (context 10) && is_some_text result.content
+
+-- another request is accepted by a success
+abbrev pub is_success : Part → Bool
+is_success result = same_tag result.tag (context 1)
+
+-- ---- the results in a response
+
+-- behind the invoke id
+abbrev pub behind_id : List Part → Option Part
+behind_id [] = None
+behind_id (id ∷ []) = None
+behind_id (id ∷ service ∷ []) = Some service
+behind_id (id ∷ service ∷ more ∷ parts) = None
+
+-- what stands under a service's tag in a confirmed response
+abbrev pub service_in : ℕ → List ℕ → Option (List ℕ)
+service_in number pdu = value_in pdu >>= under (constructed 1) >>= values_in >>= behind_id >>= under (constructed number)
+
+abbrev pub read_results : List ℕ → Option (List Part)
+read_results pdu = service_in 4 pdu >>= value_in >>= under (constructed 1) >>= values_in
+
+abbrev pub write_results : List ℕ → Option (List Part)
+write_results pdu = service_in 5 pdu >>= values_in
+
+-- the response is the last PDU of an answer
+abbrev pub last_pdu : List (List ℕ) → List ℕ
+last_pdu [] = []
+last_pdu (pdu ∷ []) = pdu
+last_pdu (pdu ∷ next ∷ pdus) = last_pdu (next ∷ pdus)
+
+-- ---- a PDU
+
+-- each variable with its result, in their order
+abbrev pub read_accepted : Client → Bay → List Naming → List Part → List Entry
+read_accepted c b [] results = []
+read_accepted c b (name ∷ ns) [] = []
+read_accepted c b (name ∷ ns) (result ∷ results) =
+    entries_of c.now (act_of_read c.association (target_at b (row_named b name))) (is_granted result) ++ read_accepted c b ns results
+
+abbrev pub write_accepted : Client → Bay → List Naming → List Datum → List Part → List Entry
+write_accepted c b [] values results = []
+write_accepted c b (name ∷ ns) [] results = []
+write_accepted c b (name ∷ ns) (given ∷ values) [] = []
+write_accepted c b (name ∷ ns) (given ∷ values) (result ∷ results) =
+    entries_of c.now (act_of_write c.association given (target_at b (row_named b name))) (is_success result) ++ write_accepted c b ns values results
+
+-- an answer without results is an error, and then nothing was done
+abbrev pub service_accepted : Client → Bay → Asking → List ℕ → List Entry
+service_accepted c b identify response = []
+service_accepted c b (names class place after) response = []
+service_accepted c b (attributes name) response = []
+service_accepted c b (read ns) response = read_accepted c b ns (unwrap_or (read_results response) [])
+service_accepted c b (write ns values) response = write_accepted c b ns values (unwrap_or (write_results response) [])
+
+abbrev pub message_accepted : Client → Bay → Result Message MmsFault → List ℕ → List Entry
+message_accepted c b (Ok (initiate proposal)) response = []
+message_accepted c b (Ok conclude) response = []
+message_accepted c b (Ok (confirmed id asking)) response = service_accepted c b asking response
+message_accepted c b (Err fault) response = []
+
+-- What a PDU of a client asks of the controls of a bay with these names, in its order, and what was accepted of it by the PDUs of its
+-- answer.
+abbrev pub accepted_in : Client → List ℕ → Bay → List (List ℕ) → List Entry
+accepted_in c pdu b sent = message_accepted c b (answer_to pdu) (last_pdu sent)
