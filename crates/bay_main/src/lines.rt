@@ -107,6 +107,7 @@ fn put_switches<W: Write>(
 }
 
 /// Writes a number, as a moment, and what follows it.
+#[inline(always)]
 fn put_numbered<W: Write>(
     outbox: &mut Outbox,
     writer: &mut WatchedWriter<W>,
@@ -269,6 +270,7 @@ fn put_sent<W: Write>(
 }
 
 /// Writes the line of octets that are sent.
+#[cold]
 fn put_send<W: Write>(
     outbox: &mut Outbox,
     writer: &mut WatchedWriter<W>,
@@ -336,6 +338,7 @@ fn put_order<W: Write>(
 }
 
 /// Writes the line of a command to the switch with this id.
+#[cold]
 fn put_command_line<W: Write>(
     outbox: &mut Outbox,
     writer: &mut WatchedWriter<W>,
@@ -415,6 +418,7 @@ fn put_closing<W: Write>(
 }
 
 /// Writes the line of an association that was closed.
+#[cold]
 fn put_closing_line<W: Write>(
     outbox: &mut Outbox,
     writer: &mut WatchedWriter<W>,

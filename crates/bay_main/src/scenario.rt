@@ -27,6 +27,7 @@ fn without_return(line: &[u8]) -> &[u8]
 }
 
 /// The first line without its end, which is LF or CR LF, and what follows it.
+#[inline(always)]
 pub fn cut_line(text: &[u8]) -> (&[u8], &[u8])
     requires { 0 < length text.now }
     ensures cuts { CutsLine text.now result.0.now result.1.now }
