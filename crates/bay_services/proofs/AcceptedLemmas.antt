@@ -1,7 +1,7 @@
 -- What the octets of an answer tell of a PDU is what was accepted of it.
 use Rattle.std.proofs.Common.{◌≡◌, ◌<◌, ◌≤◌, ◌+◌, ℕ, zero, suc, Bool, true, false, ◌&&◌, cond, List, [], ◌∷◌, ◌++◌, length, codes, map, nat_le, Option, Some, None, unwrap_or, Result, Ok, Err, refl, ap, ap₂, sym, ◌∙◌, arith, append-nil, append_assoc, length-append, subst}
 use Rattle.std.proofs.lemmas.Bool.{leb-true}
-use Rattle.std.specs.Prelude.{ℤ, pos, is_ok}
+use Rattle.std.specs.Prelude.{ℤ, pos, is_ok, is_some, option_to_list}
 use Rattle.std.specs.Str.{bytes_eq}
 use Rattle.bay_ber.specs.Options.{◌>>=◌}
 use Rattle.bay_ber.specs.Spelling.{Spells}
@@ -40,18 +40,20 @@ use Rattle.bay_mms.specs.Responses.{class_text, error_text, failure_result, read
 use Rattle.bay_mms.specs.Tags.{context, constructed, int_tag}
 use Rattle.bay_mms.specs.declared.fault.ControlFault.{ControlFault}
 use Rattle.bay_mms.specs.declared.fault.MmsFault.{MmsFault}
+use Rattle.bay_mms.specs.declared.fault.MmsFault.TheVariants.{BadPdu, UnknownService, TooMany, OutOfMemory}
 use Rattle.bay_mms.specs.declared.response.ErrorClass.{ErrorClass}
 use Rattle.bay_mms.specs.declared.response.ErrorClass.TheVariants.{NoSuchObject, Resource}
 use Rattle.bay_mms.proofs.LawLemmas.{datum_spells}
-use Rattle.bay_services.specs.Accepted.{AreNamedAlike, accepted_in, act_of_read, act_of_write, behind_id, cancel_act, is_granted, is_some_text, is_success, last_pdu, message_accepted, operate_act, read_accepted, read_act, read_results, select_with_act, service_accepted, service_in, write_accepted, write_act, write_results}
-use Rattle.bay_services.specs.Answers.{Answered, answer_of, answered, said, served}
+use Rattle.bay_services.specs.Accepted.{AreNamedAlike, accepted_in, act_of_read, act_of_write, behind_id, cancel_act, first_response, is_granted, is_report, is_some_text, is_success, may_be_reported, message_accepted, operate_act, read_accepted, read_act, read_results, select_with_act, service_accepted, service_in, write_accepted, write_act, write_results}
+use Rattle.bay_services.specs.Answers.{Answered, answer_of, answered, attributes_at, said, served}
 use Rattle.bay_services.specs.Bay.{Bay, is_selected, shown, with_controls}
-use Rattle.bay_services.specs.Controls.{ask_of, object_of, view_of}
+use Rattle.bay_services.specs.Controls.{ask_of, has_reports, object_of, refusal_report, refusal_reports, view_of}
 use Rattle.bay_services.specs.Entries.{call_of_read, call_of_write, cancel_call, entries_in, message_entries, operate_call, read_call, read_entries, seen, select_with_call, service_entries, target_at, within_size, write_call, write_entries}
 use Rattle.bay_services.specs.Reads.{Reading, nothing_read, read_all, read_one, read_part, read_row, read_target, selected_text, value_read}
+use Rattle.bay_services.specs.Replies.{fitting}
 use Rattle.bay_services.specs.Rows.{row_named}
 use Rattle.bay_services.specs.Targets.{target_of}
-use Rattle.bay_services.specs.Writes.{Writing, cancel_asked, decision_result, nothing_written, operate_asked, select_with_asked, write_all, write_failed, write_one, write_part, write_row, write_target}
+use Rattle.bay_services.specs.Writes.{Writing, cancel_asked, decided, decision_result, nothing_written, operate_asked, select_with_asked, write_all, write_failed, write_one, write_part, write_row, write_target}
 use Rattle.bay_services.specs.declared.client.Client.{Client}
 use Rattle.bay_services.specs.declared.target.ControlPart.{ControlPart}
 use Rattle.bay_services.specs.declared.target.ControlPart.TheVariants.{Select, SelectWith, Operate, Cancel}
@@ -205,7 +207,7 @@ record AllRead (c : Client) (b : Bay) (ns : List Naming) (r : Reading) : Type 0 
   more : List ℕ
   is : (read_all c ns r).results ≡ r.results ++ more
   spelled : length more < 4294967296 → SpellAll more parts
-  told : read_accepted c b ns parts ≡ read_entries c ns r
+  told : read_accepted c.now c.association b ns parts ≡ read_entries c ns r
 
 all-read : (c : Client) (b : Bay) (ns : List Naming) (r : Reading) → AreNamedAlike b r.bay → AllRead c b ns r
 all-read c b [] r alike = record { parts = []; more = []; is = sym (append-nil r.results); spelled = λ short. refl; told = refl }
@@ -338,7 +340,7 @@ record AllWritten (c : Client) (b : Bay) (ns : List Naming) (values : List Datum
   more : List ℕ
   is : (write_all c ns values w).results ≡ w.results ++ more
   spelled : length more < 4294967296 → SpellAll more parts
-  told : write_accepted c b ns values parts ≡ write_entries c ns values w
+  told : write_accepted c.now c.association b ns values parts ≡ write_entries c ns values w
 
 all-written : (c : Client) (b : Bay) (ns : List Naming) (values : List Datum) (w : Writing) → AreNamedAlike b w.bay → AllWritten c b ns values w
 all-written c b [] values w alike = record { parts = []; more = []; is = sym (append-nil w.results); spelled = λ short. refl; told = refl }
@@ -372,9 +374,13 @@ service-read n id content small same short =
     let within = within-element (constructed 1) inside in
     let size = length-append (element int_tag number) (element (constructed n) content) in
     let parts : List Part = value int_tag number ∷ value (constructed n) content ∷ [] in
-    let both : values_in inside ≡ Some parts = values_again inside parts
-    (element int_tag number, element (constructed n) content, refl, spells-element int_tag number (omega arith) (omega (arith, within, size, short)),
-        spell-one (constructed n) content small (omega (arith, within, size, short))) in
+    let both : values_in inside ≡ Some parts = values_again inside parts (
+      element int_tag number,
+      element (constructed n) content,
+      refl,
+      spells-element int_tag number (omega arith) (omega (arith, within, size, short)),
+      spell-one (constructed n) content small (omega (arith, within, size, short)),
+    ) in
     ap (λ (o : Option Part). o >>= under (constructed 1) >>= values_in >>= behind_id >>= under (constructed n)) outer
     ∙ ap (λ (o : Option (List Part)). o >>= behind_id >>= under (constructed n)) both
     ∙ ap (λ (b : Bool). cond b (Some content) None) same
@@ -413,10 +419,17 @@ error-short id =
     let number : List ℕ = integer_octets (pos id) in
     let zero-octets : List ℕ = integer_octets (pos 0) in
     let class : List ℕ = element (context 3) zero-octets in
-    omega (arith, length-integer_octets (pos id), length-integer_octets (pos 0), length-element (context 3) zero-octets, length-element (constructed 0) class,
-        length-element (constructed 2) (element (constructed 0) class), length-element (context 0) number,
-        length-append (element (context 0) number) (element (constructed 2) (element (constructed 0) class)),
-        length-element (constructed 2) (element (context 0) number ++ element (constructed 2) (element (constructed 0) class)))
+    omega (
+      arith,
+      length-integer_octets (pos id),
+      length-integer_octets (pos 0),
+      length-element (context 3) zero-octets,
+      length-element (constructed 0) class,
+      length-element (constructed 2) (element (constructed 0) class),
+      length-element (context 0) number,
+      length-append (element (context 0) number) (element (constructed 2) (element (constructed 0) class)),
+      length-element (constructed 2) (element (context 0) number ++ element (constructed 2) (element (constructed 0) class)),
+    )
 
 no-service : (n id : ℕ) → service_in n (error_text id Resource) ≡ None
 no-service n id =
@@ -430,33 +443,125 @@ no-read id = ap (λ (o : Option (List ℕ)). o >>= value_in >>= under (construct
 no-write : (id : ℕ) → write_results (error_text id Resource) ≡ None
 no-write id = ap (λ (o : Option (List ℕ)). o >>= values_in) (no-service 5 id)
 
-none-read : (c : Client) (b : Bay) (ns : List Naming) → read_accepted c b ns [] ≡ []
-none-read c b [] = refl
-none-read c b (name ∷ ns) = refl
+none-read : (now a : ℕ) (b : Bay) (ns : List Naming) → read_accepted now a b ns [] ≡ []
+none-read now a b [] = refl
+none-read now a b (name ∷ ns) = refl
 
-none-written : (c : Client) (b : Bay) (ns : List Naming) (values : List Datum) → write_accepted c b ns values [] ≡ []
-none-written c b [] values = refl
-none-written c b (name ∷ ns) [] = refl
-none-written c b (name ∷ ns) (given ∷ values) = refl
+none-written : (now a : ℕ) (b : Bay) (ns : List Naming) (values : List Datum) → write_accepted now a b ns values [] ≡ []
+none-written now a b [] values = refl
+none-written now a b (name ∷ ns) [] = refl
+none-written now a b (name ∷ ns) (given ∷ values) = refl
 
--- ---- the services
+-- ---- an answer
+
+-- A PDU that is one value of this tag, none of a report's.
+not-report : (tag : Tag) (content : List ℕ) → tag.number < 31 → same_tag tag (constructed 3) ≡ false → length (element tag content) < 4294967296 → is_report (element tag content) ≡ false
+not-report tag content small other short =
+    ap (λ (o : Option Part). is_some (o >>= under (constructed 3))) (one_read (element tag content) (value tag content) (spell-one tag content small short))
+    ∙ ap (λ (b : Bool). is_some (cond b (Some content) None)) other
+
+a-report : (content : List ℕ) → length (element (constructed 3) content) < 4294967296 → is_report (element (constructed 3) content) ≡ true
+a-report content short =
+    ap (λ (o : Option Part). is_some (o >>= under (constructed 3))) (one_read (element (constructed 3) content) (value (constructed 3) content) (spell-one (constructed 3) content (omega arith) short))
 
 fits : (n most : ℕ) → nat_le n most ≡ true → n ≤ most
 fits n most is = leb-true n most is
 
-last-behind : (pdus : List (List ℕ)) (pdu : List ℕ) → last_pdu (pdus ++ pdu ∷ []) ≡ pdu
-last-behind [] pdu = refl
-last-behind (first ∷ []) pdu = refl
-last-behind (first ∷ next ∷ pdus) pdu = last-behind (next ∷ pdus) pdu
+-- each of these PDUs is a report
+abbrev AreReports : List (List ℕ) → Type 0
+AreReports [] = Unit {0}
+AreReports (pdu ∷ pdus) = (is_report pdu ≡ true) × AreReports pdus
 
--- what is sent of a write whose response fits
+both-reports : (xs ys : List (List ℕ)) → AreReports xs → AreReports ys → AreReports (xs ++ ys)
+both-reports [] ys p q = q
+both-reports (x ∷ xs) ys p q = (p.0, both-reports xs ys p.1 q)
+
+-- behind reports stands the response
+behind-reports : (reports later : List (List ℕ)) (pdu : List ℕ) → AreReports reports → is_report pdu ≡ false → first_response true ((reports ++ pdu ∷ []) ++ later) ≡ (pdu, later)
+behind-reports [] later pdu all not = ap (λ (b : Bool). cond b (first_response true later) (pdu, later)) not
+behind-reports (p ∷ reports) later pdu all not =
+    ap (λ (b : Bool). cond b (first_response true ((reports ++ pdu ∷ []) ++ later)) (p, (reports ++ pdu ∷ []) ++ later)) all.0 ∙ behind-reports reports later pdu all.1 not
+
+fitting-if : (fits : Bool) (pdu : List ℕ) → (fits ≡ true → is_report pdu ≡ true) → AreReports (option_to_list (cond fits (Some pdu) None))
+fitting-if true pdu is = (is refl, tt)
+fitting-if false pdu is = tt
+
+reports-if : (c : Client) (has : Bool) (pdu : List ℕ) → (nat_le (length pdu) c.size ≡ true → is_report pdu ≡ true) → AreReports (cond has (option_to_list (fitting c.size pdu)) [])
+reports-if c true pdu is = fitting-if (nat_le (length pdu) c.size) pdu is
+reports-if c false pdu is = tt
+
+module _ (c : Client) (small : c.size ≤ 65000) where
+  refusals-are : (k : ℕ) (item : List ℕ) (control : Control) (b : Bay) (answer : Result (Unit {0}) AddCause) → AreReports (refusal_reports c k item control b answer)
+  refusals-are k item control b (Ok done) = tt
+  refusals-are k item control b (Err why) =
+      let report : List ℕ = refusal_report (object_of b item) control why in
+      reports-if c (has_reports b k) report (λ is. let n = fits (length report) c.size is in a-report _ (omega (arith, n, small)))
+
+  decided-are : (k : ℕ) (item : List ℕ) (control : Control) (o : Outcome) (w : Writing) → AreReports w.reports → AreReports (decided c k item control o w).reports
+  decided-are k item control o w all = both-reports w.reports (refusal_reports c k item control w.bay o.answer) all (refusals-are k item control w.bay o.answer)
+
+  select-with-are : (k : ℕ) (item : List ℕ) (w : Writing) (o : Result asked.Operate ControlFault) → AreReports w.reports → AreReports (select_with_asked c k item w o).reports
+  select-with-are k item w (Ok o) all = decided-are k item o.control (select_with_outcome c.association k (ask_of o) c.now w.bay.controls) w all
+  select-with-are k item w (Err fault) all = all
+
+  operate-are : (k : ℕ) (item : List ℕ) (w : Writing) (o : Result asked.Operate ControlFault) → AreReports w.reports → AreReports (operate_asked c k item w o).reports
+  operate-are k item w (Ok o) all = decided-are k item o.control (operate_outcome c.association k (ask_of o) (view_of c k w.bay) c.now w.bay.controls) w all
+  operate-are k item w (Err fault) all = all
+
+  cancel-are : (k : ℕ) (item : List ℕ) (w : Writing) (o : Result Control ControlFault) → AreReports w.reports → AreReports (cancel_asked c k item w o).reports
+  cancel-are k item w (Ok control) all = decided-are k item control (cancel_outcome c.association k c.now w.bay.controls) w all
+  cancel-are k item w (Err fault) all = all
+
+  write-part-are : (k : ℕ) (item : List ℕ) (given : Datum) (w : Writing) (part : ControlPart) → AreReports w.reports → AreReports (write_part c k item given w part).reports
+  write-part-are k item given w Select all = all
+  write-part-are k item given w SelectWith all = select-with-are k item w (operate_in given) all
+  write-part-are k item given w Operate all = operate-are k item w (operate_in given) all
+  write-part-are k item given w Cancel all = cancel-are k item w (cancel_in given) all
+
+  write-target-are : (item : List ℕ) (given : Datum) (w : Writing) (target : Option Target) → AreReports w.reports → AreReports (write_target c item given w target).reports
+  write-target-are item given w None all = all
+  write-target-are item given w (Some t) all = write-part-are t.switch item given w t.part all
+
+  write-row-are : (given : Datum) (w : Writing) (row : Option ℕ) → AreReports w.reports → AreReports (write_row c given w row).reports
+  write-row-are given w None all = all
+  write-row-are given w (Some place) all = write-target-are (name_at w.bay.rows place) given w (target_at w.bay (Some place)) all
+
+  writes-are : (ns : List Naming) (values : List Datum) (w : Writing) → AreReports w.reports → AreReports (write_all c ns values w).reports
+  writes-are [] values w all = all
+  writes-are (name ∷ ns) [] w all = all
+  writes-are (name ∷ ns) (given ∷ values) w all = writes-are ns values (write_one c name given w) (write-row-are given w (row_named w.bay name) all)
+
+-- ---- the services
+
+abbrev Stands : Bool → List (List ℕ) → List ℕ → Type 0
+Stands false reports response = reports ≡ []
+Stands true reports response = AreReports reports × (is_report response ≡ false)
+
+-- An answer is a response behind reports, and tells what is seen.
+record IsTold (now a : ℕ) (n : Bay) (m : Result Message MmsFault) (sent : List (List ℕ)) (entries : List Entry) : Type 0 where
+  reports : List (List ℕ)
+  response : List ℕ
+  is : sent ≡ reports ++ response ∷ []
+  stands : Stands (may_be_reported m) reports response
+  told : message_accepted now a n m response ≡ entries
+
+first-is : (may : Bool) (reports later : List (List ℕ)) (response : List ℕ) → Stands may reports response → first_response may ((reports ++ response ∷ []) ++ later) ≡ (response, later)
+first-is false reports later response none = ap (λ (rs : List (List ℕ)). first_response false ((rs ++ response ∷ []) ++ later)) none
+first-is true reports later response stands = behind-reports reports later response stands.0 stands.1
+
+-- what is sent of a read and of a write whose responses fit
+abbrev read_sent : ℕ → Reading → Answered
+read_sent id r = record { sent = read_text id r.results ∷ []; commands = []; ending = None; after = r.bay }
+
 abbrev write_sent : ℕ → Writing → Answered
 write_sent id w = record { sent = w.reports ++ write_text id w.results ∷ []; commands = w.commands; ending = w.ending; after = w.bay }
 
 module _ (c : Client) (small : c.size ≤ 65000) (n b : Bay) (alike : AreNamedAlike n b) where
+  abbrev Told : Result Message MmsFault → List (List ℕ) → List Entry → Type 0
+  Told m sent entries = IsTold c.now c.association n m sent entries
+
   read-told : (id : ℕ) (ns : List Naming) (within : Bool) → nat_le (length (read_text id (read_all c ns (nothing_read b)).results)) c.size ≡ within
-      → service_accepted c n (read ns) (last_pdu (cond within (let a : Answered = record { sent = read_text id (read_all c ns (nothing_read b)).results ∷ []; commands = []; ending = None; after = (read_all c ns (nothing_read b)).bay } in a) (said (error_text id Resource) b)).sent)
-      ≡ cond within (read_entries c ns (nothing_read b)) []
+      → Told (Ok (confirmed id (read ns))) (cond within (read_sent id (read_all c ns (nothing_read b))) (said (error_text id Resource) b)).sent (cond within (read_entries c ns (nothing_read b)) [])
   read-told id ns true is =
       let all : AllRead c n ns (nothing_read b) = all-read c n ns (nothing_read b) alike in
       let results : List ℕ = (read_all c ns (nothing_read b)).results in
@@ -464,12 +569,23 @@ module _ (c : Client) (small : c.size ≤ 65000) (n b : Bay) (alike : AreNamedAl
       let short : length (read_text id results) < 4294967296 = omega (arith, size, small) in
       let more : length all.more < 4294967296 = (let same : length results ≡ length all.more = ap (λ (xs : List ℕ). length xs) all.is in omega (arith, same, read-size id results, short)) in
       let spelled : SpellAll results all.parts = subst (λ (xs : List ℕ). SpellAll xs all.parts) (sym all.is) (all.spelled more) in
-      ap (λ (o : Option (List Part)). read_accepted c n ns (unwrap_or o [])) (read-back id results all.parts short spelled) ∙ all.told
-  read-told id ns false is = ap (λ (o : Option (List Part)). read_accepted c n ns (unwrap_or o [])) (no-read id) ∙ none-read c n ns
+      record {
+        reports = [];
+        response = read_text id results;
+        is = refl;
+        stands = refl;
+        told = ap (λ (o : Option (List Part)). read_accepted c.now c.association n ns (unwrap_or o [])) (read-back id results all.parts short spelled) ∙ all.told;
+      }
+  read-told id ns false is = record {
+    reports = [];
+    response = error_text id Resource;
+    is = refl;
+    stands = refl;
+    told = ap (λ (o : Option (List Part)). read_accepted c.now c.association n ns (unwrap_or o [])) (no-read id) ∙ none-read c.now c.association n ns;
+  }
 
   write-told : (id : ℕ) (ns : List Naming) (values : List Datum) (within : Bool) → nat_le (length (write_text id (write_all c ns values (nothing_written b)).results)) c.size ≡ within
-      → service_accepted c n (write ns values) (last_pdu (cond within (write_sent id (write_all c ns values (nothing_written b))) (said (error_text id Resource) b)).sent)
-      ≡ cond within (write_entries c ns values (nothing_written b)) []
+      → Told (Ok (confirmed id (write ns values))) (cond within (write_sent id (write_all c ns values (nothing_written b))) (said (error_text id Resource) b)).sent (cond within (write_entries c ns values (nothing_written b)) [])
   write-told id ns values true is =
       let all : AllWritten c n ns values (nothing_written b) = all-written c n ns values (nothing_written b) alike in
       let w : Writing = write_all c ns values (nothing_written b) in
@@ -477,22 +593,91 @@ module _ (c : Client) (small : c.size ≤ 65000) (n b : Bay) (alike : AreNamedAl
       let short : length (write_text id w.results) < 4294967296 = omega (arith, size, small) in
       let more : length all.more < 4294967296 = (let same : length w.results ≡ length all.more = ap (λ (xs : List ℕ). length xs) all.is in omega (arith, same, write-size id w.results, short)) in
       let spelled : SpellAll w.results all.parts = subst (λ (xs : List ℕ). SpellAll xs all.parts) (sym all.is) (all.spelled more) in
-      ap (λ (pdu : List ℕ). write_accepted c n ns values (unwrap_or (write_results pdu) [])) (last-behind w.reports (write_text id w.results))
-      ∙ ap (λ (o : Option (List Part)). write_accepted c n ns values (unwrap_or o [])) (write-back id w.results all.parts short spelled) ∙ all.told
-  write-told id ns values false is = ap (λ (o : Option (List Part)). write_accepted c n ns values (unwrap_or o [])) (no-write id) ∙ none-written c n ns values
+      record {
+        reports = w.reports;
+        response = write_text id w.results;
+        is = refl;
+        stands = (writes-are c small ns values (nothing_written b) tt, not-report (constructed 1) _ (omega arith) refl short);
+        told = ap (λ (o : Option (List Part)). write_accepted c.now c.association n ns values (unwrap_or o [])) (write-back id w.results all.parts short spelled) ∙ all.told;
+      }
+  write-told id ns values false is = record {
+    reports = [];
+    response = error_text id Resource;
+    is = refl;
+    stands = (tt, not-report (constructed 2) _ (omega arith) refl (error-short id));
+    told = ap (λ (o : Option (List Part)). write_accepted c.now c.association n ns values (unwrap_or o [])) (no-write id) ∙ none-written c.now c.association n ns values;
+  }
 
-  service-told : (id : ℕ) (asking : Asking) → service_accepted c n asking (last_pdu (served c id b asking).sent) ≡ service_entries c id b asking
-  service-told id identify = refl
-  service-told id (names class place after) = refl
-  service-told id (attributes name) = refl
+  -- what answers with one PDU, and tells of nothing
+  quiet-told : (m : Result Message MmsFault) (within : Bool) (x y : List ℕ) → may_be_reported m ≡ false → ((pdu : List ℕ) → message_accepted c.now c.association n m pdu ≡ []) → Told m (cond within (said x b) (said y b)).sent []
+  quiet-told m true x y mute none = record { reports = []; response = x; is = refl; stands = rw mute refl; told = none x }
+  quiet-told m false x y mute none = record { reports = []; response = y; is = refl; stands = rw mute refl; told = none y }
+
+  attributes-told : (id : ℕ) (name : Naming) (row : Option ℕ) → Told (Ok (confirmed id (attributes name))) (attributes_at c id b row).sent []
+  attributes-told id name None = record { reports = []; response = error_text id NoSuchObject; is = refl; stands = refl; told = refl }
+  attributes-told id name (Some place) = quiet-told (Ok (confirmed id (attributes name))) _ _ _ refl (λ pdu. refl)
+
+  service-told : (id : ℕ) (asking : Asking) → Told (Ok (confirmed id asking)) (served c id b asking).sent (service_entries c id b asking)
+  service-told id identify = quiet-told (Ok (confirmed id identify)) _ _ _ refl (λ pdu. refl)
+  service-told id (names class place after) = quiet-told (Ok (confirmed id (names class place after))) _ _ _ refl (λ pdu. refl)
+  service-told id (attributes name) = attributes-told id name (row_named b name)
   service-told id (read ns) = read-told id ns _ refl
   service-told id (write ns values) = write-told id ns values _ refl
 
-  message-told : (m : Result Message MmsFault) → message_accepted c n m (last_pdu (answer_of c b m).sent) ≡ message_entries c b m
-  message-told (Ok (initiate proposal)) = refl
-  message-told (Ok conclude) = refl
+  message-told : (m : Result Message MmsFault) → Told m (answer_of c b m).sent (message_entries c b m)
+  message-told (Ok (initiate proposal)) = record { reports = []; response = _; is = refl; stands = refl; told = refl }
+  message-told (Ok conclude) = record { reports = []; response = _; is = refl; stands = refl; told = refl }
   message-told (Ok (confirmed id asking)) = service-told id asking
-  message-told (Err fault) = refl
+  message-told (Err (BadPdu known)) = record { reports = []; response = _; is = refl; stands = refl; told = refl }
+  message-told (Err (UnknownService id)) = record { reports = []; response = _; is = refl; stands = refl; told = refl }
+  message-told (Err (TooMany id)) = record { reports = []; response = _; is = refl; stands = refl; told = refl }
+  message-told (Err OutOfMemory) = record { reports = []; response = _; is = refl; stands = refl; told = refl }
 
-pub request-told : (c : Client) (pdu : List ℕ) (n b : Bay) → c.size ≤ 65000 → AreNamedAlike n b → accepted_in c pdu n (answered c pdu b).sent ≡ entries_in c pdu b
-request-told c pdu n b small alike = message-told c small n b alike (answer_to pdu)
+-- The first response among the PDUs of an answer and those behind them tells what is seen, and leaves those behind them.
+pub response-tells : (c : Client) (pdu : List ℕ) (n b : Bay) (later : List (List ℕ)) → c.size ≤ 65000 → AreNamedAlike n b
+    → (accepted_in c.now c.association pdu n (first_response (may_be_reported (answer_to pdu)) ((answered c pdu b).sent ++ later)).0 ≡ entries_in c pdu b)
+    × ((first_response (may_be_reported (answer_to pdu)) ((answered c pdu b).sent ++ later)).1 ≡ later)
+response-tells c pdu n b later small alike =
+    let t : IsTold c.now c.association n (answer_to pdu) (answered c pdu b).sent (entries_in c pdu b) = message-told c small n b alike (answer_to pdu) in
+    let first : first_response (may_be_reported (answer_to pdu)) ((answered c pdu b).sent ++ later) ≡ (t.response, later) =
+    ap (λ (sent : List (List ℕ)). first_response (may_be_reported (answer_to pdu)) (sent ++ later)) t.is
+    ∙ first-is (may_be_reported (answer_to pdu)) t.reports later t.response t.stands in
+    (ap (λ (r : (List ℕ) × List (List ℕ)). accepted_in c.now c.association pdu n r.0) first ∙ t.told, ap (λ (r : (List ℕ) × List (List ℕ)). r.1) first)
+
+-- ---- names behind a PDU
+
+alike-read : (b : Bay) (c : Client) (ns : List Naming) (r : Reading) → AreNamedAlike b r.bay → AreNamedAlike b (read_all c ns r).bay
+alike-read b c [] r alike = alike
+alike-read b c (name ∷ ns) r alike = alike-read b c ns (read_one c name r) (read-row-alike b c r (row_named r.bay name) alike)
+
+alike-written : (b : Bay) (c : Client) (ns : List Naming) (values : List Datum) (w : Writing) → AreNamedAlike b w.bay → AreNamedAlike b (write_all c ns values w).bay
+alike-written b c [] values w alike = alike
+alike-written b c (name ∷ ns) [] w alike = alike
+alike-written b c (name ∷ ns) (given ∷ values) w alike = alike-written b c ns values (write_one c name given w) (write-row-alike b c given w (row_named w.bay name) alike)
+
+alike-if : (n : Bay) (within : Bool) (x y : Answered) → AreNamedAlike n x.after → AreNamedAlike n y.after → AreNamedAlike n (cond within x y).after
+alike-if n true x y p q = p
+alike-if n false x y p q = q
+
+alike-attributes : (n : Bay) (c : Client) (id : ℕ) (b : Bay) (row : Option ℕ) → AreNamedAlike n b → AreNamedAlike n (attributes_at c id b row).after
+alike-attributes n c id b None alike = alike
+alike-attributes n c id b (Some place) alike = alike-if n _ _ _ alike alike
+
+alike-served : (n : Bay) (c : Client) (id : ℕ) (b : Bay) (asking : Asking) → AreNamedAlike n b → AreNamedAlike n (served c id b asking).after
+alike-served n c id b identify alike = alike-if n _ _ _ alike alike
+alike-served n c id b (names class place after) alike = alike-if n _ _ _ alike alike
+alike-served n c id b (attributes name) alike = alike-attributes n c id b (row_named b name) alike
+alike-served n c id b (read ns) alike = alike-if n _ _ _ (alike-read n c ns (nothing_read b) alike) alike
+alike-served n c id b (write ns values) alike = alike-if n _ _ _ (alike-written n c ns values (nothing_written b) alike) alike
+
+alike-answer : (n : Bay) (c : Client) (b : Bay) (m : Result Message MmsFault) → AreNamedAlike n b → AreNamedAlike n (answer_of c b m).after
+alike-answer n c b (Ok (initiate proposal)) alike = alike
+alike-answer n c b (Ok conclude) alike = alike
+alike-answer n c b (Ok (confirmed id asking)) alike = alike-served n c id b asking alike
+alike-answer n c b (Err (BadPdu known)) alike = alike
+alike-answer n c b (Err (UnknownService id)) alike = alike
+alike-answer n c b (Err (TooMany id)) alike = alike
+alike-answer n c b (Err OutOfMemory) alike = alike
+
+pub alike-after : (n : Bay) (c : Client) (pdu : List ℕ) (b : Bay) → AreNamedAlike n b → AreNamedAlike n (answered c pdu b).after
+alike-after n c pdu b alike = alike-answer n c b (answer_to pdu) alike

@@ -1,6 +1,6 @@
 -- What a PDU asks of controls, by what its variables are named and its data, and what was accepted of it, by the octets of its answer
 -- (ISO 9506-2, Read and Write; IEC 61850-8-1). Nothing here looks at controls.
-use Rattle.std.specs.Prelude.{ℕ, ◌≡◌, Bool, true, false, ◌&&◌, List, [], ◌∷◌, ◌++◌, Option, Some, None, unwrap_or, Result, Ok, Err}
+use Rattle.std.specs.Prelude.{ℕ, ◌≡◌, Bool, true, false, ◌&&◌, List, [], ◌∷◌, ◌++◌, Option, Some, None, is_some, if◌then◌else◌, unwrap_or, Result, Ok, Err}
 use Rattle.bay_ber.specs.Options.{◌>>=◌}
 use Rattle.bay_ber.specs.Tags.{same_tag}
 use Rattle.bay_ber.specs.Values.{Part, under, value_in, values_in}
@@ -22,7 +22,6 @@ use Rattle.bay_services.specs.Bay.{Bay}
 use Rattle.bay_services.specs.Controls.{ask_of}
 use Rattle.bay_services.specs.Entries.{target_at}
 use Rattle.bay_services.specs.Rows.{row_named}
-use Rattle.bay_services.specs.declared.client.Client.{Client}
 use Rattle.bay_services.specs.declared.target.ControlPart.{ControlPart}
 use Rattle.bay_services.specs.declared.target.ControlPart.TheVariants.{Select, SelectWith, Operate, Cancel}
 use Rattle.bay_services.specs.declared.target.Target.{Target}
@@ -102,43 +101,62 @@ read_results pdu = service_in 4 pdu >>= value_in >>= under (constructed 1) >>= v
 abbrev pub write_results : List ℕ → Option (List Part)
 write_results pdu = service_in 5 pdu >>= values_in
 
--- the response is the last PDU of an answer
-abbrev pub last_pdu : List (List ℕ) → List ℕ
-last_pdu [] = []
-last_pdu (pdu ∷ []) = pdu
-last_pdu (pdu ∷ next ∷ pdus) = last_pdu (next ∷ pdus)
-
 -- ---- a PDU
 
 -- each variable with its result, in their order
-abbrev pub read_accepted : Client → Bay → List Naming → List Part → List Entry
-read_accepted c b [] results = []
-read_accepted c b (name ∷ ns) [] = []
-read_accepted c b (name ∷ ns) (result ∷ results) =
-    entries_of c.now (act_of_read c.association (target_at b (row_named b name))) (is_granted result) ++ read_accepted c b ns results
+abbrev pub read_accepted : ℕ → ℕ → Bay → List Naming → List Part → List Entry
+read_accepted now a b [] results = []
+read_accepted now a b (name ∷ ns) [] = []
+read_accepted now a b (name ∷ ns) (result ∷ results) =
+    entries_of now (act_of_read a (target_at b (row_named b name))) (is_granted result) ++ read_accepted now a b ns results
 
-abbrev pub write_accepted : Client → Bay → List Naming → List Datum → List Part → List Entry
-write_accepted c b [] values results = []
-write_accepted c b (name ∷ ns) [] results = []
-write_accepted c b (name ∷ ns) (given ∷ values) [] = []
-write_accepted c b (name ∷ ns) (given ∷ values) (result ∷ results) =
-    entries_of c.now (act_of_write c.association given (target_at b (row_named b name))) (is_success result) ++ write_accepted c b ns values results
+abbrev pub write_accepted : ℕ → ℕ → Bay → List Naming → List Datum → List Part → List Entry
+write_accepted now a b [] values results = []
+write_accepted now a b (name ∷ ns) [] results = []
+write_accepted now a b (name ∷ ns) (given ∷ values) [] = []
+write_accepted now a b (name ∷ ns) (given ∷ values) (result ∷ results) =
+    entries_of now (act_of_write a given (target_at b (row_named b name))) (is_success result) ++ write_accepted now a b ns values results
 
 -- an answer without results is an error, and then nothing was done
-abbrev pub service_accepted : Client → Bay → Asking → List ℕ → List Entry
-service_accepted c b identify response = []
-service_accepted c b (names class place after) response = []
-service_accepted c b (attributes name) response = []
-service_accepted c b (read ns) response = read_accepted c b ns (unwrap_or (read_results response) [])
-service_accepted c b (write ns values) response = write_accepted c b ns values (unwrap_or (write_results response) [])
+abbrev pub service_accepted : ℕ → ℕ → Bay → Asking → List ℕ → List Entry
+service_accepted now a b identify response = []
+service_accepted now a b (names class place after) response = []
+service_accepted now a b (attributes name) response = []
+service_accepted now a b (read ns) response = read_accepted now a b ns (unwrap_or (read_results response) [])
+service_accepted now a b (write ns values) response = write_accepted now a b ns values (unwrap_or (write_results response) [])
 
-abbrev pub message_accepted : Client → Bay → Result Message MmsFault → List ℕ → List Entry
-message_accepted c b (Ok (initiate proposal)) response = []
-message_accepted c b (Ok conclude) response = []
-message_accepted c b (Ok (confirmed id asking)) response = service_accepted c b asking response
-message_accepted c b (Err fault) response = []
+abbrev pub message_accepted : ℕ → ℕ → Bay → Result Message MmsFault → List ℕ → List Entry
+message_accepted now a b (Ok (initiate proposal)) response = []
+message_accepted now a b (Ok conclude) response = []
+message_accepted now a b (Ok (confirmed id asking)) response = service_accepted now a b asking response
+message_accepted now a b (Err fault) response = []
 
--- What a PDU of a client asks of the controls of a bay with these names, in its order, and what was accepted of it by the PDUs of its
--- answer.
-abbrev pub accepted_in : Client → List ℕ → Bay → List (List ℕ) → List Entry
-accepted_in c pdu b sent = message_accepted c b (answer_to pdu) (last_pdu sent)
+-- What a PDU of a client asks at a moment, on an association, of the controls of a bay with these names, in its order, and what was
+-- accepted of it by the octets of its response.
+abbrev pub accepted_in : ℕ → ℕ → List ℕ → Bay → List ℕ → List Entry
+accepted_in now a pdu b response = message_accepted now a b (answer_to pdu) response
+
+-- ---- an answer
+
+-- a report is unconfirmed
+abbrev pub is_report : List ℕ → Bool
+is_report pdu = is_some (value_in pdu >>= under (constructed 3))
+
+-- reports come before the response to a write alone
+abbrev pub may_report : Asking → Bool
+may_report identify = false
+may_report (names class place after) = false
+may_report (attributes name) = false
+may_report (read ns) = false
+may_report (write ns values) = true
+
+abbrev pub may_be_reported : Result Message MmsFault → Bool
+may_be_reported (Ok (initiate proposal)) = false
+may_be_reported (Ok conclude) = false
+may_be_reported (Ok (confirmed id asking)) = may_report asking
+may_be_reported (Err fault) = false
+
+-- the PDUs of an answer and those behind them: the response to the first, and those behind it
+abbrev pub first_response : Bool → List (List ℕ) → (List ℕ) × List (List ℕ)
+first_response reports [] = ([], [])
+first_response reports (pdu ∷ pdus) = if reports && is_report pdu then first_response reports pdus else (pdu, pdus)

@@ -1,10 +1,11 @@
 // Laws of what clients see of a bay. Each function does nothing, and its contract is the law.
-ghost use Rattle.std.specs.Prelude.{◌≡◌, ◌≤◌, ℕ, All, Bool, List, false, true};
+ghost use Rattle.std.specs.Prelude.{◌≡◌, ◌≤◌, ◌++◌, ℕ, All, Bool, List, false, true};
 ghost use Rattle.std.specs.Str.{bytes_eq};
 ghost use Rattle.bay_control.specs.Decisions.{State};
 ghost use Rattle.bay_control.specs.Happenings.{Leads};
+ghost use Rattle.bay_mms.specs.Grammar.{answer_to};
 ghost use Rattle.bay_nodes.specs.Names.{control_names};
-ghost use Rattle.bay_services.specs.Accepted.{AreNamedAlike, accepted_in};
+ghost use Rattle.bay_services.specs.Accepted.{AreNamedAlike, accepted_in, first_response, may_be_reported};
 ghost use Rattle.bay_services.specs.Answers.{answered};
 ghost use Rattle.bay_services.specs.Bay.{Bay, ShowSelection};
 ghost use Rattle.bay_services.specs.Entries.{entries_in};
@@ -34,9 +35,11 @@ pub fn requests_lead()
         → Leads (entries_in c pdu b) opens b.controls opens (answered c pdu b).after.controls }
 {}
 
-/// What the octets of an answer tell, beside the names of a bay's variables, is what the PDU asked of the controls and what was accepted
-/// of it: a select by a text that is not empty, another request by a success.
+/// What the octets of a response tell, beside the names of a bay's variables, is what the PDU asked of the controls and what was
+/// accepted of it: a select by a text that is not empty, another request by a success. The response is the first PDU of an answer, past
+/// the reports that come before that to a write, whatever is sent behind it.
 pub fn answers_tell()
-    ensures { (c : Client) (pdu : List ℕ) (named b : Bay) → c.size ≤ 65000 → AreNamedAlike named b
-        → accepted_in c pdu named (answered c pdu b).sent ≡ entries_in c pdu b }
+    ensures { (c : Client) (pdu : List ℕ) (named b : Bay) (later : List (List ℕ)) → c.size ≤ 65000 → AreNamedAlike named b
+        → (accepted_in c.now c.association pdu named (first_response (may_be_reported (answer_to pdu)) ((answered c pdu b).sent ++ later)).0 ≡ entries_in c pdu b)
+        × ((first_response (may_be_reported (answer_to pdu)) ((answered c pdu b).sent ++ later)).1 ≡ later) }
 {}

@@ -1,5 +1,5 @@
-use Rattle.bay_services.proofs.AcceptedLemmas.{request-told}
+use Rattle.bay_services.proofs.AcceptedLemmas.{response-tells}
 use Rattle.bay_services.proofs.laws.answers_tell.Goals as goal
 
 pub returns : goal.returns
-returns c = request-told
+returns c = response-tells
