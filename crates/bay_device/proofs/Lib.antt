@@ -4,11 +4,15 @@ pub mod EntryLemmas
 pub mod LoadLemmas
 pub mod MeaningLemmas
 pub mod MessageLemmas
+pub mod NameLemmas
 pub mod ProcessLemmas
 pub mod RecvLemmas
 pub mod RunLemmas
 pub mod ScanLemmas
+pub mod SentLemmas
 pub mod StateLemmas
 pub mod StepLemmas
 pub mod TableLemmas
+pub mod TalkLemmas
+pub mod ToldLemmas
 pub mod TurnLemmas

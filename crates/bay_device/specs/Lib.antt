@@ -12,3 +12,4 @@ pub mod Report
 pub mod StateView
 pub mod Steps
 pub mod Table
+pub mod Told

@@ -5,13 +5,15 @@ ghost use Rattle.bay_transport.specs.Feeding.{IsGoing};
 ghost use Rattle.il_check.specs.Program.{Checked};
 ghost use Rattle.il_image.specs.Images.{encoded};
 ghost use Rattle.il_image.specs.declared.opcode.Version.TheVariants.{Two};
-ghost use Rattle.bay_device.specs.Entries.{Leading, entries_all};
+ghost use Rattle.bay_device.specs.Device.{bay_of};
+ghost use Rattle.bay_device.specs.Entries.{IsIdle, Leading, entries_all};
 ghost use Rattle.bay_device.specs.LookUps.{switch_place, input_place, meter_place, enabled_of};
 ghost use Rattle.bay_device.specs.Meaning.{AllMean, Halting, HaltsAt, MeansAt, Runs, is_refused};
 ghost use Rattle.bay_device.specs.Outcomes.{closed, closed_by, connection_at, event_outcome, outcome, place_of, recv_after};
 ghost use Rattle.bay_device.specs.Report.{IsReport};
 ghost use Rattle.bay_device.specs.StateView.{state_view};
 ghost use Rattle.bay_device.specs.Steps.{Gives, Hears, IsWithoutOctets, Receives, Steps};
+ghost use Rattle.bay_device.specs.Told.{told_all};
 ghost use Rattle.bay_device.specs.declared.event.Event.TheVariants.{Open, Recv, Close, Contact, Input, Measure, Scan};
 
 use crate::connections::{Connections, place_of};
@@ -335,6 +337,8 @@ impl Device {
         ensures runs { (c : Checked) → Runs c self.old → Runs c self.new }
         // From no selection on each accepted operate of an SBO switch is backed by a select, whatever the choices.
         ensures backed { self.old.controls.selection ≡ None → (choices : List (Option ℕ)) → AreBacked self.old.controls.controls (entries_all choices events.now self.old) }
+        // On a device as load made it the octets of the events and of the answers tell so.
+        ensures told { IfOk result (λ answers. IsIdle self.old → AreBacked self.old.controls.controls (told_all (bay_of self.old) self.old.connections events.now answers.items)) }
     {
         self.has_places();
         let mut answers = Vec::with_capacity(self.alloc, events.len())?;
