@@ -1,6 +1,7 @@
 pub mod ApartLemmas
 pub mod ConnectionLemmas
 pub mod EntryLemmas
+pub mod IdleLemmas
 pub mod LoadLemmas
 pub mod MeaningLemmas
 pub mod MessageLemmas

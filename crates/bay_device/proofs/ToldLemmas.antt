@@ -24,6 +24,7 @@ use Rattle.bay_control.specs.Acts.{Entry, Opened, Closed}
 use Rattle.bay_control.specs.Backing.{AreBacked}
 use Rattle.bay_control.specs.Decisions as control
 use Rattle.bay_control.specs.Decisions.{dropped}
+use Rattle.bay_control.specs.Happenings.{Leads}
 use Rattle.bay_services.specs.Accepted.{AreNamedAlike, accepted_in, behind_id, first_response, may_be_reported, message_accepted, read_accepted, read_results, write_accepted, write_results}
 use Rattle.bay_services.specs.Answers.{Answered, answered}
 use Rattle.bay_services.specs.Bay.{Bay}
@@ -32,10 +33,10 @@ use Rattle.bay_services.specs.declared.client.Client.{Client}
 use Rattle.bay_services.proofs.AcceptedLemmas.{alike-after, alike-still, none-read, none-written, response-tells}
 use Rattle.bay_services.proofs.ShortLemmas.{AreShort, answer_short}
 use Rattle.bay_device.specs.Device.{State, advanced, bay_of, contact_taken, input_taken, measure_taken, ran_at, scanned}
-use Rattle.bay_device.specs.Entries.{IsIdle, entries_all, entries_at, entries_close, entries_closed, entries_heard, entries_octets, entries_of_event, entries_on, entries_open, entries_recv, told}
+use Rattle.bay_device.specs.Entries.{IsIdle, Leading, opens, entries_all, entries_at, entries_close, entries_closed, entries_heard, entries_octets, entries_of_event, entries_on, entries_open, entries_recv, told}
 use Rattle.bay_device.specs.Hearing.{Done, Heard, client_at, heard, on_heard, said, sent_on, size_of, with_sent}
 use Rattle.bay_device.specs.Outcomes.{Outcome, close_outcome, closed, closed_by, connection_at, contact_outcome, event_outcome, first_talk, input_outcome, last_moment, measure_outcome, nothing_done, octets_outcome, open_outcome, outcome, outcomes, place_of, refused, recv_after, recv_outcome, with_connection, without_owner}
-use Rattle.bay_device.specs.Told.{behind_one, of_answer, pdu_in, pdus_in, talk_at, talk_behind, talks_answer, talks_behind, talks_heard, talks_step, told_all, told_answer, told_closed, told_heard, told_recv, told_step, with_talk}
+use Rattle.bay_device.specs.Told.{AreTalks, Telling, behind_one, of_answer, pdu_in, pdus_in, talk_at, talk_behind, talks_answer, talks_behind, talks_heard, talks_step, told_all, told_answer, told_closed, told_heard, told_recv, told_step, with_talk}
 use Rattle.bay_device.specs.declared.event.Event.{Event}
 use Rattle.bay_device.specs.declared.event.Event.TheVariants.{Open, Recv, Close, Contact, Input, Measure, Scan}
 use Rattle.bay_device.specs.declared.event.Sent.{Sent}
@@ -153,10 +154,6 @@ with-one (Some place) x s = refl
 alike-with : (n : Bay) (o : Option ℕ) (x : Option Talk) (s : State) → AreNamedAlike n (bay_of s) → AreNamedAlike n (bay_of (with_connection o x s))
 alike-with n None x s alike = alike
 alike-with n (Some place) x s alike = alike
-
--- each association that is open has a size of PDUs
-abbrev pub AreTalks : List (Option Talk) → Type 0
-AreTalks talks = (place : ℕ) (t : Talk) → unwrap_or (slice_get talks place) None ≡ Some t → IsSized t.phase
 
 abbrev IsTalk : Option Talk → Type 0
 IsTalk None = Unit {0}
@@ -359,6 +356,23 @@ module _ (n : Bay) (now : ℕ) (s : State) (alike : AreNamedAlike n (bay_of s)) 
       told-if (nat_lt now s.moment) f g (refused TimeWentBack s) (event_outcome choice now event s) [] (entries_of_event choice now event s) (refused-told f g TimeWentBack) (event-told choice event) in
       told-if (nat_lt last_moment now) f g (refused MomentTooLarge s) (cond (nat_lt now s.moment) (refused TimeWentBack s) (event_outcome choice now event s)) []
       (cond (nat_lt now s.moment) [] (entries_of_event choice now event s)) (refused-told f g MomentTooLarge) inner
+
+-- an event, from whatever was before
+pub telling : (n : Bay) (now : ℕ) (event : Event) (old : State) (answer : Result Step StepFault) (new : State) → AreNamedAlike n (bay_of old) → AreTalks old.connections
+    → Leading now event old answer new → Telling n now event old answer new
+telling n now event old answer new alike sized l =
+    let o : Outcome = outcome l.steps.choice now event old in
+    let t : IsTold n old.connections (told_step now event n old.connections) (talks_step event old.connections) o (entries_at l.steps.choice now event old) =
+    outcome-told n now old alike sized l.steps.choice event in
+    let same : told_answer now event n old.connections answer ≡ entries_at l.steps.choice now event old =
+    ap (told_answer now event n old.connections) l.steps.answered ∙ t.told in
+    record {
+      leads = λ past open_before before so_far.
+          subst (λ (es : List Entry). Leads (past ++ es) open_before before (opens new) new.controls) (sym same) (l.leads past open_before before so_far);
+      left = ap (λ (u : State). u.connections) l.steps.left ∙ t.left ∙ sym (ap (talks_answer event old.connections) l.steps.answered);
+      alike = subst (λ (u : State). AreNamedAlike n (bay_of u)) (sym l.steps.left) t.alike;
+      sized = subst (λ (u : State). AreTalks u.connections) (sym l.steps.left) t.sized;
+    }
 
 -- ---- a list of events
 

@@ -1,18 +1,22 @@
 -- What clients ask of a device's controls, and what is accepted of it, by events and answers alone: by the octets that come and those
 -- that are sent. Nothing here looks at the device behind them.
-use Rattle.std.specs.Prelude.{ℕ, ◌≡◌, List, [], ◌∷◌, ◌++◌, map, slice_get, slice_set, unwrap_or, Option, None, Some, Result, Ok, Err}
+use Rattle.std.specs.Prelude.{ℕ, ◌≡◌, Bool, List, [], ◌∷◌, ◌++◌, map, slice_get, slice_set, unwrap_or, Option, None, Some, Result, Ok, Err}
 use Rattle.bay_ber.specs.Options.{◌>>=◌}
 use Rattle.bay_ber.specs.Values.{under, value_in, values_in}
 use Rattle.bay_mms.specs.Grammar.{answer_to}
 use Rattle.bay_mms.specs.Tags.{constructed, sequence}
 use Rattle.bay_transport.specs.Doings.{Doing, Answers, Delivers, Ends, Fails, Going, run}
 use Rattle.bay_assoc.specs.Session.{Spdu, connect, accept, finish, disconnect, abort, transfer, spdu_in}
+use Rattle.bay_assoc.specs.Sized.{IsSized}
 use Rattle.bay_assoc.specs.Tags.{application}
 use Rattle.bay_connection.specs.Talk.{Indication, Talk, answers, tells, releases, ends, fails, indications, left_by}
 use Rattle.bay_control.specs.Acts.{Opened, Closed, Entry}
-use Rattle.bay_services.specs.Accepted.{accepted_in, behind_id, first_response, may_be_reported}
+use Rattle.bay_control.specs.Decisions as control
+use Rattle.bay_control.specs.Happenings.{Leads}
+use Rattle.bay_services.specs.Accepted.{AreNamedAlike, accepted_in, behind_id, first_response, may_be_reported}
 use Rattle.bay_services.specs.Bay.{Bay}
-use Rattle.bay_device.specs.Entries.{told}
+use Rattle.bay_device.specs.Device.{State, bay_of}
+use Rattle.bay_device.specs.Entries.{opens, told}
 use Rattle.bay_device.specs.Outcomes.{first_talk, place_of}
 use Rattle.bay_device.specs.declared.event.Event.{Event}
 use Rattle.bay_device.specs.declared.event.Event.TheVariants.{Open, Recv, Close, Contact, Input, Measure, Scan}
@@ -143,3 +147,18 @@ abbrev pub told_all : Bay → List (Option Talk) → List (ℕ × Event) → Lis
 told_all names talks [] replies = []
 told_all names talks (e ∷ es) [] = []
 told_all names talks (e ∷ es) (reply ∷ replies) = told_answer e.0 e.1 names talks reply ++ told_all names (talks_answer e.1 talks reply) es replies
+
+-- ---- steps
+
+-- Each association that is open has agreed a size of PDUs.
+abbrev pub AreTalks : List (Option Talk) → Type 0
+AreTalks talks = (place : ℕ) (t : Talk) → unwrap_or (slice_get talks place) None ≡ Some t → IsSized t.phase
+
+-- An event is answered so, and leaves this: whatever led to the controls before it, seen as these entries, leads with what the event and
+-- its answer tell to the controls after it. They tell what is left of each talk, and the names stay.
+pub record Telling (names : Bay) (now : ℕ) (event : Event) (old : State) (answer : Result Step StepFault) (new : State) : Type 0 where
+  pub leads : (past : List Entry) (open_before : ℕ → Bool) (before : control.State) → Leads past open_before before (opens old) old.controls
+    → Leads (past ++ told_answer now event names old.connections answer) open_before before (opens new) new.controls
+  pub left : new.connections ≡ talks_answer event old.connections answer
+  pub alike : AreNamedAlike names (bay_of new)
+  pub sized : AreTalks new.connections

@@ -1,6 +1,8 @@
 // The device that is handed out: one bay, stepped by events.
 ghost use Rattle.std.specs.Prelude.{◌≡◌, ◌<◌, ℕ, [], List, Option, None, Some, false, length, slice_get, option_map, replicate, IfOk, IsSome, OnErr};
 ghost use Rattle.bay_control.specs.Backing.{AreBacked};
+ghost use Rattle.bay_services.specs.Accepted.{AreNamedAlike};
+ghost use Rattle.bay_services.specs.Bay.{Bay};
 ghost use Rattle.bay_transport.specs.Feeding.{IsGoing};
 ghost use Rattle.il_check.specs.Program.{Checked};
 ghost use Rattle.il_image.specs.Images.{encoded};
@@ -13,7 +15,7 @@ ghost use Rattle.bay_device.specs.Outcomes.{closed, closed_by, connection_at, ev
 ghost use Rattle.bay_device.specs.Report.{IsReport};
 ghost use Rattle.bay_device.specs.StateView.{state_view};
 ghost use Rattle.bay_device.specs.Steps.{Gives, Hears, IsWithoutOctets, Receives, Steps};
-ghost use Rattle.bay_device.specs.Told.{told_all};
+ghost use Rattle.bay_device.specs.Told.{AreTalks, Telling, told_all};
 ghost use Rattle.bay_device.specs.declared.event.Event.TheVariants.{Open, Recv, Close, Contact, Input, Measure, Scan};
 
 use crate::connections::{Connections, place_of};
@@ -314,6 +316,8 @@ impl Device {
         ensures sure { IsWithoutOctets event.entry → Gives (outcome None now event.entry self.old) result self.new }
         // What is seen of the event leads its controls on, with such a choice.
         ensures leads { Leading now event.entry self.old result self.new }
+        // So does what the octets of the event and of its answer tell.
+        ensures tells { (names : Bay) → AreNamedAlike names (bay_of self.old) → AreTalks self.old.connections → Telling names now event.entry self.old result self.new }
         // A scan halts without a trap within the budget,
         ensures halts { is_refused now self.old ≡ false → HaltsAt now event.entry self.old }
         // and on a device that runs a text it does what the text means.
