@@ -215,7 +215,7 @@ on-heard-connected now a (releases octets) d later rest = refl
 on-heard-connected now a ends-heard d later rest = refl
 on-heard-connected now a (fails code) d later rest = refl
 
-heard-connected : (choice : Option ℕ) (now a : ℕ) (is : List Indication) (d : Done) → (heard choice now a is d).done.state.connections ≡ d.state.connections
+pub heard-connected : (choice : Option ℕ) (now a : ℕ) (is : List Indication) (d : Done) → (heard choice now a is d).done.state.connections ≡ d.state.connections
 heard-connected None now a [] d = refl
 heard-connected None now a (i ∷ is) d = on-heard-connected now a i d (heard None now a is) (λ e. heard-connected None now a is e)
 heard-connected (Some zero) now a [] d = refl

@@ -1,5 +1,5 @@
 -- What events ask of a device's controls, and what was accepted of it, as it is seen from outside; and which associations are open.
-use Rattle.std.specs.Prelude.{ℕ, ◌≡◌, zero, suc, nat_lt, Bool, true, List, [], ◌∷◌, ◌++◌, Option, None, Some, is_some, Result, if◌then◌else◌}
+use Rattle.std.specs.Prelude.{ℕ, ◌≡◌, zero, suc, nat_lt, Bool, true, List, [], ◌∷◌, ◌++◌, Option, None, Some, is_some, replicate, Result, if◌then◌else◌}
 use Rattle.bay_control.specs.Acts.{Act, Opened, Closed, Entry}
 use Rattle.bay_control.specs.Decisions as control
 use Rattle.bay_control.specs.Happenings.{Leads}
@@ -18,6 +18,11 @@ use Rattle.bay_device.specs.declared.fault.StepFault.{StepFault}
 -- an association is open
 abbrev pub opens : State → ℕ → Bool
 opens s a = is_some (connection_at (place_of a) s)
+
+-- A device as load made it: nothing is selected, and none of the eight associations is open.
+pub record IsIdle (s : State) : Type 0 where
+  pub unselected : s.controls.selection ≡ None
+  pub closed : s.connections ≡ replicate 8 None
 
 -- an association was opened, or closed
 abbrev pub told : ℕ → Act → List Entry

@@ -22,3 +22,4 @@ pub mod Report
 pub mod StateView
 pub mod Steps
 pub mod Table
+pub mod Told

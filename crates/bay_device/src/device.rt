@@ -1,18 +1,22 @@
 // The device that is handed out: one bay, stepped by events.
 ghost use Rattle.std.specs.Prelude.{◌≡◌, ◌<◌, ℕ, [], List, Option, None, Some, false, length, slice_get, option_map, replicate, IfOk, IsSome, OnErr};
 ghost use Rattle.bay_control.specs.Backing.{AreBacked};
+ghost use Rattle.bay_services.specs.Accepted.{AreNamedAlike};
+ghost use Rattle.bay_services.specs.Bay.{Bay};
 ghost use Rattle.bay_transport.specs.Feeding.{IsGoing};
 ghost use Rattle.il_check.specs.Program.{Checked};
 ghost use Rattle.il_image.specs.Images.{encoded};
 ghost use Rattle.il_image.specs.declared.opcode.Version.TheVariants.{Two};
 ghost use Rattle.bay_device.specs.Commands.{AllCommanded, AreCommanded};
-ghost use Rattle.bay_device.specs.Entries.{Leading, entries_all};
+ghost use Rattle.bay_device.specs.Device.{bay_of};
+ghost use Rattle.bay_device.specs.Entries.{IsIdle, Leading, entries_all};
 ghost use Rattle.bay_device.specs.LookUps.{switch_place, input_place, meter_place, enabled_of};
 ghost use Rattle.bay_device.specs.Meaning.{AllMean, Halting, HaltsAt, MeansAt, Runs, is_refused};
 ghost use Rattle.bay_device.specs.Outcomes.{closed, closed_by, connection_at, event_outcome, outcome, place_of, recv_after};
 ghost use Rattle.bay_device.specs.Report.{IsReport};
 ghost use Rattle.bay_device.specs.StateView.{state_view};
 ghost use Rattle.bay_device.specs.Steps.{Gives, Hears, IsWithoutOctets, Receives, Steps};
+ghost use Rattle.bay_device.specs.Told.{AreTalks, Telling, told_all};
 ghost use Rattle.bay_device.specs.declared.event.Event.TheVariants.{Open, Recv, Close, Contact, Input, Measure, Scan};
 
 use crate::connections::{Connections, place_of};
@@ -309,6 +313,8 @@ impl Device {
         ensures commanded { IfOk result (AreCommanded now self.old) }
         // What is seen of the event leads its controls on, with such a choice.
         ensures leads { Leading now event.entry self.old result self.new }
+        // So does what the octets of the event and of its answer tell.
+        ensures tells { (names : Bay) → AreNamedAlike names (bay_of self.old) → AreTalks self.old.connections → Telling names now event.entry self.old result self.new }
         // A scan halts without a trap within the budget,
         ensures halts { is_refused now self.old ≡ false → HaltsAt now event.entry self.old }
         // and on a device that runs a text it does what the text means.
@@ -335,6 +341,8 @@ impl Device {
         ensures runs { (c : Checked) → Runs c self.old → Runs c self.new }
         // From no selection on each accepted operate of an SBO switch is backed by a select, whatever the choices.
         ensures backed { self.old.controls.selection ≡ None → (choices : List (Option ℕ)) → AreBacked self.old.controls.controls (entries_all choices events.now self.old) }
+        // On a device as load made it the octets of the events and of the answers tell so.
+        ensures told { IfOk result (λ answers. IsIdle self.old → AreBacked self.old.controls.controls (told_all (bay_of self.old) self.old.connections events.now answers.items)) }
     {
         self.has_places();
         let mut answers = Vec::with_capacity(self.alloc, events.len())?;

@@ -19,6 +19,7 @@ ghost use Rattle.il_verify.specs.Refusals.{IsRefusal};
 ghost use Rattle.il_verify.specs.Verdicts.{IsVerified};
 ghost use Rattle.il_verify.specs.declared.fault.VerifyFault.{VerifyFault};
 ghost use Rattle.bay_device.specs.Accepts.{IsRight};
+ghost use Rattle.bay_device.specs.Entries.{IsIdle};
 ghost use Rattle.bay_device.specs.Load.{initial_device, checked_in, of_compiled, of_checked, of_program, of_bay, verify_refusal, Loads, LoadsImage, LoadsRead};
 ghost use Rattle.bay_device.specs.Meaning.{Runs};
 ghost use Rattle.bay_device.specs.StateView.{state_view};
@@ -214,6 +215,8 @@ pub fn load(alloc: Global, bay: &str, logic: &str) -> Result<Device, LoadFault>
     ensures refused { IfErr result (λ e. e ≢ OutOfMemory → IsRight bay.now logic.now → e ≡ Refused 85 0) }
     // The device runs the program that the text comes to.
     ensures runs { IfOk result (λ device. (c : Checked) × (checked_in (bay_of bay.now) (program_of logic.now) ≡ Ok c) × Runs c device) }
+    // Nothing is selected, and no association is open.
+    ensures idle { IfOk result IsIdle }
 {
     load_texts(alloc, bay, logic)
 }
@@ -244,6 +247,8 @@ fn load_octets(alloc: Global, bay: Bay, image: &[u8]) -> Result<Device, LoadFaul
 pub fn load_image(alloc: Global, bay: &str, image: &[u8]) -> Result<Device, LoadFault>
     ensures ok { IfOk result (λ device. Loads (bay_of bay.now) (decoded image.now) (Ok device)) }
     ensures refused { IfErr result (λ e. e ≢ OutOfMemory → Loads (bay_of bay.now) (decoded image.now) (Err e)) }
+    // Nothing is selected, and no association is open.
+    ensures idle { IfOk result IsIdle }
 {
     let read = read_bay(alloc, bay)?;
     load_octets(alloc, read, image)

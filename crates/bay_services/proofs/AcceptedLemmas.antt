@@ -74,7 +74,7 @@ names-shown selected zero rows = refl
 names-shown selected (suc k) rows =
     names-with-leaf ((control_names k).selected) (leaf.Truth (is_selected k selected)) (shown selected k rows) ∙ names-shown selected k rows
 
-alike-still : (b d : Bay) (controls : State) → AreNamedAlike b d → AreNamedAlike b (with_controls controls d)
+pub alike-still : (b d : Bay) (controls : State) → AreNamedAlike b d → AreNamedAlike b (with_controls controls d)
 alike-still b d controls alike = record {
   domain = alike.domain;
   switches = alike.switches;
@@ -443,11 +443,11 @@ no-read id = ap (λ (o : Option (List ℕ)). o >>= value_in >>= under (construct
 no-write : (id : ℕ) → write_results (error_text id Resource) ≡ None
 no-write id = ap (λ (o : Option (List ℕ)). o >>= values_in) (no-service 5 id)
 
-none-read : (now a : ℕ) (b : Bay) (ns : List Naming) → read_accepted now a b ns [] ≡ []
+pub none-read : (now a : ℕ) (b : Bay) (ns : List Naming) → read_accepted now a b ns [] ≡ []
 none-read now a b [] = refl
 none-read now a b (name ∷ ns) = refl
 
-none-written : (now a : ℕ) (b : Bay) (ns : List Naming) (values : List Datum) → write_accepted now a b ns values [] ≡ []
+pub none-written : (now a : ℕ) (b : Bay) (ns : List Naming) (values : List Datum) → write_accepted now a b ns values [] ≡ []
 none-written now a b [] values = refl
 none-written now a b (name ∷ ns) [] = refl
 none-written now a b (name ∷ ns) (given ∷ values) = refl

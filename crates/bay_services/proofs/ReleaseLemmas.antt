@@ -1,5 +1,5 @@
--- Each command is released, and no client changes what releases it.
-use Rattle.std.proofs.Common.{◌≡◌, ◌≢◌, ◌<◌, ℕ, zero, suc, ◌+◌, Bool, true, false, not, cond, nat_eq, nat_le, List, [], ◌∷◌, ◌++◌, All, codes, get_or, length, Option, Some, None, Result, Ok, Err, is_ok, refl, ap, sym, subst, ◌∙◌, arith}
+-- Each command is released, and there is one at most; no client changes what releases it.
+use Rattle.std.proofs.Common.{◌≡◌, ◌≢◌, ◌<◌, ◌≤◌, ℕ, zero, suc, ◌+◌, Bool, true, false, not, cond, nat_eq, nat_le, List, [], ◌∷◌, ◌++◌, All, codes, get_or, length, Option, Some, None, Result, Ok, Err, is_ok, refl, ap, sym, subst, ◌∙◌, append-nil, arith}
 use Rattle.std.specs.List.{AllByRecursion}
 use Rattle.std.proofs.lemmas.Bool.Decides.{nat_tests}
 use Rattle.bay_tree.specs.Rows.{leaf_of, name_at}
@@ -11,7 +11,7 @@ use Rattle.bay_process.specs.Values.{is_truth}
 use Rattle.bay_process.proofs.ToldLemmas.{IsAway, Keeps, leaf-other}
 use Rattle.bay_control.specs.Decisions.{Outcome, State, advanced, answer_of, cancel_outcome, execution_at, is_executing, is_over_at, operate_outcome, other_is_executing, rows_of_operate, select_outcome, select_with_outcome, selected_switch}
 use Rattle.bay_control.specs.Decisions.{Row as DecisionRow}
-use Rattle.bay_control.specs.Requests.{is_released}
+use Rattle.bay_control.specs.Requests.{control_of, is_controlled, is_released}
 use Rattle.bay_control.specs.declared.cause.AddCause.{AddCause}
 use Rattle.bay_control.specs.declared.control.SwitchControl.{SwitchControl}
 use Rattle.bay_control.specs.declared.request.Ask.{Ask}
@@ -30,7 +30,7 @@ use Rattle.bay_services.specs.Answers.{Answered, answer_of as answer-of, answere
 use Rattle.bay_services.specs.Bay.{Bay, is_selected, shown, with_controls}
 use Rattle.bay_services.specs.Controls.{ask_of, view_of}
 use Rattle.bay_services.specs.Reads.{Reading, nothing_read, read_all, read_one, read_part, read_row, read_target}
-use Rattle.bay_services.specs.Released.{IsReleased, Leaves, releasing}
+use Rattle.bay_services.specs.Released.{AreTimed, IsReleased, Leaves, releasing}
 use Rattle.bay_services.specs.Rows.{row_named}
 use Rattle.bay_services.specs.Targets.{target_of}
 use Rattle.bay_services.specs.Writes.{Writing, nothing_written, cancel_asked, commands_for, decided, operate_asked, operated, select_with_asked, write_all, write_one, write_part, write_row, write_target}
@@ -84,6 +84,7 @@ idle-if k (Some e) p q = absurd (not-both (nat_eq e.switch k) p q)
 
 -- what an accepted operate saw
 record Saw (k : ℕ) (ask : Ask) (view : View) (t : State) : Type 0 where
+  controlled : not (is_controlled (control_of t.controls k).model) ≡ false
   idle : t.execution ≡ None
   fresh : not view.fresh ≡ false
   released : not (is_released ask.on view) ≡ false
@@ -92,6 +93,7 @@ saw : (a k : ℕ) (ask : Ask) (view : View) (t : State) → is_ok (answer_of (ro
 saw a k ask view t ok =
     let all = all-passed (rows_of_operate a k ask view t) ok in
     record {
+      controlled = all.0;
       idle = idle-if k t.execution all.1.1.1.0 all.1.1.1.1.0;
       fresh = all.1.1.1.1.1.1.0;
       released = all.1.1.1.1.1.1.1.0;
@@ -114,6 +116,57 @@ busy-operated now k on a ask view s false is e h =
     let stays : (operate_outcome a k ask view now s).after.execution ≡ Some e =
     ap (λ (b : Bool). let o : Option Execution = cond b (Some (record { switch = k; start = now; on = ask.on })) (advanced now s).execution in o) is ∙ h in
     ap (execution_at now s.controls) stays ∙ lasting now s.controls s.execution e h
+
+-- ---- one command at most
+
+abbrev IsBusy : ℕ → State → Type 0
+IsBusy now s = (e : Execution) × ((advanced now s).execution ≡ Some e)
+
+abbrev IsIdle : ℕ → State → Type 0
+IsIdle now s = (advanced now s).execution ≡ None
+
+-- after a command a switch is operating, and there is no second one
+abbrev pub Single : ℕ → List Command → State → Type 0
+Single now [] s = Unit {0}
+Single now (x ∷ []) s = IsBusy now s
+Single now (x ∷ y ∷ more) s = ⊥
+
+idle-or-busy : (now : ℕ) (s : State) → IsIdle now s → IsBusy now s → ⊥
+idle-or-busy now s idle busy = let no : None ≡ (let o : Option Execution = Some busy.0 in o) = sym idle ∙ busy.1 in cc
+
+single-still : (now : ℕ) (commands : List Command) (s t : State) → Busies now s t → Single now commands s → Single now commands t
+single-still now [] s t busy single = tt
+single-still now (x ∷ []) s t busy single = (single.0, busy single.0 single.1)
+single-still now (x ∷ y ∷ more) s t busy single = absurd single
+
+-- commands, and then others, each of which was given while no switch was operating
+pub single-joined : (now : ℕ) (first more : List Command) (s t : State) → Busies now s t → AllByRecursion (λ (x : Command). IsIdle now s) more → Single now first s
+    → Single now more t → Single now (first ++ more) t
+single-joined now first [] s t busy idle before after = rw (append-nil first) (single-still now first s t busy before)
+single-joined now [] (x ∷ more) s t busy idle before after = after
+single-joined now (y ∷ []) (x ∷ more) s t busy idle before after = absurd (idle-or-busy now s idle.0 before)
+single-joined now (y ∷ z ∷ first) (x ∷ more) s t busy idle before after = absurd before
+
+pub at-most-one : (now : ℕ) (commands : List Command) (s : State) → Single now commands s → length commands ≤ 1
+at-most-one now [] s single = omega arith
+at-most-one now (x ∷ []) s single = omega arith
+at-most-one now (x ∷ y ∷ more) s single = absurd single
+
+-- where each switch takes some time
+pub record Sole (now : ℕ) (commands : List Command) (s : State) : Type 0 where
+  pub timed : AreTimed s.controls
+  pub single : Single now commands s
+
+sole-still : (now : ℕ) (commands : List Command) (s t : State) → s.controls ≡ t.controls → Busies now s t → Sole now commands s → Sole now commands t
+sole-still now commands s t same busy sole = record { timed = rw (← same) sole.timed; single = single-still now commands s t busy sole.single }
+
+-- an operate lasts beyond its moment
+starting : (now k : ℕ) (on : Bool) (controls : List SwitchControl) → AreTimed controls → is_controlled (control_of controls k).model ≡ true
+    → execution_at now controls (Some (record { switch = k; start = now; on = on })) ≡ Some (record { switch = k; start = now; on = on })
+starting now k on controls timed controlled =
+    let some = timed k controlled in
+    let lasts : nat_le (now + (control_of controls k).travel_ms) now ≡ false = grind (arith, nat_tests) in
+    ap (λ (over : Bool). let o : Option Execution = cond over None (Some (record { switch = k; start = now; on = on })) in o) lasts
 
 -- ---- bays
 
@@ -153,11 +206,31 @@ read-all-leaves : (c : Client) (b : Bay) (ns : List Naming) (r : Reading) → Le
 read-all-leaves c b [] r left = left
 read-all-leaves c b (name ∷ ns) r left = read-all-leaves c b ns (read_one c name r) (read-row-leaves c b r (row_named r.bay name) left)
 
+-- a select keeps what the bay file says of controls
+read-part-timed : (c : Client) (place : ℕ) (r : Reading) (k : ℕ) (part : ControlPart) → AreTimed r.bay.controls.controls → AreTimed (read_part c place r k part).bay.controls.controls
+read-part-timed c place r k Select timed = timed
+read-part-timed c place r k SelectWith timed = timed
+read-part-timed c place r k Operate timed = timed
+read-part-timed c place r k Cancel timed = timed
+
+read-target-timed : (c : Client) (place : ℕ) (r : Reading) (t : Option Target) → AreTimed r.bay.controls.controls → AreTimed (read_target c place r t).bay.controls.controls
+read-target-timed c place r None timed = timed
+read-target-timed c place r (Some t) timed = read-part-timed c place r t.switch t.part timed
+
+read-row-timed : (c : Client) (r : Reading) (row : Option ℕ) → AreTimed r.bay.controls.controls → AreTimed (read_row c r row).bay.controls.controls
+read-row-timed c r None timed = timed
+read-row-timed c r (Some place) timed = read-target-timed c place r (target_of (length r.bay.switches) (name_at r.bay.rows place)) timed
+
+read-all-timed : (c : Client) (ns : List Naming) (r : Reading) → AreTimed r.bay.controls.controls → AreTimed (read_all c ns r).bay.controls.controls
+read-all-timed c [] r timed = timed
+read-all-timed c (name ∷ ns) r timed = read-all-timed c ns (read_one c name r) (read-row-timed c r (row_named r.bay name) timed)
+
 -- ---- a write
 
 record Kept (c : Client) (b : Bay) (w : Writing) : Type 0 where
   leaves : Leaves c.now b w.bay
   released : AllByRecursion (IsReleased c b) w.commands
+  sole : AreTimed b.controls.controls → Sole c.now w.commands w.bay.controls
 
 both : (c : Client) (b : Bay) (first more : List Command) → AllByRecursion (IsReleased c b) first → AllByRecursion (IsReleased c b) more → AllByRecursion (IsReleased c b) (first ++ more)
 both c b [] more p q = q
@@ -191,40 +264,72 @@ commands-released : (c : Client) (b d : Bay) (k : ℕ) (o : asked.Operate) (answ
 commands-released c b d k o (Ok done) left is = (released-by c b d k o left (ap is_ok is), tt)
 commands-released c b d k o (Err why) left is = tt
 
-kept-decided : (c : Client) (b : Bay) (k : ℕ) (item : List ℕ) (control : Control) (o : Outcome) (w : Writing) → Kept c b w → Busies c.now w.bay.controls o.after → Kept c b (decided c k item control o w)
-kept-decided c b k item control o w kept busy = record { leaves = leaves-with c.now b w.bay o.after kept.leaves busy; released = kept.released }
+idle-operated : (c : Client) (d : Bay) (k : ℕ) (o : asked.Operate) (answer : Result (Unit {0}) AddCause)
+    → (operate_outcome c.association k (ask_of o) (view_of c k d) c.now d.controls).answer ≡ answer → AllByRecursion (λ (x : Command). IsIdle c.now d.controls) (commands_for k o answer)
+idle-operated c d k o (Ok done) is = ((saw c.association k (ask_of o) (view_of c k d) (advanced c.now d.controls) (ap is_ok is)).idle, tt)
+idle-operated c d k o (Err why) is = tt
+
+single-operated : (c : Client) (d : Bay) (k : ℕ) (o : asked.Operate) (answer : Result (Unit {0}) AddCause) → AreTimed d.controls.controls
+    → (operate_outcome c.association k (ask_of o) (view_of c k d) c.now d.controls).answer ≡ answer
+    → Single c.now (commands_for k o answer) (operate_outcome c.association k (ask_of o) (view_of c k d) c.now d.controls).after
+single-operated c d k o (Ok done) timed is =
+    let seen = saw c.association k (ask_of o) (view_of c k d) (advanced c.now d.controls) (ap is_ok is) in
+    let e : Execution = record { switch = k; start = c.now; on = o.control.ctl_val } in
+    let starts : (operate_outcome c.association k (ask_of o) (view_of c k d) c.now d.controls).after.execution ≡ Some e =
+    ap (λ (b : Bool). let x : Option Execution = cond b (Some e) (advanced c.now d.controls).execution in x) (ap is_ok is) in
+    (e, ap (execution_at c.now d.controls.controls) starts ∙ starting c.now k o.control.ctl_val d.controls.controls timed (true-of (is_controlled (control_of d.controls.controls k).model) seen.controlled))
+single-operated c d k o (Err why) timed is = tt
+
+kept-nothing : (c : Client) (b : Bay) → Kept c b (nothing_written b)
+kept-nothing c b = record { leaves = leaves-none c.now b; released = tt; sole = λ timed. record { timed = timed; single = tt } }
+
+kept-decided : (c : Client) (b : Bay) (k : ℕ) (item : List ℕ) (control : Control) (o : Outcome) (w : Writing) → w.bay.controls.controls ≡ o.after.controls → Kept c b w
+    → Busies c.now w.bay.controls o.after → Kept c b (decided c k item control o w)
+kept-decided c b k item control o w same kept busy = record {
+  leaves = leaves-with c.now b w.bay o.after kept.leaves busy;
+  released = kept.released;
+  sole = λ timed. sole-still c.now w.commands w.bay.controls o.after same busy (kept.sole timed);
+}
 
 kept-select : (c : Client) (b : Bay) (k : ℕ) (item : List ℕ) (w : Writing) (r : Result asked.Operate ControlFault) → Kept c b w → Kept c b (select_with_asked c k item w r)
-kept-select c b k item w (Err fault) kept = record { leaves = kept.leaves; released = kept.released }
+kept-select c b k item w (Err fault) kept = record { leaves = kept.leaves; released = kept.released; sole = kept.sole }
 kept-select c b k item w (Ok o) kept =
-    kept-decided c b k item o.control (select_with_outcome c.association k (ask_of o) c.now w.bay.controls) w kept (busy-still c.now w.bay.controls)
+    kept-decided c b k item o.control (select_with_outcome c.association k (ask_of o) c.now w.bay.controls) w refl kept (busy-still c.now w.bay.controls)
 
 kept-operate : (c : Client) (b : Bay) (k : ℕ) (item : List ℕ) (w : Writing) (r : Result asked.Operate ControlFault) → Kept c b w → Kept c b (operate_asked c k item w r)
-kept-operate c b k item w (Err fault) kept = record { leaves = kept.leaves; released = kept.released }
+kept-operate c b k item w (Err fault) kept = record { leaves = kept.leaves; released = kept.released; sole = kept.sole }
 kept-operate c b k item w (Ok o) kept =
     let out = operate_outcome c.association k (ask_of o) (view_of c k w.bay) c.now w.bay.controls in
     record {
       leaves = leaves-with c.now b w.bay out.after kept.leaves (busy-operated c.now k o.control.ctl_val c.association (ask_of o) (view_of c k w.bay) w.bay.controls (is_ok out.answer) refl);
       released = both c b w.commands (commands_for k o out.answer) kept.released (commands-released c b w.bay k o out.answer kept.leaves refl);
+      sole = λ timed.
+          let before = kept.sole timed in
+          record {
+            timed = before.timed;
+            single = single-joined c.now w.commands (commands_for k o out.answer) w.bay.controls out.after
+                (busy-operated c.now k o.control.ctl_val c.association (ask_of o) (view_of c k w.bay) w.bay.controls (is_ok out.answer) refl)
+                (idle-operated c w.bay k o out.answer refl) before.single (single-operated c w.bay k o out.answer before.timed refl);
+          };
     }
 
 kept-cancel : (c : Client) (b : Bay) (k : ℕ) (item : List ℕ) (w : Writing) (r : Result Control ControlFault) → Kept c b w → Kept c b (cancel_asked c k item w r)
-kept-cancel c b k item w (Err fault) kept = record { leaves = kept.leaves; released = kept.released }
+kept-cancel c b k item w (Err fault) kept = record { leaves = kept.leaves; released = kept.released; sole = kept.sole }
 kept-cancel c b k item w (Ok control) kept =
-    kept-decided c b k item control (cancel_outcome c.association k c.now w.bay.controls) w kept (busy-still c.now w.bay.controls)
+    kept-decided c b k item control (cancel_outcome c.association k c.now w.bay.controls) w refl kept (busy-still c.now w.bay.controls)
 
 kept-part : (c : Client) (b : Bay) (k : ℕ) (item : List ℕ) (given : Datum) (w : Writing) (part : ControlPart) → Kept c b w → Kept c b (write_part c k item given w part)
-kept-part c b k item given w Select kept = record { leaves = kept.leaves; released = kept.released }
+kept-part c b k item given w Select kept = record { leaves = kept.leaves; released = kept.released; sole = kept.sole }
 kept-part c b k item given w SelectWith kept = kept-select c b k item w (operate_in given) kept
 kept-part c b k item given w Operate kept = kept-operate c b k item w (operate_in given) kept
 kept-part c b k item given w Cancel kept = kept-cancel c b k item w (cancel_in given) kept
 
 kept-target : (c : Client) (b : Bay) (item : List ℕ) (given : Datum) (w : Writing) (t : Option Target) → Kept c b w → Kept c b (write_target c item given w t)
-kept-target c b item given w None kept = record { leaves = kept.leaves; released = kept.released }
+kept-target c b item given w None kept = record { leaves = kept.leaves; released = kept.released; sole = kept.sole }
 kept-target c b item given w (Some t) kept = kept-part c b t.switch item given w t.part kept
 
 kept-row : (c : Client) (b : Bay) (given : Datum) (w : Writing) (row : Option ℕ) → Kept c b w → Kept c b (write_row c given w row)
-kept-row c b given w None kept = record { leaves = kept.leaves; released = kept.released }
+kept-row c b given w None kept = record { leaves = kept.leaves; released = kept.released; sole = kept.sole }
 kept-row c b given w (Some place) kept = kept-target c b (name_at w.bay.rows place) given w (target_of (length w.bay.switches) (name_at w.bay.rows place)) kept
 
 kept-all : (c : Client) (b : Bay) (ns : List Naming) (values : List Datum) (w : Writing) → Kept c b w → Kept c b (write_all c ns values w)
@@ -237,13 +342,14 @@ kept-all c b (name ∷ ns) (given ∷ values) w kept = kept-all c b ns values (w
 record Does (c : Client) (b : Bay) (x : Answered) : Type 0 where
   leaves : Leaves c.now b x.after
   released : AllByRecursion (IsReleased c b) x.commands
+  sole : AreTimed b.controls.controls → Sole c.now x.commands x.after.controls
 
 does-if : (c : Client) (b : Bay) (fits : Bool) (x y : Answered) → Does c b x → Does c b y → Does c b (cond fits x y)
 does-if c b true x y p q = p
 does-if c b false x y p q = q
 
 does-nothing : (c : Client) (b : Bay) (sent : List (List ℕ)) → Does c b (record { sent = sent; commands = []; ending = None; after = b })
-does-nothing c b sent = record { leaves = leaves-none c.now b; released = tt }
+does-nothing c b sent = record { leaves = leaves-none c.now b; released = tt; sole = λ timed. record { timed = timed; single = tt } }
 
 does-within : (c : Client) (b : Bay) (id : ℕ) (response : List ℕ) (x : Answered) → Does c b x → Does c b (within c id b response x)
 does-within c b id response x does = does-if c b (nat_le (length response) c.size) x _ does (does-nothing c b _)
@@ -257,10 +363,14 @@ does-served c b id identify = does-within c b id _ _ (does-nothing c b _)
 does-served c b id (names class place after) = does-within c b id _ _ (does-nothing c b _)
 does-served c b id (attributes name) = does-attributes c b id (row_named b name)
 does-served c b id (read ns) =
-    does-within c b id _ _ (record { leaves = read-all-leaves c b ns (nothing_read b) (leaves-none c.now b); released = tt })
+    does-within c b id _ _ (record {
+      leaves = read-all-leaves c b ns (nothing_read b) (leaves-none c.now b);
+      released = tt;
+      sole = λ timed. record { timed = read-all-timed c ns (nothing_read b) timed; single = tt };
+    })
 does-served c b id (write ns values) =
     let kept = kept-all c b ns values (nothing_written b) (record { leaves = leaves-none c.now b; released = tt }) in
-    does-within c b id _ _ (record { leaves = kept.leaves; released = kept.released })
+    does-within c b id _ _ (record { leaves = kept.leaves; released = kept.released; sole = kept.sole })
 
 does-answer : (c : Client) (b : Bay) (r : Result Message MmsFault) → Does c b (answer-of c b r)
 does-answer c b (Ok (initiate proposal)) = does-nothing c b _
@@ -281,6 +391,28 @@ request-leaves c pdu b = (does-answer c b (answer_to pdu)).leaves
 
 pub commands-each : (c : Client) (pdu : List ℕ) (b : Bay) → AllByRecursion (IsReleased c b) (answered c pdu b).commands
 commands-each c pdu b = (does-answer c b (answer_to pdu)).released
+
+pub commands-sole : (c : Client) (pdu : List ℕ) (b : Bay) → AreTimed b.controls.controls → Sole c.now (answered c pdu b).commands (answered c pdu b).after.controls
+commands-sole c pdu b timed = (does-answer c b (answer_to pdu)).sole timed
+
+-- each was given while no switch was operating
+idle-each : (c : Client) (b : Bay) (commands : List Command) → AllByRecursion (IsReleased c b) commands → AllByRecursion (λ (x : Command). IsIdle c.now b.controls) commands
+idle-each c b [] released = tt
+idle-each c b (x ∷ commands) released = (released.0.idle, idle-each c b commands released.1)
+
+-- those of an answer, behind commands that were given before
+pub sole-said : (c : Client) (pdu : List ℕ) (b : Bay) (before : List Command) → Sole c.now before b.controls
+    → Sole c.now (before ++ (answered c pdu b).commands) (answered c pdu b).after.controls
+sole-said c pdu b before sole =
+    let x = answered c pdu b in
+    let later = commands-sole c pdu b sole.timed in
+    record {
+      timed = later.timed;
+      single = single-joined c.now before x.commands b.controls x.after.controls (request-leaves c pdu b).busy (idle-each c b x.commands (commands-each c pdu b)) sole.single later.single;
+    }
+
+pub one-command : (c : Client) (pdu : List ℕ) (b : Bay) → AreTimed b.controls.controls → length (answered c pdu b).commands ≤ 1
+one-command c pdu b timed = at-most-one c.now (answered c pdu b).commands (answered c pdu b).after.controls (commands-sole c pdu b timed).single
 
 pub commands-are : (c : Client) (pdu : List ℕ) (b : Bay) → All (IsReleased c b) (answered c pdu b).commands
 commands-are c pdu b = all-of (IsReleased c b) (answered c pdu b).commands (commands-each c pdu b)

@@ -1,9 +1,11 @@
 -- When a switch may be operated, and what of a bay no client changes (IEC 61850-7-4, CILO).
-use Rattle.std.specs.Prelude.{ℕ, ◌≡◌, ◌++◌, Bool, true, false, List, Some, None}
+use Rattle.std.specs.Prelude.{ℕ, ◌≡◌, ◌≤◌, ◌++◌, Bool, true, false, List, Some, None}
 use Rattle.bay_tree.specs.Rows.{leaf_of}
 use Rattle.bay_nodes.specs.Names.{closing_of, interlocking_of, opening_of}
 use Rattle.bay_process.specs.Values.{is_truth}
 use Rattle.bay_control.specs.Decisions.{advanced}
+use Rattle.bay_control.specs.Requests.{control_of, is_controlled}
+use Rattle.bay_control.specs.declared.control.SwitchControl.{SwitchControl}
 use Rattle.bay_control.specs.declared.selection.Execution.{Execution}
 use Rattle.bay_services.specs.Bay.{Bay}
 use Rattle.bay_services.specs.declared.answer.Command.{Command}
@@ -24,3 +26,7 @@ pub record IsReleased (c : Client) (b : Bay) (command : Command) : Type 0 where
 pub record Leaves (now : ℕ) (before after : Bay) : Type 0 where
   pub enabled : (k : ℕ) (name : List ℕ) → leaf_of (interlocking_of k ++ name) after.rows ≡ leaf_of (interlocking_of k ++ name) before.rows
   pub busy : (e : Execution) → (advanced now before.controls).execution ≡ Some e → (advanced now after.controls).execution ≡ Some e
+
+-- A switch that can be operated takes some time, so what operates it lasts beyond its moment.
+abbrev pub AreTimed : List SwitchControl → Type 0
+AreTimed controls = (k : ℕ) → is_controlled (control_of controls k).model ≡ true → 1 ≤ (control_of controls k).travel_ms

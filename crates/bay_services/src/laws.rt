@@ -1,5 +1,5 @@
 // Laws of what clients see of a bay. Each function does nothing, and its contract is the law.
-ghost use Rattle.std.specs.Prelude.{◌≡◌, ◌≤◌, ◌++◌, ℕ, All, Bool, List, false, true};
+ghost use Rattle.std.specs.Prelude.{◌≡◌, ◌≤◌, ◌++◌, ℕ, All, Bool, List, false, length, true};
 ghost use Rattle.std.specs.Str.{bytes_eq};
 ghost use Rattle.bay_control.specs.Decisions.{State};
 ghost use Rattle.bay_control.specs.Happenings.{Leads};
@@ -9,7 +9,7 @@ ghost use Rattle.bay_services.specs.Accepted.{AreNamedAlike, accepted_in, first_
 ghost use Rattle.bay_services.specs.Answers.{answered};
 ghost use Rattle.bay_services.specs.Bay.{Bay, ShowSelection};
 ghost use Rattle.bay_services.specs.Entries.{entries_in};
-ghost use Rattle.bay_services.specs.Released.{IsReleased, Leaves};
+ghost use Rattle.bay_services.specs.Released.{AreTimed, IsReleased, Leaves};
 ghost use Rattle.bay_services.specs.declared.client.Client.{Client};
 ghost use Rattle.bay_tree.specs.Rows.{with_leaf_of};
 ghost use Rattle.bay_tree.specs.declared.leaf.Leaf.{Leaf};
@@ -22,9 +22,11 @@ pub fn selection_stays_shown()
 {}
 
 /// Each command of an answer is one of an operate that was accepted while the last scan was fresh, the interlocking released it and no
-/// switch was operating; and no client changes what the interlocking releases, nor what is operating.
+/// switch was operating; where each switch takes some time there is one at most. No client changes what the interlocking releases, nor
+/// what is operating.
 pub fn commands_are_released()
     ensures released { (c : Client) (pdu : List ℕ) (b : Bay) → All (IsReleased c b) (answered c pdu b).commands }
+    ensures single { (c : Client) (pdu : List ℕ) (b : Bay) → AreTimed b.controls.controls → length (answered c pdu b).commands ≤ 1 }
     ensures leaves { (c : Client) (pdu : List ℕ) (b : Bay) → Leaves c.now b (answered c pdu b).after }
 {}
 

@@ -1,4 +1,7 @@
+use Rattle.bay_config.specs.Bay.{bay_of}
+use Rattle.il_text.specs.Reading.{program_of}
 use Rattle.bay_device.proofs.AcceptLemmas.{accepted-ok, refused-err}
+use Rattle.bay_device.proofs.IdleLemmas.{bay-idle, bay-timed}
 use Rattle.bay_device.proofs.load.load.Goals as goal
 
 pub returns-clause-accepted : goal.returns-clause-accepted
@@ -6,3 +9,9 @@ returns-clause-accepted c = accepted-ok c.args.bay.now c.args.logic.now c.load_t
 
 pub returns-clause-refused : goal.returns-clause-refused
 returns-clause-refused c = refused-err c.args.bay.now c.args.logic.now c.load_texts.result c.load_texts.ensures.device
+
+pub returns-clause-idle : goal.returns-clause-idle
+returns-clause-idle c = bay-idle (bay_of c.args.bay.now) (program_of c.args.logic.now) c.load_texts.result c.load_texts.ensures.device
+
+pub returns-clause-timed : goal.returns-clause-timed
+returns-clause-timed c = bay-timed c.args.bay.now (program_of c.args.logic.now) c.load_texts.result c.load_texts.ensures.device

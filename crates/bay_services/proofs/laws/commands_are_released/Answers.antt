@@ -1,8 +1,11 @@
-use Rattle.bay_services.proofs.ReleaseLemmas.{commands-are, request-leaves}
+use Rattle.bay_services.proofs.ReleaseLemmas.{commands-are, one-command, request-leaves}
 use Rattle.bay_services.proofs.laws.commands_are_released.Goals as goal
 
 pub returns-clause-released : goal.returns-clause-released
 returns-clause-released c = commands-are
+
+pub returns-clause-single : goal.returns-clause-single
+returns-clause-single c = one-command
 
 pub returns-clause-leaves : goal.returns-clause-leaves
 returns-clause-leaves c = request-leaves

@@ -8,6 +8,7 @@ use Rattle.bay_device.proofs.CommandLemmas.{all-commanded}
 use Rattle.bay_device.proofs.EntryLemmas.{all-are-backed}
 use Rattle.bay_device.proofs.MeaningLemmas.{all-mean, all-run}
 use Rattle.bay_device.proofs.RunLemmas.{leads-none, leads-step, runs-all}
+use Rattle.bay_device.proofs.ToldLemmas.{told-backed}
 use Rattle.bay_device.proofs.device.Device.run.Goals as goal
 
 pub returns-in_err-answers-clause-means : goal.returns-in_err-answers-clause-means
@@ -64,3 +65,8 @@ returns-clause-commanded c choices = all-commanded choices c.args.events.now c.a
 
 pub returns-clause-backed : goal.returns-clause-backed
 returns-clause-backed c none choices = all-are-backed choices c.args.events.now c.args.self.now c.has_places.ensures none
+
+pub returns-clause-told : goal.returns-clause-told
+returns-clause-told c idle =
+    let done = returns-clause-ok c in
+    told-backed done.steps.choices c.args.events.now c.args.self.now c.loop-now.answers.items c.has_places.ensures idle done.steps.answered

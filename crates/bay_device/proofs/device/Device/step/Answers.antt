@@ -7,6 +7,7 @@ use Rattle.bay_device.proofs.CommandLemmas.{step-commanded}
 use Rattle.bay_device.proofs.EntryLemmas.{leading}
 use Rattle.bay_device.proofs.MeaningLemmas.{means-event, runs-still}
 use Rattle.bay_device.proofs.RecvLemmas.{one-outcome}
+use Rattle.bay_device.proofs.ToldLemmas.{telling}
 use Rattle.bay_device.proofs.device.Device.step.Goals as goal
 
 pub returns-clause-sure : goal.returns-clause-sure
@@ -25,3 +26,7 @@ returns-clause-means c program runs =
 pub returns-clause-leads : goal.returns-clause-leads
 returns-clause-leads c =
     leading c.args.now c.args.event c.args.self.now c.do_event.result c.do_event.new.self c.has_places.ensures c.do_event.ensures.steps
+
+pub returns-clause-tells : goal.returns-clause-tells
+returns-clause-tells c names alike sized =
+    telling names c.args.now c.args.event c.args.self.now c.do_event.result c.do_event.new.self alike sized (returns-clause-leads c)
