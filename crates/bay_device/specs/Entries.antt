@@ -104,4 +104,4 @@ entries_all (choice ∷ choices) (e ∷ es) s = entries_at choice e.0 e.1 s ++ e
 pub record Leading (now : ℕ) (event : Event) (old : State) (answer : Result Step StepFault) (new : State) : Type 0 where
   pub steps : Steps now event old answer new
   pub leads : (past : List Entry) (open_before : ℕ → Bool) (before : control.State) → Leads past open_before before (opens old) old.controls
-    → Leads (past ++ entries_at steps.choice now event old) open_before before (opens new) new.controls
+      → Leads (past ++ entries_at steps.choice now event old) open_before before (opens new) new.controls
