@@ -9,11 +9,10 @@ use Rattle.bay_tree.specs.declared.leaf.Dbpos.{Dbpos}
 use Rattle.bay_control.specs.Acts as act
 use Rattle.bay_control.specs.Acts.{Entry}
 use Rattle.bay_control.specs.Backing.{AreBacked}
-use Rattle.bay_control.specs.Decisions as control
 use Rattle.bay_control.specs.Happenings as call
 use Rattle.bay_control.specs.Happenings.{Leads, act_of, entries_of, is_open_after, is_orderly_call, outcome_of}
 use Rattle.bay_control.proofs.BackingLemmas.{all-backed}
-use Rattle.bay_control.proofs.LeadsLemmas.{none-leads, one-leads, two-lead}
+use Rattle.bay_control.proofs.LeadsLemmas.{none-leads, two-lead}
 use Rattle.bay_connection.specs.Talk.{Indication, Talk, answers, tells, releases, ends as ends-heard, fails, indications, left_by}
 use Rattle.bay_services.proofs.EntryLemmas.{request-leads}
 use Rattle.bay_services.specs.Entries.{entries_in}

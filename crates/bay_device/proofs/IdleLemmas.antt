@@ -2,7 +2,6 @@
 use Rattle.std.proofs.Common.{◌≡◌, Result, Ok, Err, IfOk, refl, subst, sym}
 use Rattle.bay_base.specs.Exact.{Gives}
 use Rattle.bay_config.specs.declared.bay.Bay.{Bay}
-use Rattle.bay_config.specs.declared.fault.BayFault.{BayFault}
 use Rattle.il_text.specs.Listing.{PlainProgram}
 use Rattle.il_text.specs.declared.fault.TextFault.{TextFault}
 use Rattle.il_check.specs.Checking.{checked_of}

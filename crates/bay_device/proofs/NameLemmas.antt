@@ -1,11 +1,9 @@
 -- No event changes the names of a bay's variables.
-use Rattle.std.proofs.Common.{◌≡◌, ◌+◌, ℕ, ℤ, Bool, true, false, cond, List, [], ◌∷◌, length, Option, Some, None, slice_get, refl, ap, ap₂, sym, ◌∙◌}
-use Rattle.std.specs.Prelude.{zero, suc, pos, int_lt, ◌+ℤ◌, nat_lt}
+use Rattle.std.proofs.Common.{◌≡◌, ◌+◌, ℕ, ℤ, Bool, true, false, cond, List, [], ◌∷◌, Option, Some, None, refl, ap₂, ◌∙◌}
+use Rattle.std.specs.Prelude.{pos, int_lt, ◌+ℤ◌}
 use Rattle.std.specs.Str.{bytes_eq}
-use Rattle.bay_base.specs.declared.types.ElementaryType.{ElementaryType}
-use Rattle.bay_nodes.specs.Names.{StatusNames, SwitchNames, control_names, meter_names, switch_names}
+use Rattle.bay_nodes.specs.Names.{StatusNames, SwitchNames, switch_names}
 use Rattle.bay_nodes.specs.declared.switch.Switch.{Switch}
-use Rattle.bay_config.specs.declared.bay.MeterField.{MeterField}
 use Rattle.bay_config.specs.declared.bay.Source.{Source}
 use Rattle.bay_config.specs.declared.bay.SwitchPoint.TheVariants.{EnableOpen, EnableClose}
 use Rattle.il_image.specs.declared.value.Value.{Value}
@@ -16,7 +14,6 @@ use Rattle.bay_tree.specs.declared.leaf.Leaf.TheVariants as leaf
 use Rattle.bay_tree.specs.declared.leaf.Quality.{Quality}
 use Rattle.bay_tree.specs.declared.leaf.Quality.TheVariants.{Good}
 use Rattle.bay_tree.specs.declared.row.Row.{Row}
-use Rattle.bay_process.specs.Names.{field_names}
 use Rattle.bay_process.specs.Values.{counted, is_operation, operation_counted, output_of, position_quality, rows_after_change, rows_after_contact, rows_after_measure, tells, tells_measure, with_enabled, with_output, with_outputs, with_status}
 
 leaf-if : (b : Bool) (r : Row) (v : Leaf) → (cond b (let s : Row = record { name = r.name; leaf = Some v } in s) r).name ≡ r.name

@@ -1,7 +1,7 @@
 -- The PDU of MMS that is read in octets that are sent is the one that they send.
-use Rattle.std.proofs.Common.{◌≡◌, ◌≤◌, ◌<◌, ◌+◌, ◌-◌, ℕ, pos, List, [], ◌∷◌, ◌++◌, length, map, Option, Some, None, IsSome, unwrap_or, refl, ap, ap₂, sym, ◌∙◌, arith, append-nil, length-append}
+use Rattle.std.proofs.Common.{◌≡◌, ◌≤◌, ◌<◌, ◌-◌, ℕ, pos, List, [], ◌∷◌, ◌++◌, length, Option, Some, None, IsSome, unwrap_or, refl, ap, sym, ◌∙◌, arith, append-nil, length-append}
 use Rattle.bay_ber.specs.Options.{◌>>=◌}
-use Rattle.bay_ber.specs.Values.{Part, SpellAll, under, value, value_in, values_in}
+use Rattle.bay_ber.specs.Values.{Part, under, value, value_in, values_in}
 use Rattle.bay_ber.specs.Writing.{element, integer_octets}
 use Rattle.bay_ber.specs.declared.tag.Tag.{Tag}
 use Rattle.bay_ber.proofs.BackLemmas.{one_read}
@@ -9,21 +9,18 @@ use Rattle.bay_ber.proofs.ListingLemmas.{values_again}
 use Rattle.bay_ber.proofs.SizeLemmas.{length-element, length-integer_octets}
 use Rattle.bay_ber.proofs.WriteLemmas.{element_spells}
 use Rattle.bay_mms.specs.Tags.{constructed, int_tag, sequence}
-use Rattle.bay_transport.specs.Doings.{Doing, Delivers, Going, Run, run}
+use Rattle.bay_transport.specs.Doings.{Run}
 use Rattle.bay_transport.specs.Wrap.{full_before, wrapped}
 use Rattle.bay_transport.proofs.WrapLemmas.{run-data_frames}
 use Rattle.bay_assoc.specs.Hears.{link_of}
 use Rattle.bay_assoc.specs.Session.{Spdu, spdu_in, transfer}
 use Rattle.bay_assoc.specs.Tags.{application}
 use Rattle.bay_assoc.specs.Texts.{transfer_text, user_text}
-use Rattle.bay_assoc.specs.declared.hearing.Link.{Link}
 use Rattle.bay_assoc.specs.declared.hearing.Phase.{Phase}
 use Rattle.bay_assoc.specs.declared.hearing.Phase.TheVariants.{Idle, Open, Over, Failed}
-use Rattle.bay_connection.specs.Talk.{Terms, sending, sending_in, sent}
+use Rattle.bay_connection.specs.Talk.{Terms, sending, sending_in}
 use Rattle.bay_services.specs.Accepted.{behind_id}
-use Rattle.bay_device.specs.Hearing.{sent_on}
-use Rattle.bay_device.specs.Told.{only_tsdu, pdu_in, pdus_in, tsdu_in, user_data, value_of}
-use Rattle.bay_device.specs.declared.event.Sent.{Sent}
+use Rattle.bay_device.specs.Told.{only_tsdu, pdu_in, tsdu_in, user_data, value_of}
 use Rattle.bay_device.proofs.TalkLemmas.{IsOpen}
 
 -- the TSDU in data TPDUs of any size
@@ -64,8 +61,16 @@ text-size id pdu short =
     let number : List ℕ = integer_octets (pos id) in
     let inner : List ℕ = element int_tag number ++ element (constructed 0) pdu in
     let middle : List ℕ = element sequence inner in
-    omega (arith, short, length-integer_octets (pos id), length-append (element int_tag number) (element (constructed 0) pdu), length-element int_tag number, length-element (constructed 0) pdu,
-        length-element sequence inner, length-element (application 1) middle)
+    omega (
+      arith,
+      short,
+      length-integer_octets (pos id),
+      length-append (element int_tag number) (element (constructed 0) pdu),
+      length-element int_tag number,
+      length-element (constructed 0) pdu,
+      length-element sequence inner,
+      length-element (application 1) middle,
+    )
 
 read-in : (size : Option ℕ) (phase : Phase) (pdu : List ℕ) → IsSome size → IsOpen phase → length pdu ≤ 65000 → pdu_in (sending_in size (link_of phase) pdu) ≡ pdu
 read-in None phase pdu some is short = absurd (cc)

@@ -1,6 +1,6 @@
 -- What events and their answers tell is what the device's definitions say of them.
 use Rattle.std.specs.Prelude.{replicate}
-use Rattle.std.proofs.Common.{◌≡◌, ◌≤◌, ◌<◌, ℕ, zero, suc, ℤ, Bool, true, false, cond, nat_lt, All, List, [], ◌∷◌, ◌++◌, length, map, slice_get, slice_set, Option, None, Some, IsSome, unwrap_or, Result, Ok, Err, refl, ap, ap₂, sym, ◌∙◌, subst, arith, append-nil, append_assoc}
+use Rattle.std.proofs.Common.{◌≡◌, ◌≤◌, ℕ, zero, suc, ℤ, Bool, true, false, cond, nat_lt, List, [], ◌∷◌, ◌++◌, length, map, slice_get, slice_set, Option, None, Some, IsSome, unwrap_or, Result, Ok, Err, refl, ap, ap₂, sym, ◌∙◌, subst, arith, append-nil, append_assoc}
 use Rattle.bay_ber.specs.Options.{◌>>=◌}
 use Rattle.bay_ber.specs.Values.{Part, only_one, under, value_in, values_in}
 use Rattle.bay_ber.proofs.ListingLemmas.{no_values}
@@ -10,9 +10,8 @@ use Rattle.bay_config.specs.declared.bay.MeterField.{MeterField}
 use Rattle.bay_tree.specs.declared.leaf.Dbpos.{Dbpos}
 use Rattle.bay_process.specs.Names.{field_names}
 use Rattle.il_scan.specs.Scans.{outputs_of}
-use Rattle.bay_mms.specs.Data.{Datum}
 use Rattle.bay_mms.specs.Grammar.{answer_to}
-use Rattle.bay_mms.specs.Requests.{Naming, Asking, identify, names, attributes, read, write, Message, initiate, conclude, confirmed}
+use Rattle.bay_mms.specs.Requests.{identify, names, attributes, read, write, Message, initiate, conclude, confirmed}
 use Rattle.bay_mms.specs.Tags.{constructed}
 use Rattle.bay_mms.specs.declared.fault.MmsFault.{MmsFault}
 use Rattle.bay_assoc.specs.Hears.{link_of}
@@ -20,7 +19,7 @@ use Rattle.bay_assoc.specs.Sized.{IsSized}
 use Rattle.bay_assoc.specs.declared.hearing.Phase.{Phase}
 use Rattle.bay_assoc.specs.declared.hearing.Phase.TheVariants as phases
 use Rattle.bay_connection.specs.Talk.{Indication, Talk, Terms, answers, tells, releases, ends as ends-heard, fails, indications, left_by, sending}
-use Rattle.bay_control.specs.Acts.{Entry, Opened, Closed}
+use Rattle.bay_control.specs.Acts.{Entry}
 use Rattle.bay_control.specs.Backing.{AreBacked}
 use Rattle.bay_control.specs.Decisions as control
 use Rattle.bay_control.specs.Decisions.{dropped}
@@ -32,11 +31,11 @@ use Rattle.bay_services.specs.Entries.{entries_in}
 use Rattle.bay_services.specs.declared.client.Client.{Client}
 use Rattle.bay_services.proofs.AcceptedLemmas.{alike-after, alike-still, none-read, none-written, response-tells}
 use Rattle.bay_services.proofs.ShortLemmas.{AreShort, answer_short}
-use Rattle.bay_device.specs.Device.{State, advanced, bay_of, contact_taken, input_taken, measure_taken, ran_at, scanned}
-use Rattle.bay_device.specs.Entries.{IsIdle, Leading, opens, entries_all, entries_at, entries_close, entries_closed, entries_heard, entries_octets, entries_of_event, entries_on, entries_open, entries_recv, told}
+use Rattle.bay_device.specs.Device.{State, advanced, bay_of, ran_at}
+use Rattle.bay_device.specs.Entries.{IsIdle, Leading, opens, entries_all, entries_at, entries_close, entries_closed, entries_heard, entries_octets, entries_of_event, entries_on, entries_open, entries_recv}
 use Rattle.bay_device.specs.Hearing.{Done, Heard, client_at, heard, on_heard, said, sent_on, size_of, with_sent}
 use Rattle.bay_device.specs.Outcomes.{Outcome, close_outcome, closed, closed_by, connection_at, contact_outcome, event_outcome, first_talk, input_outcome, last_moment, measure_outcome, nothing_done, octets_outcome, open_outcome, outcome, outcomes, place_of, refused, recv_after, recv_outcome, with_connection, without_owner}
-use Rattle.bay_device.specs.Told.{AreTalks, Telling, behind_one, of_answer, pdu_in, pdus_in, talk_at, talk_behind, talks_answer, talks_behind, talks_heard, talks_step, told_all, told_answer, told_closed, told_heard, told_recv, told_step, with_talk}
+use Rattle.bay_device.specs.Told.{AreTalks, Telling, of_answer, pdus_in, talk_at, talk_behind, talks_answer, talks_heard, talks_step, told_all, told_answer, told_closed, told_heard, told_recv, told_step, with_talk}
 use Rattle.bay_device.specs.declared.event.Event.{Event}
 use Rattle.bay_device.specs.declared.event.Event.TheVariants.{Open, Recv, Close, Contact, Input, Measure, Scan}
 use Rattle.bay_device.specs.declared.event.Sent.{Sent}

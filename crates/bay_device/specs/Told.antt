@@ -158,7 +158,7 @@ AreTalks talks = (place : ℕ) (t : Talk) → unwrap_or (slice_get talks place) 
 -- its answer tell to the controls after it. They tell what is left of each talk, and the names stay.
 pub record Telling (names : Bay) (now : ℕ) (event : Event) (old : State) (answer : Result Step StepFault) (new : State) : Type 0 where
   pub leads : (past : List Entry) (open_before : ℕ → Bool) (before : control.State) → Leads past open_before before (opens old) old.controls
-    → Leads (past ++ told_answer now event names old.connections answer) open_before before (opens new) new.controls
+      → Leads (past ++ told_answer now event names old.connections answer) open_before before (opens new) new.controls
   pub left : new.connections ≡ talks_answer event old.connections answer
   pub alike : AreNamedAlike names (bay_of new)
   pub sized : AreTalks new.connections

@@ -1,7 +1,7 @@
 -- What the octets of an answer tell of a PDU is what was accepted of it.
-use Rattle.std.proofs.Common.{◌≡◌, ◌<◌, ◌≤◌, ◌+◌, ℕ, zero, suc, Bool, true, false, ◌&&◌, cond, List, [], ◌∷◌, ◌++◌, length, codes, map, nat_le, Option, Some, None, unwrap_or, Result, Ok, Err, refl, ap, ap₂, sym, ◌∙◌, arith, append-nil, append_assoc, length-append, subst}
+use Rattle.std.proofs.Common.{◌≡◌, ◌<◌, ◌≤◌, ℕ, zero, suc, Bool, true, false, cond, List, [], ◌∷◌, ◌++◌, length, codes, nat_le, Option, Some, None, unwrap_or, Result, Ok, Err, refl, ap, ap₂, sym, ◌∙◌, arith, append-nil, append_assoc, length-append, subst}
 use Rattle.std.proofs.lemmas.Bool.{leb-true}
-use Rattle.std.specs.Prelude.{ℤ, pos, is_ok, is_some, option_to_list}
+use Rattle.std.specs.Prelude.{pos, is_ok, is_some, option_to_list}
 use Rattle.std.specs.Str.{bytes_eq}
 use Rattle.bay_ber.specs.Options.{◌>>=◌}
 use Rattle.bay_ber.specs.Spelling.{Spells}
@@ -33,7 +33,7 @@ use Rattle.bay_mms.specs.Controls.{Control, operate_in, cancel_in}
 use Rattle.bay_mms.specs.Data.{Datum, datum_text}
 use Rattle.bay_mms.specs.Grammar.{answer_to}
 use Rattle.bay_mms.specs.Laws.{datum_tag, datum_content}
-use Rattle.bay_mms.specs.Nodes.{Node, Nodes, data_at, node_at, node_datum, value as leaf-node, structure as rows-node}
+use Rattle.bay_mms.specs.Nodes.{Node, data_at, node_at, node_datum, value as leaf-node, structure as rows-node}
 use Rattle.bay_mms.specs.Requests.{Naming, vmd, domain, association, Asking, identify, names, attributes, read, write, Message, initiate, conclude, confirmed}
 use Rattle.bay_mms.specs.Responses as response
 use Rattle.bay_mms.specs.Responses.{class_text, error_text, failure_result, read_text, success_result, text_result, write_text}
@@ -41,14 +41,13 @@ use Rattle.bay_mms.specs.Tags.{context, constructed, int_tag}
 use Rattle.bay_mms.specs.declared.fault.ControlFault.{ControlFault}
 use Rattle.bay_mms.specs.declared.fault.MmsFault.{MmsFault}
 use Rattle.bay_mms.specs.declared.fault.MmsFault.TheVariants.{BadPdu, UnknownService, TooMany, OutOfMemory}
-use Rattle.bay_mms.specs.declared.response.ErrorClass.{ErrorClass}
 use Rattle.bay_mms.specs.declared.response.ErrorClass.TheVariants.{NoSuchObject, Resource}
 use Rattle.bay_mms.proofs.LawLemmas.{datum_spells}
-use Rattle.bay_services.specs.Accepted.{AreNamedAlike, accepted_in, act_of_read, act_of_write, behind_id, cancel_act, first_response, is_granted, is_report, is_some_text, is_success, may_be_reported, message_accepted, operate_act, read_accepted, read_act, read_results, select_with_act, service_accepted, service_in, write_accepted, write_act, write_results}
+use Rattle.bay_services.specs.Accepted.{AreNamedAlike, accepted_in, act_of_read, act_of_write, behind_id, cancel_act, first_response, is_granted, is_report, is_some_text, is_success, may_be_reported, message_accepted, operate_act, read_accepted, read_act, read_results, select_with_act, service_in, write_accepted, write_act, write_results}
 use Rattle.bay_services.specs.Answers.{Answered, answer_of, answered, attributes_at, said, served}
 use Rattle.bay_services.specs.Bay.{Bay, is_selected, shown, with_controls}
 use Rattle.bay_services.specs.Controls.{ask_of, has_reports, object_of, refusal_report, refusal_reports, view_of}
-use Rattle.bay_services.specs.Entries.{call_of_read, call_of_write, cancel_call, entries_in, message_entries, operate_call, read_call, read_entries, seen, select_with_call, service_entries, target_at, within_size, write_call, write_entries}
+use Rattle.bay_services.specs.Entries.{call_of_read, call_of_write, cancel_call, entries_in, message_entries, operate_call, read_call, read_entries, seen, select_with_call, service_entries, target_at, write_call, write_entries}
 use Rattle.bay_services.specs.Reads.{Reading, nothing_read, read_all, read_one, read_part, read_row, read_target, selected_text, value_read}
 use Rattle.bay_services.specs.Replies.{fitting}
 use Rattle.bay_services.specs.Rows.{row_named}
