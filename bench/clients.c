@@ -18,7 +18,7 @@ struct choice { octet on, category, test, check; uint32_t count; octet time[8]; 
 /* a selection or an execution: its association (0: none), its switch, when it runs out, and what was asked for */
 struct held { int who, place; uint64_t until; struct choice choice; };
 /* where the rows of a switch stand */
-struct places { int position[2], count, selected, may_open, may_close; uint64_t timeout; };
+struct places { int position[2], count, selected, may_open, may_close, select, operate; uint64_t timeout; };
 
 static struct row rows[ROWS];
 static int order[ROWS], row_count;
@@ -274,10 +274,9 @@ static void put_command(uint64_t now, int k, int on) {
 
 /* the association of an execution is told that it has reached its position */
 static void tell_end(uint64_t now) {
-    char name[32];
-    int length = snprintf(name, sizeof name, "CSWI%d$CO$Pos$Oper", operating.place + 1);
+    struct slice name = rows[places[operating.place].operate].name;
     octet *stop = out + OUT, *at = around(stop, put_choice(stop, &operating.choice), 0xA0), *list = at;
-    at = put_text(at, 0x1A, name, (size_t)length);
+    at = put_text(at, 0x1A, name.at, name.length);
     at = around(list, put_text(at, 0x1A, domain.at, domain.length), 0xA1);
     at = around(list, around(list, around(list, at, 0xA0), 0x30), 0xA0);
     at = around(stop, around(stop, at, 0xA0), 0xA3);
@@ -468,6 +467,7 @@ static void read_rows(const char *path) {
     }
 }
 
+/* the row of a name in which the number of a switch stands */
 static int place(const char *form, int k) {
     char name[80];
     int i = find((struct slice){(octet *)name, (size_t)snprintf(name, sizeof name, form, k + 1)});
@@ -478,11 +478,16 @@ static int place(const char *form, int k) {
 /* the rows of a switch, which is a breaker with enhanced select */
 static void place_rows(int k) {
     int64_t n;
-    struct row *row = rows + place("CSWI%d$CF$Pos$sboTimeout", k), *asks[] = {rows + place("CSWI%d$CO$Pos$SBOw", k), rows + place("CSWI%d$CO$Pos$Oper", k)};
-    asks[0]->part = SELECT, asks[1]->part = OPERATE, asks[0]->place = asks[1]->place = (octet)k;
-    if (integer((struct slice){row->value + 2, row->length - 2u}, &n)) fail("a time");
-    places[k] = (struct places){{place("XCBR%d$ST$Pos$stVal", k), place("CSWI%d$ST$Pos$stVal", k)}, place("XCBR%d$ST$OpCnt$stVal", k),
-        place("CSWI%d$ST$Pos$stSeld", k), place("CILO%d$ST$EnaOpn$stVal", k), place("CILO%d$ST$EnaCls$stVal", k), (uint64_t)n};
+    const struct row *timeout = rows + place("CSWI%d$CF$Pos$sboTimeout", k);
+    struct places *p = places + k;
+    p->position[0] = place("XCBR%d$ST$Pos$stVal", k), p->position[1] = place("CSWI%d$ST$Pos$stVal", k);
+    p->count = place("XCBR%d$ST$OpCnt$stVal", k), p->selected = place("CSWI%d$ST$Pos$stSeld", k);
+    p->may_open = place("CILO%d$ST$EnaOpn$stVal", k), p->may_close = place("CILO%d$ST$EnaCls$stVal", k);
+    p->select = place("CSWI%d$CO$Pos$SBOw", k), p->operate = place("CSWI%d$CO$Pos$Oper", k);
+    rows[p->select].part = SELECT, rows[p->operate].part = OPERATE;
+    rows[p->select].place = rows[p->operate].place = (octet)k;
+    if (integer((struct slice){timeout->value + 2, timeout->length - 2u}, &n)) fail("a time");
+    p->timeout = (uint64_t)n;
 }
 
 int main(int argc, char **argv) {
