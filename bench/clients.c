@@ -32,6 +32,7 @@ static octet out[OUT];
 static octet digit_of[256];
 
 static void fail(const char *why) { fprintf(stderr, "%s\n", why), exit(1); }
+
 static void put_digits(const octet *at, size_t length) {
     for (size_t i = 0; i < length; i++) *end++ = "0123456789abcdef"[at[i] >> 4], *end++ = "0123456789abcdef"[at[i] & 15];
 }
@@ -444,12 +445,15 @@ static char *text_of(FILE *file, size_t *length) {
 }
 
 static void read_row(char *at, char *stop) {
+    if (row_count == ROWS) fail("too many rows");
     struct row *row = rows + row_count;
     char *blank = memchr(at, ' ', (size_t)(stop - at));
     row->name = (struct slice){(octet *)at, (size_t)((blank ? blank : stop) - at)};
     row->below = row->beside = -1;
-    for (char *p = blank; p && p + 1 < stop; p += 2)
+    for (char *p = blank; p && p + 1 < stop; p += 2) {
+        if (row->length == sizeof row->value) fail("a value that is too long");
         row->value[row->length++] = digit_of[(octet)p[1]] << 4 | digit_of[(octet)p[2]];
+    }
     order[row_count] = row_count, row_count++;
 }
 
