@@ -1,5 +1,5 @@
--- Each command of a step is released.
-use Rattle.std.proofs.Common.{◌≡◌, ◌≢◌, ℕ, zero, suc, Bool, true, false, cond, nat_lt, List, [], ◌∷◌, ◌++◌, map, slice_get, Option, Some, None, Result, IfOk, refl, ap, sym, ◌∙◌, arith}
+-- Each command of a step is released, and there is one at most.
+use Rattle.std.proofs.Common.{◌≡◌, ◌≢◌, ◌≤◌, ℕ, zero, suc, Bool, true, false, cond, nat_lt, List, [], ◌∷◌, ◌++◌, map, slice_get, Option, Some, None, Result, IfOk, refl, ap, sym, ◌∙◌, arith}
 use Rattle.std.specs.List.{AllByRecursion}
 use Rattle.bay_tree.specs.Rows.{leaf_of}
 use Rattle.bay_tree.specs.declared.leaf.Dbpos.{Dbpos}
@@ -7,21 +7,22 @@ use Rattle.bay_nodes.specs.declared.switch.Switch.{Switch}
 use Rattle.bay_config.specs.declared.bay.MeterField.{MeterField}
 use Rattle.bay_process.specs.Values.{is_truth}
 use Rattle.bay_control.specs.Decisions as control
-use Rattle.bay_connection.specs.Talk.{Indication, answers, tells, releases, ends as ends-heard, fails, Talk, Terms, indications, sending}
+use Rattle.bay_connection.specs.Talk.{Indication, answers, tells, releases, ends as ends-heard, fails, Talk, Terms, indications, left_by, sending}
 use Rattle.bay_services.specs.Answers.{answered}
 use Rattle.bay_services.specs.Bay.{Bay}
-use Rattle.bay_services.specs.Released.{Leaves, releasing}
+use Rattle.bay_services.specs.Released.{AreTimed, Leaves, releasing}
 use Rattle.bay_services.specs.Released as services
 use Rattle.bay_services.specs.declared.answer.Command.{Command}
-use Rattle.bay_services.proofs.ReleaseLemmas.{all-of, answer-sent, busy-still, commands-each, idle-now, leaves-none, leaves-then, leaves-with, request-leaves}
-use Rattle.bay_device.specs.Commands.{AllCommanded, AreCommanded, IsReleased}
+use Rattle.bay_services.proofs.ReleaseLemmas.{Sole, all-of, answer-sent, at-most-one, busy-still, commands-each, idle-now, leaves-none, leaves-then, leaves-with, request-leaves, sole-said}
+use Rattle.bay_device.specs.Commands.{AllCommanded, AreCommanded, IsReleased, IsSingle}
 use Rattle.bay_device.specs.Device.{State, advanced, bay_of, ended_at, is_fresh}
 use Rattle.bay_device.specs.Hearing.{Done, Heard, client_at, heard, on_heard, said, sent_on, with_sent}
-use Rattle.bay_device.specs.Outcomes.{Outcome, close_outcome, connection_at, contact_outcome, event_outcome, input_outcome, last_moment, measure_outcome, nothing_done, octets_outcome, open_outcome, outcome, place_of, recv_outcome}
+use Rattle.bay_device.specs.Outcomes.{Outcome, close_outcome, connection_at, contact_outcome, event_outcome, input_outcome, first_talk, last_moment, measure_outcome, nothing_done, octets_outcome, open_outcome, outcome, outcomes, place_of, recv_after, recv_outcome, with_connection, without_owner}
 use Rattle.bay_device.specs.declared.event.Event.{Event}
 use Rattle.bay_device.specs.declared.event.Event.TheVariants.{Open, Recv, Close, Contact, Input, Measure, Scan}
 use Rattle.bay_device.specs.declared.event.Sent.{Sent}
 use Rattle.bay_device.specs.declared.event.Step.{Step}
+use Rattle.bay_device.specs.declared.event.Why.{Why}
 use Rattle.bay_device.specs.declared.fault.StepFault.{StepFault}
 
 -- what is made of octets: nothing is operated that was not released before them
@@ -30,6 +31,7 @@ record Makes (now : ℕ) (s : State) (d : Done) : Type 0 where
   fresh : is_fresh now d.state ≡ is_fresh now s
   released : AllByRecursion (IsReleased now s) d.commands
   replied : d.commands ≢ [] → d.sent ≢ []
+  sole : AreTimed s.controls.controls → Sole now d.commands d.state.controls
 
 begins : (now : ℕ) (s : State) → Makes now s (nothing_done (advanced now s))
 begins now s = record {
@@ -37,6 +39,7 @@ begins now s = record {
   fresh = refl;
   released = tt;
   replied = λ some. absurd (some refl);
+  sole = λ timed. record { timed = timed; single = tt };
 }
 
 enabled-before : (now k : ℕ) (on : Bool) (b d : Bay) → Leaves now b d → is_truth true (leaf_of (releasing k on) d.rows) ≡ true → is_truth true (leaf_of (releasing k on) b.rows) ≡ true
@@ -75,6 +78,7 @@ makes-said now a terms pdu s d makes =
       fresh = makes.fresh;
       released = joined now s d.commands (answered c pdu b).commands makes.released (all-before now a terms s d (answered c pdu b).commands makes (commands-each c pdu b));
       replied = λ some. not-empty (λ x. sent_on a (sending terms x)) d.sent (answered c pdu b).sent (answer-sent c pdu b);
+      sole = λ timed. sole-said c pdu b d.commands (makes.sole timed);
     }
 
 snoc-some : (xs : List Sent) (x : Sent) → xs ++ x ∷ [] ≢ []
@@ -85,7 +89,7 @@ sent-some : (a : ℕ) (octets : List ℕ) (d : Done) → (with_sent a octets d).
 sent-some a octets d = snoc-some d.sent (sent_on a octets)
 
 makes-sent : (now a : ℕ) (octets : List ℕ) (s : State) (d : Done) → Makes now s d → Makes now s (with_sent a octets d)
-makes-sent now a octets s d makes = record { leaves = makes.leaves; fresh = makes.fresh; released = makes.released; replied = λ some. sent-some a octets d }
+makes-sent now a octets s d makes = record { leaves = makes.leaves; fresh = makes.fresh; released = makes.released; replied = λ some. sent-some a octets d; sole = makes.sole }
 
 makes-one : (now a : ℕ) (i : Indication) (s : State) (d : Done) (later : Done → Heard) → Makes now s d → ((e : Done) → Makes now s e → Makes now s (later e).done)
     → Makes now s (on_heard now a i d later).done
@@ -162,3 +166,131 @@ pub all-commanded : (choices : List (Option ℕ)) (events : List (ℕ × Event))
 all-commanded choices [] s = tt
 all-commanded [] (e ∷ es) s = (step-commanded None e.0 e.1 s, all-commanded [] es (outcome None e.0 e.1 s).after)
 all-commanded (choice ∷ choices) (e ∷ es) s = (step-commanded choice e.0 e.1 s, all-commanded choices es (outcome choice e.0 e.1 s).after)
+
+-- ---- one command at most
+
+none-single : 0 ≤ 1
+none-single = omega arith
+
+octets-single : (choice : Option ℕ) (now a : ℕ) (s : State) (talk : Talk) (octets : List ℕ) → AreTimed s.controls.controls → IsSingle (octets_outcome choice now a s talk octets).answer
+octets-single choice now a s talk [] timed = none-single
+octets-single choice now a s talk (octet ∷ octets) timed =
+    let made = heard choice now a (indications talk (octet ∷ octets)) (nothing_done (advanced now s)) in
+    let makes = makes-heard choice now a (indications talk (octet ∷ octets)) s (nothing_done (advanced now s)) (begins now s) in
+    at-most-one now made.done.commands made.done.state.controls (makes.sole timed).single
+
+recv-single : (choice : Option ℕ) (now a : ℕ) (octets : List ℕ) (s : State) (talk : Option Talk) → AreTimed s.controls.controls → IsSingle (recv_outcome choice now a octets s talk).answer
+recv-single choice now a octets s None timed = tt
+recv-single choice now a octets s (Some talk) timed = octets-single choice now a s talk octets timed
+
+open-single : (now a : ℕ) (s : State) (o : Option ℕ) (talk : Option Talk) → IsSingle (open_outcome now a s o talk).answer
+open-single now a s None talk = tt
+open-single now a s (Some place) (Some talk) = tt
+open-single now a s (Some place) None = none-single
+
+close-single : (now a : ℕ) (s : State) (talk : Option Talk) → IsSingle (close_outcome now a s talk).answer
+close-single now a s None = tt
+close-single now a s (Some talk) = none-single
+
+contact-single : (now k : ℕ) (position : Dbpos) (s : State) (o : Option Switch) → IsSingle (contact_outcome now k position s o).answer
+contact-single now k position s None = tt
+contact-single now k position s (Some switch) = none-single
+
+input-single : (now k : ℕ) (value : Bool) (s : State) (o : Option Bool) → IsSingle (input_outcome now k value s o).answer
+input-single now k value s None = tt
+input-single now k value s (Some before) = none-single
+
+measure-single : (now k : ℕ) (field : MeterField) (value : _) (s : State) (o : Option (List ℕ)) → IsSingle (measure_outcome now k field value s o).answer
+measure-single now k field value s None = tt
+measure-single now k field value s (Some id) = none-single
+
+event-single : (choice : Option ℕ) (now : ℕ) (event : Event) (s : State) → AreTimed s.controls.controls → IsSingle (event_outcome choice now event s).answer
+event-single choice now (Open a) s timed = open-single now a s (place_of a) (connection_at (place_of a) s)
+event-single choice now (Recv a octets) s timed = recv-single choice now a octets.now s (connection_at (place_of a) s) timed
+event-single choice now (Close a) s timed = close-single now a s (connection_at (place_of a) s)
+event-single choice now (Contact k position) s timed = contact-single now k position s (slice_get s.switches k)
+event-single choice now (Input k value) s timed = input-single now k value s (slice_get s.input_values k)
+event-single choice now (Measure k field value) s timed = measure-single now k field value s (slice_get s.meters k)
+event-single choice now Scan s timed = none-single
+
+single-if : (b : Bool) (x y : Outcome) → IsSingle x.answer → IsSingle y.answer → IsSingle (cond b x y).answer
+single-if true x y p q = p
+single-if false x y p q = q
+
+pub step-single : (choice : Option ℕ) (now : ℕ) (event : Event) (s : State) → AreTimed s.controls.controls → IsSingle (outcome choice now event s).answer
+step-single choice now event s timed = single-if (nat_lt last_moment now) _ _ tt (single-if (nat_lt now s.moment) _ _ tt (event-single choice now event s timed))
+
+-- ---- what the bay file says of controls stays
+
+heard-timed : (choice : Option ℕ) (now a : ℕ) (is : List Indication) (s : State) → AreTimed s.controls.controls
+    → AreTimed (heard choice now a is (nothing_done (advanced now s))).done.state.controls.controls
+heard-timed choice now a is s timed = ((makes-heard choice now a is s (nothing_done (advanced now s)) (begins now s)).sole timed).timed
+
+with-connection-timed : (o : Option ℕ) (talk : Option Talk) (s : State) → AreTimed s.controls.controls → AreTimed (with_connection o talk s).controls.controls
+with-connection-timed None talk s timed = timed
+with-connection-timed (Some place) talk s timed = timed
+
+after-timed : (a : ℕ) (left : Talk) (s : State) (why : Option Why) → AreTimed s.controls.controls → AreTimed (recv_after a left s why).controls.controls
+after-timed a left s None timed = with-connection-timed (place_of a) (Some left) s timed
+after-timed a left s (Some why) timed = with-connection-timed (place_of a) None (without_owner a s) timed
+
+octets-timed : (choice : Option ℕ) (now a : ℕ) (s : State) (talk : Talk) (octets : List ℕ) → AreTimed s.controls.controls
+    → AreTimed (octets_outcome choice now a s talk octets).after.controls.controls
+octets-timed choice now a s talk [] timed = timed
+octets-timed choice now a s talk (octet ∷ octets) timed =
+    let is = indications talk (octet ∷ octets) in
+    let made = heard choice now a is (nothing_done (advanced now s)) in
+    after-timed a (left_by talk (octet ∷ octets)) made.done.state made.why (heard-timed choice now a is s timed)
+
+recv-timed : (choice : Option ℕ) (now a : ℕ) (octets : List ℕ) (s : State) (talk : Option Talk) → AreTimed s.controls.controls
+    → AreTimed (recv_outcome choice now a octets s talk).after.controls.controls
+recv-timed choice now a octets s None timed = timed
+recv-timed choice now a octets s (Some talk) timed = octets-timed choice now a s talk octets timed
+
+open-timed : (now a : ℕ) (s : State) (o : Option ℕ) (talk : Option Talk) → AreTimed s.controls.controls → AreTimed (open_outcome now a s o talk).after.controls.controls
+open-timed now a s None talk timed = timed
+open-timed now a s (Some place) (Some talk) timed = timed
+open-timed now a s (Some place) None timed = with-connection-timed (place_of a) (Some (first_talk a)) (advanced now s) timed
+
+close-timed : (now a : ℕ) (s : State) (talk : Option Talk) → AreTimed s.controls.controls → AreTimed (close_outcome now a s talk).after.controls.controls
+close-timed now a s None timed = timed
+close-timed now a s (Some talk) timed = with-connection-timed (place_of a) None (without_owner a (advanced now s)) timed
+
+contact-timed : (now k : ℕ) (position : Dbpos) (s : State) (o : Option Switch) → AreTimed s.controls.controls → AreTimed (contact_outcome now k position s o).after.controls.controls
+contact-timed now k position s None timed = timed
+contact-timed now k position s (Some switch) timed = timed
+
+input-timed : (now k : ℕ) (value : Bool) (s : State) (o : Option Bool) → AreTimed s.controls.controls → AreTimed (input_outcome now k value s o).after.controls.controls
+input-timed now k value s None timed = timed
+input-timed now k value s (Some before) timed = timed
+
+measure-timed : (now k : ℕ) (field : MeterField) (value : _) (s : State) (o : Option (List ℕ)) → AreTimed s.controls.controls
+    → AreTimed (measure_outcome now k field value s o).after.controls.controls
+measure-timed now k field value s None timed = timed
+measure-timed now k field value s (Some id) timed = timed
+
+event-timed : (choice : Option ℕ) (now : ℕ) (event : Event) (s : State) → AreTimed s.controls.controls → AreTimed (event_outcome choice now event s).after.controls.controls
+event-timed choice now (Open a) s timed = open-timed now a s (place_of a) (connection_at (place_of a) s) timed
+event-timed choice now (Recv a octets) s timed = recv-timed choice now a octets.now s (connection_at (place_of a) s) timed
+event-timed choice now (Close a) s timed = close-timed now a s (connection_at (place_of a) s) timed
+event-timed choice now (Contact k position) s timed = contact-timed now k position s (slice_get s.switches k) timed
+event-timed choice now (Input k value) s timed = input-timed now k value s (slice_get s.input_values k) timed
+event-timed choice now (Measure k field value) s timed = measure-timed now k field value s (slice_get s.meters k) timed
+event-timed choice now Scan s timed = timed
+
+timed-if : (b : Bool) (x y : Outcome) → AreTimed x.after.controls.controls → AreTimed y.after.controls.controls → AreTimed (cond b x y).after.controls.controls
+timed-if true x y p q = p
+timed-if false x y p q = q
+
+pub step-timed : (choice : Option ℕ) (now : ℕ) (event : Event) (s : State) → AreTimed s.controls.controls → AreTimed (outcome choice now event s).after.controls.controls
+step-timed choice now event s timed = timed-if (nat_lt last_moment now) _ _ timed (timed-if (nat_lt now s.moment) _ _ timed (event-timed choice now event s timed))
+
+pub all-single : (choices : List (Option ℕ)) (events : List (ℕ × Event)) (s : State) → AreTimed s.controls.controls → AllByRecursion IsSingle (outcomes choices events s).answers
+all-single choices [] s timed = tt
+all-single [] (e ∷ es) s timed = (step-single None e.0 e.1 s timed, all-single [] es (outcome None e.0 e.1 s).after (step-timed None e.0 e.1 s timed))
+all-single (choice ∷ choices) (e ∷ es) s timed = (step-single choice e.0 e.1 s timed, all-single choices es (outcome choice e.0 e.1 s).after (step-timed choice e.0 e.1 s timed))
+
+pub all-timed : (choices : List (Option ℕ)) (events : List (ℕ × Event)) (s : State) → AreTimed s.controls.controls → AreTimed (outcomes choices events s).after.controls.controls
+all-timed choices [] s timed = timed
+all-timed [] (e ∷ es) s timed = all-timed [] es (outcome None e.0 e.1 s).after (step-timed None e.0 e.1 s timed)
+all-timed (choice ∷ choices) (e ∷ es) s timed = all-timed choices es (outcome choice e.0 e.1 s).after (step-timed choice e.0 e.1 s timed)

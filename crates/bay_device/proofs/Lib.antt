@@ -18,4 +18,5 @@ pub mod StepLemmas
 pub mod TableLemmas
 pub mod TalkLemmas
 pub mod ToldLemmas
+pub mod TravelLemmas
 pub mod TurnLemmas

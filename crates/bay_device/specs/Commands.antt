@@ -1,5 +1,5 @@
 -- When a device issues a command.
-use Rattle.std.specs.Prelude.{ℕ, ◌≡◌, ◌≢◌, true, List, [], ◌∷◌, All, Option, None, IfOk}
+use Rattle.std.specs.Prelude.{ℕ, ◌≡◌, ◌≢◌, ◌≤◌, true, List, [], ◌∷◌, length, All, Option, None, Result, IfOk}
 use Rattle.bay_tree.specs.Rows.{leaf_of}
 use Rattle.bay_process.specs.Values.{is_truth}
 use Rattle.bay_control.specs.Decisions as control
@@ -9,6 +9,7 @@ use Rattle.bay_device.specs.Device.{State, is_fresh}
 use Rattle.bay_device.specs.Outcomes.{outcome}
 use Rattle.bay_device.specs.declared.event.Event.{Event}
 use Rattle.bay_device.specs.declared.event.Step.{Step}
+use Rattle.bay_device.specs.declared.fault.StepFault.{StepFault}
 
 -- A switch is operated at a moment while the last scan is fresh, its interlocking value (EnaCls for on, EnaOpn for off) is TRUE in the
 -- tree, and no switch of the bay is operating.
@@ -27,3 +28,7 @@ abbrev pub AllCommanded : List (Option ℕ) → List (ℕ × Event) → State �
 AllCommanded choices [] s = Unit {0}
 AllCommanded [] (e ∷ es) s = IfOk (outcome None e.0 e.1 s).answer (AreCommanded e.0 s) × AllCommanded [] es (outcome None e.0 e.1 s).after
 AllCommanded (choice ∷ choices) (e ∷ es) s = IfOk (outcome choice e.0 e.1 s).answer (AreCommanded e.0 s) × AllCommanded choices es (outcome choice e.0 e.1 s).after
+
+-- A step has one command at most.
+abbrev pub IsSingle : Result Step StepFault → Type 0
+IsSingle answer = IfOk answer (λ step. length step.commands ≤ 1)

@@ -1,13 +1,14 @@
 // The device that is handed out: one bay, stepped by events.
-ghost use Rattle.std.specs.Prelude.{◌≡◌, ◌<◌, ℕ, [], List, Option, None, Some, false, length, slice_get, option_map, replicate, IfOk, IsSome, OnErr};
+ghost use Rattle.std.specs.Prelude.{◌≡◌, ◌<◌, ℕ, [], List, Option, None, Some, false, All, length, slice_get, option_map, replicate, IfOk, IsSome, OnErr};
 ghost use Rattle.bay_control.specs.Backing.{AreBacked};
 ghost use Rattle.bay_services.specs.Accepted.{AreNamedAlike};
 ghost use Rattle.bay_services.specs.Bay.{Bay};
+ghost use Rattle.bay_services.specs.Released.{AreTimed};
 ghost use Rattle.bay_transport.specs.Feeding.{IsGoing};
 ghost use Rattle.il_check.specs.Program.{Checked};
 ghost use Rattle.il_image.specs.Images.{encoded};
 ghost use Rattle.il_image.specs.declared.opcode.Version.TheVariants.{Two};
-ghost use Rattle.bay_device.specs.Commands.{AllCommanded, AreCommanded};
+ghost use Rattle.bay_device.specs.Commands.{AllCommanded, AreCommanded, IsSingle};
 ghost use Rattle.bay_device.specs.Device.{bay_of};
 ghost use Rattle.bay_device.specs.Entries.{IsIdle, Leading, entries_all};
 ghost use Rattle.bay_device.specs.LookUps.{switch_place, input_place, meter_place, enabled_of};
@@ -311,6 +312,9 @@ impl Device {
         ensures sure { IsWithoutOctets event.entry → Gives (outcome None now event.entry self.old) result self.new }
         // Each command is one that the interlocking releases, on a fresh scan, while no switch is operating, and comes with its reply.
         ensures commanded { IfOk result (AreCommanded now self.old) }
+        // There is one at most, on a device whose switches take some time, as load makes it; and that stays.
+        ensures single { AreTimed self.old.controls.controls → IsSingle result }
+        ensures timed { AreTimed self.old.controls.controls → AreTimed self.new.controls.controls }
         // What is seen of the event leads its controls on, with such a choice.
         ensures leads { Leading now event.entry self.old result self.new }
         // So does what the octets of the event and of its answer tell.
@@ -336,6 +340,9 @@ impl Device {
         // each command is one that the interlocking releases, on a fresh scan, while no switch is operating, and comes with its reply,
         // whatever the choices;
         ensures commanded { (choices : List (Option ℕ)) → AllCommanded choices events.now self.old }
+        // there is one at most for each event, on a device whose switches take some time, as load makes it;
+        ensures single { IfOk result (λ answers. AreTimed self.old.controls.controls → All IsSingle answers.items) }
+        ensures timed { AreTimed self.old.controls.controls → AreTimed self.new.controls.controls }
         // and on a device that runs a text the tree then holds what the text means, whatever the choices.
         ensures means { (c : Checked) → Runs c self.old → (choices : List (Option ℕ)) → AllMean c choices events.now self.old }
         ensures runs { (c : Checked) → Runs c self.old → Runs c self.new }

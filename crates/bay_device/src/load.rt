@@ -3,6 +3,7 @@ ghost use Rattle.std.specs.Prelude.{◌≡◌, ◌≢◌, ℕ, None, Ok, Err, If
 ghost use Rattle.bay_process.specs.Controls.{AreAllControlRows, HaveSelected};
 ghost use Rattle.bay_process.specs.Layout.{layout_of};
 ghost use Rattle.bay_services.specs.Bay.{shown};
+ghost use Rattle.bay_services.specs.Released.{AreTimed};
 ghost use Rattle.bay_base.specs.Exact.{Gives};
 ghost use Rattle.bay_config.specs.Bay.{bay_of};
 ghost use Rattle.bay_config.specs.Laws.{IsBay};
@@ -215,8 +216,9 @@ pub fn load(alloc: Global, bay: &str, logic: &str) -> Result<Device, LoadFault>
     ensures refused { IfErr result (λ e. e ≢ OutOfMemory → IsRight bay.now logic.now → e ≡ Refused 85 0) }
     // The device runs the program that the text comes to.
     ensures runs { IfOk result (λ device. (c : Checked) × (checked_in (bay_of bay.now) (program_of logic.now) ≡ Ok c) × Runs c device) }
-    // Nothing is selected, and no association is open.
+    // Nothing is selected, and no association is open; each switch that can be operated takes some time.
     ensures idle { IfOk result IsIdle }
+    ensures timed { IfOk result (λ device. AreTimed device.controls.controls) }
 {
     load_texts(alloc, bay, logic)
 }
@@ -247,8 +249,9 @@ fn load_octets(alloc: Global, bay: Bay, image: &[u8]) -> Result<Device, LoadFaul
 pub fn load_image(alloc: Global, bay: &str, image: &[u8]) -> Result<Device, LoadFault>
     ensures ok { IfOk result (λ device. Loads (bay_of bay.now) (decoded image.now) (Ok device)) }
     ensures refused { IfErr result (λ e. e ≢ OutOfMemory → Loads (bay_of bay.now) (decoded image.now) (Err e)) }
-    // Nothing is selected, and no association is open.
+    // Nothing is selected, and no association is open; each switch that can be operated takes some time.
     ensures idle { IfOk result IsIdle }
+    ensures timed { IfOk result (λ device. AreTimed device.controls.controls) }
 {
     let read = read_bay(alloc, bay)?;
     load_octets(alloc, read, image)

@@ -1,5 +1,5 @@
 -- What was read of a PDU is what its octets ask.
-use Rattle.std.proofs.Common.{◌≡◌, ◌≢◌, ◌≤◌, ◌⊎◌, inl, inr, ⊎_elim, ℕ, List, length, Result, Ok, Err, IfOk, refl, ap, sym, subst, ◌∙◌}
+use Rattle.std.proofs.Common.{◌≡◌, ◌≢◌, ◌≤◌, ⊎_elim, Result, Ok, Err, IfOk, ap, sym, subst, ◌∙◌}
 use Rattle.std.specs.declared.alloc.AllocError.{AllocError}
 use Rattle.bay_base.specs.Exact.{Gives}
 use Rattle.bay_mms.specs.RequestViews.{message}
@@ -7,7 +7,7 @@ use Rattle.bay_mms.specs.Requests.{Message}
 use Rattle.bay_mms.specs.declared.fault.MmsFault.{MmsFault}
 use Rattle.bay_mms.specs.declared.fault.MmsFault.TheVariants.{OutOfMemory}
 use Rattle.bay_mms.specs.declared.request.Request.{Request}
-use Rattle.bay_services.specs.Answers.{Answered, answer_of}
+use Rattle.bay_services.specs.Answers.{answer_of}
 use Rattle.bay_services.specs.Bay.{Bay}
 use Rattle.bay_services.specs.Controls.{IsShort}
 use Rattle.bay_services.specs.Views.{AnswersAs, read_as}

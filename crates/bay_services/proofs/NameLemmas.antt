@@ -1,5 +1,5 @@
 -- The names behind a name.
-use Rattle.std.proofs.Common.{◌≡◌, ℕ, List, Option, Some, None, refl, ap, sym, ◌∙◌}
+use Rattle.std.proofs.Common.{◌≡◌, ℕ, List, Option, Some, None, refl, sym, ◌∙◌}
 use Rattle.bay_mms.specs.Pages.{first_page}
 use Rattle.bay_mms.specs.Responses.{error_text}
 use Rattle.bay_mms.specs.declared.response.ErrorClass.TheVariants.{NoSuchObject}

@@ -1,7 +1,6 @@
 -- What reads come to.
-use Rattle.std.proofs.Common.{◌≡◌, ◌≤◌, ℕ, List, [], ◌∷◌, ◌++◌, length, drop, drop-cons, get_or, map, ◌<◌, ◌+◌, add-one, Option, Some, None, Result, Ok, Err, refl, ap, sym, ◌∙◌, arith}
+use Rattle.std.proofs.Common.{◌≡◌, ◌≤◌, ℕ, List, [], ◌∷◌, ◌++◌, length, drop, drop-cons, get_or, map, ◌<◌, ◌+◌, add-one, Option, Some, None, Result, ap, ◌∙◌, arith}
 use Rattle.std.proofs.lemmas.List.{length-append}
-use Rattle.bay_ber.proofs.SizeLemmas.{length-element}
 use Rattle.bay_mms.specs.Responses.{text_result}
 use Rattle.bay_control.specs.Decisions.{Outcome}
 use Rattle.bay_control.specs.declared.cause.AddCause.{AddCause}
@@ -12,8 +11,7 @@ use Rattle.bay_mms.specs.Data.{datum_text}
 use Rattle.bay_mms.specs.Nodes.{data_at}
 use Rattle.bay_mms.specs.RequestViews.{naming}
 use Rattle.bay_mms.specs.Requests.{Naming}
-use Rattle.bay_mms.specs.Responses.{failure_result, read_text}
-use Rattle.bay_mms.specs.Tags.{constructed, int_tag}
+use Rattle.bay_mms.specs.Responses.{failure_result}
 use Rattle.bay_mms.specs.declared.request.Name.{Name}
 use Rattle.bay_tree.specs.Rows.{name_at}
 use Rattle.bay_services.specs.Reads.{Reading, read_all, read_one, read_part, read_row, read_target, select_done, selected_text}

@@ -1,11 +1,11 @@
 -- Each command is released, and there is one at most; no client changes what releases it.
-use Rattle.std.proofs.Common.{◌≡◌, ◌≢◌, ◌<◌, ◌≤◌, ℕ, zero, suc, ◌+◌, Bool, true, false, not, cond, nat_eq, nat_le, List, [], ◌∷◌, ◌++◌, All, codes, get_or, length, Option, Some, None, Result, Ok, Err, is_ok, refl, ap, sym, subst, ◌∙◌, append-nil, arith}
+use Rattle.std.proofs.Common.{◌≡◌, ◌≢◌, ◌≤◌, ℕ, zero, suc, ◌+◌, Bool, true, false, not, cond, nat_eq, nat_le, List, [], ◌∷◌, ◌++◌, All, codes, get_or, length, Option, Some, None, Result, Ok, Err, is_ok, refl, ap, sym, subst, ◌∙◌, append-nil, arith}
 use Rattle.std.specs.List.{AllByRecursion}
 use Rattle.std.proofs.lemmas.Bool.Decides.{nat_tests}
 use Rattle.bay_tree.specs.Rows.{leaf_of, name_at}
 use Rattle.bay_tree.specs.declared.leaf.Leaf.TheVariants as leaf
 use Rattle.bay_tree.specs.declared.row.Row.{Row}
-use Rattle.bay_nodes.specs.Names.{control_names, interlocking_of, closing_of, opening_of}
+use Rattle.bay_nodes.specs.Names.{control_names, interlocking_of}
 use Rattle.bay_nodes.specs.Node.{node_name}
 use Rattle.bay_process.specs.Values.{is_truth}
 use Rattle.bay_process.proofs.ToldLemmas.{IsAway, Keeps, leaf-other}
@@ -22,7 +22,6 @@ use Rattle.bay_mms.specs.Controls.{Control, operate_in, cancel_in}
 use Rattle.bay_mms.specs.Data.{Datum}
 use Rattle.bay_mms.specs.Grammar.{answer_to}
 use Rattle.bay_mms.specs.Requests.{Naming, Asking, identify, names, attributes, read, write, Message, initiate, conclude, confirmed}
-use Rattle.bay_mms.specs.Responses.{read_text, write_text}
 use Rattle.bay_mms.specs.declared.fault.ControlFault.{ControlFault}
 use Rattle.bay_mms.specs.declared.fault.MmsFault.{MmsFault}
 use Rattle.bay_mms.specs.declared.fault.MmsFault.TheVariants.{BadPdu, UnknownService, TooMany, OutOfMemory}
@@ -33,7 +32,7 @@ use Rattle.bay_services.specs.Reads.{Reading, nothing_read, read_all, read_one, 
 use Rattle.bay_services.specs.Released.{AreTimed, IsReleased, Leaves, releasing}
 use Rattle.bay_services.specs.Rows.{row_named}
 use Rattle.bay_services.specs.Targets.{target_of}
-use Rattle.bay_services.specs.Writes.{Writing, nothing_written, cancel_asked, commands_for, decided, operate_asked, operated, select_with_asked, write_all, write_one, write_part, write_row, write_target}
+use Rattle.bay_services.specs.Writes.{Writing, nothing_written, cancel_asked, commands_for, decided, operate_asked, select_with_asked, write_all, write_one, write_part, write_row, write_target}
 use Rattle.bay_services.specs.declared.answer.Command.{Command}
 use Rattle.bay_services.specs.declared.client.Client.{Client}
 use Rattle.bay_services.specs.declared.target.ControlPart.{ControlPart}
@@ -369,7 +368,7 @@ does-served c b id (read ns) =
       sole = λ timed. record { timed = read-all-timed c ns (nothing_read b) timed; single = tt };
     })
 does-served c b id (write ns values) =
-    let kept = kept-all c b ns values (nothing_written b) (record { leaves = leaves-none c.now b; released = tt }) in
+    let kept = kept-all c b ns values (nothing_written b) (kept-nothing c b) in
     does-within c b id _ _ (record { leaves = kept.leaves; released = kept.released; sole = kept.sole })
 
 does-answer : (c : Client) (b : Bay) (r : Result Message MmsFault) → Does c b (answer-of c b r)

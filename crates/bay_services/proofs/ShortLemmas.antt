@@ -1,8 +1,8 @@
 -- Each PDU of an answer has at most 65,000 octets.
-use Rattle.std.proofs.Common.{◌≡◌, ◌≤◌, ◌<◌, ℕ, zero, suc, Bool, true, false, cond, nat_le, All, IfSome, List, [], ◌∷◌, ◌++◌, length, Option, Some, None, option_to_list, Result, Ok, Err, refl, ap, sym, arith}
+use Rattle.std.proofs.Common.{◌≡◌, ◌≤◌, ℕ, zero, suc, Bool, true, false, cond, nat_le, All, IfSome, List, [], ◌∷◌, ◌++◌, length, Option, Some, None, option_to_list, Result, Ok, Err, refl, arith}
 use Rattle.std.proofs.lemmas.Bool.Decides.{nat_tests}
 use Rattle.std.proofs.lemmas.List.Elements.{All-append}
-use Rattle.bay_control.specs.Decisions.{Outcome, cancel_outcome, operate_outcome, select_with_outcome}
+use Rattle.bay_control.specs.Decisions.{cancel_outcome, operate_outcome, select_with_outcome}
 use Rattle.bay_control.specs.declared.cause.AddCause.{AddCause}
 use Rattle.bay_mms.specs.Controls as asked
 use Rattle.bay_mms.specs.Controls.{Control, cancel_in, operate_in}
@@ -20,7 +20,7 @@ use Rattle.bay_mms.specs.Tags.{context}
 use Rattle.bay_mms.proofs.ShortLemmas.{error_short, reject_short}
 use Rattle.bay_ber.proofs.SizeLemmas.{length-element}
 use Rattle.bay_tree.specs.Rows.{name_at}
-use Rattle.bay_services.specs.Answers.{Answered, answer_of, attributes_at, read_asked, responded, said, served, within, write_asked, write_done}
+use Rattle.bay_services.specs.Answers.{Answered, answer_of, attributes_at, read_asked, responded, said, served, write_asked}
 use Rattle.bay_services.specs.Bay.{Bay}
 use Rattle.bay_services.specs.Controls as controls
 use Rattle.bay_services.specs.Controls.{IsShort, ask_of, ending_of, endings, failed_report, has_reports, object_of, refusal_report, refusal_reports, termination_report, view_of}

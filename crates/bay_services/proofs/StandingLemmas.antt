@@ -1,5 +1,5 @@
 -- What stood before is put back, whatever was done to the controls.
-use Rattle.std.proofs.Common.{◌≡◌, ℕ, length, Option, refl, ap, ◌∙◌}
+use Rattle.std.proofs.Common.{◌≡◌, length, ap, ◌∙◌}
 use Rattle.bay_control.specs.Decisions.{State, restored, selected_switch}
 use Rattle.bay_control.specs.declared.selection.Standing.{Standing}
 use Rattle.bay_services.specs.Bay.{Bay, shown, standing_again, with_controls}

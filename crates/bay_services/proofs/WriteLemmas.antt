@@ -1,15 +1,14 @@
 -- What writes come to.
-use Rattle.std.proofs.Common.{◌≡◌, ℕ, List, [], ◌∷◌, ◌++◌, Option, Some, None, Result, Ok, Err, OnOk, drop, drop-cons, length, ◌≤◌, ◌<◌, ◌⊎◌, inl, inr, refl, ap, sym, ◌∙◌}
+use Rattle.std.proofs.Common.{◌≡◌, ℕ, List, [], ◌∷◌, ◌++◌, Option, Result, Ok, Err, ◌⊎◌, inl, inr, refl, ap, sym, ◌∙◌}
 use Rattle.std.proofs.lemmas.List.{append-nil}
 use Rattle.bay_control.specs.Decisions.{Outcome, State}
-use Rattle.bay_control.specs.Requests.{control_of, is_enhanced}
 use Rattle.bay_control.specs.declared.cause.AddCause.{AddCause}
 use Rattle.bay_mms.specs.Controls as asked
 use Rattle.bay_mms.specs.Controls.{Control}
 use Rattle.bay_mms.specs.Data.{Datum}
 use Rattle.bay_mms.specs.Requests.{Naming}
 use Rattle.bay_services.specs.Bay.{Bay, with_controls}
-use Rattle.bay_services.specs.Controls.{ending_of, endings, has_reports, refusal_reports}
+use Rattle.bay_services.specs.Controls.{endings, refusal_reports}
 use Rattle.bay_services.specs.Writes.{Writing, commands_for, decided, decision_result, later_ending, operated, write_all}
 use Rattle.bay_services.specs.declared.answer.Command.{Command}
 use Rattle.bay_services.specs.declared.answer.Ending.{Ending}

@@ -1,5 +1,5 @@
 -- A client's request of a control, and what is told of it (IEC 61850-7-2, 20; IEC 61850-8-1: LastApplError and CommandTermination).
-use Rattle.std.specs.Prelude.{ℕ, ℤ, pos, ◌≤◌, IfSome, Bool, true, List, [], ◌∷◌, ◌++◌, codes, length, nat_le, slice_get, Option, Some, None, option_to_list, Result, Ok, Err, if◌then◌else◌}
+use Rattle.std.specs.Prelude.{ℕ, pos, ◌≤◌, IfSome, Bool, true, List, [], ◌∷◌, ◌++◌, codes, length, slice_get, Option, Some, None, option_to_list, Result, Ok, Err, if◌then◌else◌}
 use Rattle.bay_tree.specs.Rows.{leaf_of}
 use Rattle.bay_tree.specs.declared.leaf.Leaf.{Leaf}
 use Rattle.bay_tree.specs.declared.leaf.Leaf.TheVariants as leaf

@@ -1,5 +1,5 @@
 -- The names that a client asks for (ISO 9506-2, GetNameList).
-use Rattle.std.specs.Prelude.{ℕ, ℤ, pos, ◌≡◌, Bool, false, List, [], ◌∷◌, Option, Some, None, if◌then◌else◌}
+use Rattle.std.specs.Prelude.{ℕ, ℤ, pos, false, List, [], ◌∷◌, Option, Some, None, if◌then◌else◌}
 use Rattle.std.specs.Ordering.{int_eq}
 use Rattle.std.specs.Str.{bytes_eq}
 use Rattle.bay_tree.specs.Page.{rows_after}

@@ -1,5 +1,5 @@
 -- The variable that a client names.
-use Rattle.std.specs.Prelude.{ℕ, List, Option, Some, None, if◌then◌else◌}
+use Rattle.std.specs.Prelude.{ℕ, Option, None, if◌then◌else◌}
 use Rattle.std.specs.Str.{bytes_eq}
 use Rattle.bay_tree.specs.Rows.{place_of}
 use Rattle.bay_mms.specs.Requests.{Naming, vmd, domain, association}

@@ -1,7 +1,8 @@
 use Rattle.bay_config.specs.Bay.{bay_of}
 use Rattle.il_text.specs.Reading.{program_of}
 use Rattle.bay_device.proofs.AcceptLemmas.{accepted-ok, refused-err}
-use Rattle.bay_device.proofs.IdleLemmas.{bay-idle, bay-timed}
+use Rattle.bay_device.proofs.IdleLemmas.{text-idle, text-timed}
+use Rattle.bay_device.proofs.TravelLemmas.{bay-travels}
 use Rattle.bay_device.proofs.load.load.Goals as goal
 
 pub returns-clause-accepted : goal.returns-clause-accepted
@@ -11,7 +12,8 @@ pub returns-clause-refused : goal.returns-clause-refused
 returns-clause-refused c = refused-err c.args.bay.now c.args.logic.now c.load_texts.result c.load_texts.ensures.device
 
 pub returns-clause-idle : goal.returns-clause-idle
-returns-clause-idle c = bay-idle (bay_of c.args.bay.now) (program_of c.args.logic.now) c.load_texts.result c.load_texts.ensures.device
+returns-clause-idle c = text-idle (bay_of c.args.bay.now) (program_of c.args.logic.now) c.load_texts.result c.load_texts.ensures.device
 
 pub returns-clause-timed : goal.returns-clause-timed
-returns-clause-timed c = bay-timed c.args.bay.now (program_of c.args.logic.now) c.load_texts.result c.load_texts.ensures.device
+returns-clause-timed c =
+    text-timed (bay_of c.args.bay.now) (program_of c.args.logic.now) c.load_texts.result (bay-travels c.args.bay.now) c.load_texts.ensures.device

@@ -1,4 +1,4 @@
-use Rattle.std.proofs.Common.{◌≡◌, ◌-◌, ◌≤◌, length}
+use Rattle.std.proofs.Common.{◌≡◌, ◌-◌, length}
 use Rattle.bay_tree.specs.Rows.{name_at}
 use Rattle.bay_services.specs.Targets.{target_from, target_of}
 use Rattle.bay_services.proofs.target.target_at.Given as goal

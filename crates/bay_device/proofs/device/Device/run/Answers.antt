@@ -1,10 +1,17 @@
-use Rattle.std.proofs.Common.{◌≡◌, ◌≤◌, ◌<◌, ◌+◌, ◌∷◌, [], ℕ, List, length, drop, get_or, subst, sym, arith}
+use Rattle.std.proofs.Common.{◌≡◌, ◌≤◌, ◌<◌, ◌+◌, ◌∷◌, [], ℕ, List, length, drop, get_or, Result, subst, sym, arith}
 use Rattle.std.proofs.Math.ListN.{drop_of_length-le}
 use Rattle.std.proofs.lemmas.Grind.{common_steps}
+use Rattle.std.specs.List.{AllByRecursion}
+use Rattle.bay_services.specs.Released.{AreTimed}
+use Rattle.bay_services.proofs.ReleaseLemmas.{all-of}
+use Rattle.bay_device.specs.Commands.{IsSingle}
+use Rattle.bay_device.specs.Device.{State}
 use Rattle.bay_device.specs.Meaning.{Runs}
+use Rattle.bay_device.specs.declared.event.Step.{Step}
+use Rattle.bay_device.specs.declared.fault.StepFault.{StepFault}
 use Rattle.bay_device.specs.declared.event.Event.{Event}
 use Rattle.bay_device.specs.declared.event.Event.TheVariants.{Open}
-use Rattle.bay_device.proofs.CommandLemmas.{all-commanded}
+use Rattle.bay_device.proofs.CommandLemmas.{all-commanded, all-single, all-timed}
 use Rattle.bay_device.proofs.EntryLemmas.{all-are-backed}
 use Rattle.bay_device.proofs.MeaningLemmas.{all-mean, all-run}
 use Rattle.bay_device.proofs.RunLemmas.{leads-none, leads-step, runs-all}
@@ -62,6 +69,17 @@ returns-clause-runs c program runs =
 
 pub returns-clause-commanded : goal.returns-clause-commanded
 returns-clause-commanded c choices = all-commanded choices c.args.events.now c.args.self.now
+
+pub returns-clause-single : goal.returns-clause-single
+returns-clause-single c timed =
+    let done = returns-clause-ok c in
+    let each = all-single done.steps.choices c.args.events.now c.args.self.now timed in
+    all-of IsSingle c.loop-now.answers.items (subst (λ (rs : List (Result Step StepFault)). AllByRecursion IsSingle rs) (sym done.steps.answered) each)
+
+pub returns-clause-timed : goal.returns-clause-timed
+returns-clause-timed c timed =
+    let done = returns-clause-ok c in
+    subst (λ (s : State). AreTimed s.controls.controls) (sym done.steps.left) (all-timed done.steps.choices c.args.events.now c.args.self.now timed)
 
 pub returns-clause-backed : goal.returns-clause-backed
 returns-clause-backed c none choices = all-are-backed choices c.args.events.now c.args.self.now c.has_places.ensures none

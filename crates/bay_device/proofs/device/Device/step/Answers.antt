@@ -1,9 +1,11 @@
 use Rattle.std.proofs.Common.{IfOk, Result, subst, sym}
-use Rattle.bay_device.specs.Commands.{AreCommanded}
+use Rattle.bay_services.specs.Released.{AreTimed}
+use Rattle.bay_device.specs.Commands.{AreCommanded, IsSingle}
+use Rattle.bay_device.specs.Device.{State}
 use Rattle.bay_device.specs.Meaning.{Runs}
 use Rattle.bay_device.specs.declared.event.Step.{Step}
 use Rattle.bay_device.specs.declared.fault.StepFault.{StepFault}
-use Rattle.bay_device.proofs.CommandLemmas.{step-commanded}
+use Rattle.bay_device.proofs.CommandLemmas.{step-commanded, step-single, step-timed}
 use Rattle.bay_device.proofs.EntryLemmas.{leading}
 use Rattle.bay_device.proofs.MeaningLemmas.{means-event, runs-still}
 use Rattle.bay_device.proofs.RecvLemmas.{one-outcome}
@@ -17,6 +19,16 @@ pub returns-clause-commanded : goal.returns-clause-commanded
 returns-clause-commanded c =
     let steps = c.do_event.ensures.steps in
     subst (λ (r : Result Step StepFault). IfOk r (AreCommanded c.args.now c.args.self.now)) (sym steps.answered) (step-commanded steps.choice c.args.now c.args.event c.args.self.now)
+
+pub returns-clause-single : goal.returns-clause-single
+returns-clause-single c timed =
+    let steps = c.do_event.ensures.steps in
+    subst IsSingle (sym steps.answered) (step-single steps.choice c.args.now c.args.event c.args.self.now timed)
+
+pub returns-clause-timed : goal.returns-clause-timed
+returns-clause-timed c timed =
+    let steps = c.do_event.ensures.steps in
+    subst (λ (s : State). AreTimed s.controls.controls) (sym steps.left) (step-timed steps.choice c.args.now c.args.event c.args.self.now timed)
 
 pub returns-clause-means : goal.returns-clause-means
 returns-clause-means c program runs =

@@ -1,9 +1,8 @@
-use Rattle.std.proofs.Common.{◌≡◌, map, ap, sym, subst, true, is_ok, ◌∙◌}
+use Rattle.std.proofs.Common.{◌≡◌, map, ap, sym, true, is_ok, ◌∙◌}
 use Rattle.bay_mms.specs.RequestViews.{naming}
 use Rattle.bay_mms.specs.Responses.{error_text}
 use Rattle.bay_mms.specs.declared.response.ErrorClass.TheVariants.{Resource}
 use Rattle.bay_services.specs.Answers.{said}
-use Rattle.bay_services.specs.Bay.{Bay}
 use Rattle.bay_services.specs.Reads.{nothing_read, read_all}
 use Rattle.bay_services.specs.Views.{bay_view}
 use Rattle.bay_services.proofs.ReplyLemmas.{done, read_fits, read_over, said_as}

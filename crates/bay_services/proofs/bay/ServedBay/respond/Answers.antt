@@ -1,4 +1,4 @@
-use Rattle.std.proofs.Common.{◌≡◌, ap, Result, Ok, None, ◌∙◌}
+use Rattle.std.proofs.Common.{ap, Result, Ok, None, ◌∙◌}
 use Rattle.bay_mms.specs.Responses.{concluded_text}
 use Rattle.bay_mms.specs.declared.fault.MmsFault.{MmsFault}
 use Rattle.bay_mms.specs.declared.request.Request.{Request}

@@ -1,4 +1,4 @@
-use Rattle.std.proofs.Common.{refl, sym}
+use Rattle.std.proofs.Common.{sym}
 use Rattle.bay_services.proofs.PlaceLemmas.{rows_kept}
 use Rattle.bay_services.proofs.DecisionLemmas.{decided, shows}
 use Rattle.bay_services.proofs.bay.ServedBay.restore.Goals as goal

@@ -1,4 +1,4 @@
-use Rattle.std.proofs.Common.{◌≡◌, length, ap, ◌∙◌}
+use Rattle.std.proofs.Common.{length, ap, ◌∙◌}
 use Rattle.std.proofs.lemmas.List.{length-map}
 use Rattle.bay_process.specs.declared.switch.BoundSwitch.{BoundSwitch}
 use Rattle.bay_services.proofs.PlaceLemmas.{switch_there, target_there}

@@ -1,5 +1,5 @@
 use Rattle.std.proofs.Common.{◌∙◌, refl, get_or}
-use Rattle.bay_process.specs.Layout.{layout_of, switches_of}
+use Rattle.bay_process.specs.Layout.{switches_of}
 use Rattle.bay_services.proofs.ViewLemmas.{there, seen_position, seen_opening, seen_closing}
 use Rattle.bay_services.proofs.bay.ServedBay.view.Goals as goal
 

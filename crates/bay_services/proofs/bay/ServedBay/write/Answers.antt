@@ -4,7 +4,6 @@ use Rattle.bay_mms.specs.Views.{data_in}
 use Rattle.bay_mms.specs.Responses.{error_text}
 use Rattle.bay_mms.specs.declared.response.ErrorClass.TheVariants.{Resource}
 use Rattle.bay_services.specs.Answers.{said, write_done}
-use Rattle.bay_services.specs.Bay.{Bay}
 use Rattle.bay_services.specs.Views.{bay_view, writing}
 use Rattle.bay_services.specs.Writes.{nothing_written, write_all}
 use Rattle.bay_services.proofs.ReplyLemmas.{said_as, write_over}

@@ -1,13 +1,11 @@
 use Rattle.std.proofs.Common.{◌≡◌, Ok, refl, ap, sym, ◌∙◌}
 use Rattle.bay_control.specs.Decisions.{cancel_outcome}
-use Rattle.bay_mms.specs.ControlViews.{cancelling, operating, seen}
-use Rattle.bay_mms.specs.Controls as asked
+use Rattle.bay_mms.specs.ControlViews.{cancelling, seen}
 use Rattle.bay_mms.specs.Controls.{cancel_in}
 use Rattle.bay_mms.specs.Views.{datum_of}
 use Rattle.bay_tree.specs.Rows.{name_at}
-use Rattle.bay_control.specs.declared.request.Ask.{Ask}
 use Rattle.bay_services.specs.Views.{bay_view, writing}
-use Rattle.bay_services.specs.Writes.{cancel_asked, decided}
+use Rattle.bay_services.specs.Writes.{cancel_asked}
 use Rattle.bay_services.proofs.PlaceLemmas.{name_kept}
 use Rattle.bay_services.proofs.ReplyLemmas.{both}
 use Rattle.bay_services.proofs.WriteLemmas.{put_down}

@@ -1,7 +1,6 @@
 use Rattle.std.proofs.Common.{◌≡◌, Ok, refl, ap, sym, ◌∙◌}
 use Rattle.bay_control.specs.Decisions.{select_with_outcome}
 use Rattle.bay_mms.specs.ControlViews.{cancelling, operating, seen}
-use Rattle.bay_mms.specs.Controls as asked
 use Rattle.bay_mms.specs.Controls.{operate_in}
 use Rattle.bay_mms.specs.Views.{datum_of}
 use Rattle.bay_tree.specs.Rows.{name_at}

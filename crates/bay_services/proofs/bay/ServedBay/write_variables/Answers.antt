@@ -1,7 +1,6 @@
-use Rattle.std.proofs.Common.{◌≡◌, ◌≤◌, Ok, Err, length, ap, sym, ◌∙◌, arith}
+use Rattle.std.proofs.Common.{Err, ap, ◌∙◌, arith}
 use Rattle.std.specs.Option.{option_copied}
 use Rattle.bay_mms.specs.Writing.{written}
-use Rattle.bay_tree.specs.declared.fault.NamesFault.TheVariants as names
 use Rattle.bay_services.specs.Views.{bay_view}
 use Rattle.bay_services.proofs.NameLemmas.{page_is, unknown_is}
 use Rattle.bay_services.proofs.ReplyLemmas.{is_written}
