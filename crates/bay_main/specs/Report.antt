@@ -12,7 +12,7 @@ use Rattle.bay_main.specs.Scenario.{ScenarioParts, scenario_of, lines_of}
 use Rattle.bay_io.specs.Sent.{SendsPart}
 use Rattle.bay_io.specs.Watched.{Writing}
 use Rattle.bay_io.specs.declared.outbox.WriteFault.{WriteFault}
-use Rattle.bay_main.specs.Trace.{trace_line_of}
+use Rattle.bay_trace.specs.Trace.{trace_line_of}
 use Rattle.bay_device.specs.declared.fault.LoadFault.{LoadFault}
 use Rattle.bay_device.specs.declared.fault.LoadFault.TheVariants.{Refused, OutOfMemory}
 use Rattle.bay_main.specs.Scenario.{scenario_limit}

@@ -6,7 +6,6 @@ ghost use Rattle.bay_main.specs.ScenarioView.{scenario_view};
 
 use crate::answer::answer_line;
 use crate::load::load_octets;
-use crate::octets::LineOctets;
 use crate::output::{CLEAN, FAULT, OUT_OF_MEMORY, REFUSED, write_refusal, write_text};
 use crate::report::report_text;
 use crate::scenario::{Scenario, cut_line, cut_scenario};
@@ -15,6 +14,7 @@ use bay_io::input::{ReadFault, read_all};
 use bay_io::outbox::{Outbox, WriteFault};
 use bay_io::reader::WatchedReader;
 use bay_io::writer::WatchedWriter;
+use bay_trace::octets::LineOctets;
 use std::alloc::Global;
 use std::io::{Read, Write};
 
