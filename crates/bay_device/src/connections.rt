@@ -28,6 +28,14 @@ impl Model for Connections {
     ghost invariant = { λ c. AreEight (talks c.places) };
 }
 
+/// The lowest place at which there is no connection.
+fn free_place_in(places: &[Option<Connection>; PLACES]) -> Option<usize>
+    ensures lowest { result ≡ position is_none places.now }
+    ensures within { IfSome result (λ place. place < 8) }
+{
+    places.iter().position(|place| place.is_none())
+}
+
 /// Takes the connection at a place out.
 fn take_at(places: &mut [Option<Connection>; PLACES], place: usize) -> Option<Connection>
     requires { place < 8 }
@@ -75,7 +83,7 @@ impl Connections {
         ensures lowest { result ≡ position is_none self.now }
         ensures within { IfSome result (λ place. place < 8) }
     {
-        self.places.iter().position(|place| place.is_none())
+        free_place_in(&self.places)
     }
 
     /// Takes the connection at a place out, which is not open then.
