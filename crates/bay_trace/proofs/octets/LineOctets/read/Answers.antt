@@ -1,5 +1,5 @@
-use Rattle.std.proofs.Common.{◌≡◌, ◌/◌, ◌∙◌, length, length-take, take, ap, arith}
-use Rattle.bay_io.proofs.SentLemmas.{at-err}
+use Rattle.std.proofs.Common.{rules, ◌≡◌, ◌<◌, ◌/◌, ◌∙◌, length, length-take, take, ap, arith}
+use Rattle.bay_trace.specs.Digits.{octets_in}
 use Rattle.bay_trace.specs.Placing.{LineRoom}
 use Rattle.bay_trace.proofs.DigitLemmas.{front-of, octets-half}
 use Rattle.bay_trace.proofs.octets.LineOctets.read.Goals as goal
@@ -15,7 +15,9 @@ decode-requires-clause-fits c =
 
 pub returns-in_err-make_room-clause-refused : goal.returns-in_err-make_room-clause-refused
 returns-in_err-make_room-clause-refused c =
-    let half = octets-half c.args.digits.text.now c.args.digits.are_octets in at-err c.from_residual.result (omega (arith, half, c.in_err-make_room.ensures.refused))
+    let half = octets-half c.args.digits.text.now c.args.digits.are_octets in
+    let more : c.args.self.now.room < length (octets_in c.args.digits.text.now) = omega (arith, half, c.in_err-make_room.ensures.refused) in
+    search (rules, more)
 
 pub returns-clause-octets : goal.returns-clause-octets
 returns-clause-octets c =
