@@ -1,5 +1,6 @@
 -- The places of associations.
-use Rattle.std.proofs.Common.{◌≡◌, ℕ, zero, suc, List, [], ◌∷◌, length, slice_get, slice_index_or, slice_set, unwrap_or, Option, None, Some, IfSome, refl, ap, sym, ◌∙◌}
+use Rattle.std.proofs.Common.{◌≡◌, ℕ, zero, suc, ◌+◌, nat_lt, cond, not, List, [], ◌∷◌, length, position, is_none, slice_get, slice_index_or, slice_set, unwrap_or, Option, None, Some, IfSome, refl, ap, sym, ◌∙◌}
+use Rattle.std.specs.List.{prefix_len}
 use Rattle.bay_transport.specs.Feeding.{IsGoing}
 use Rattle.bay_connection.specs.Feeding.{Client}
 use Rattle.bay_connection.specs.Talk.{Talk}
@@ -41,3 +42,16 @@ pub taken : (clients : List (Option Client)) (place : ℕ) (c : Option Client) �
 taken clients place None all is = tt
 taken clients place (Some x) all is =
     all.going place x.talk (taken-going (talks clients) place x.talk all.going (sym (talk-at clients place) ∙ ap talk_in (sym is)))
+
+prefix-talks : (clients : List (Option Client)) → prefix_len (λ t. not (is_none t)) (talks clients) ≡ prefix_len (λ c. not (is_none c)) clients
+prefix-talks [] = refl
+prefix-talks (None ∷ clients) = refl
+prefix-talks (Some c ∷ clients) = ap (λ n. 1 + n) (prefix-talks clients)
+
+talks-length : (clients : List (Option Client)) → length (talks clients) ≡ length clients
+talks-length [] = refl
+talks-length (c ∷ clients) = ap (λ n. suc n) (talks-length clients)
+
+-- the lowest place that is free
+pub talks-free : (clients : List (Option Client)) → position is_none (talks clients) ≡ position is_none clients
+talks-free clients = rw (prefix-talks clients, talks-length clients) refl

@@ -1,8 +1,7 @@
 // The connections of a device's eight associations, each at its place.
-ghost use Rattle.std.specs.Prelude.{◌≡◌, ◌<◌, None, IfSome, is_some, length, replicate, slice_get, slice_index_or, slice_set, unwrap_or};
+ghost use Rattle.std.specs.Prelude.{◌≡◌, ◌<◌, None, IfSome, is_none, is_some, length, position, replicate, slice_get, slice_index_or, slice_set, unwrap_or};
 ghost use Rattle.bay_transport.specs.Feeding.{IsGoing};
 ghost use Rattle.bay_device.specs.Connections.{talk_in};
-ghost use Rattle.bay_device.specs.Outcomes.{place_of};
 
 use bay_connection::connection::Connection;
 use std::marker::Model;
@@ -29,16 +28,12 @@ impl Model for Connections {
     ghost invariant = { λ c. AreEight (talks c.places) };
 }
 
-/// Where an association stands among the eight: none has another number than 1 to 8.
-pub fn place_of(association: u16) -> Option<usize>
-    ensures value { result ≡ place_of association }
+/// The lowest place at which there is no connection.
+fn free_place_in(places: &[Option<Connection>; PLACES]) -> Option<usize>
+    ensures lowest { result ≡ position is_none places.now }
     ensures within { IfSome result (λ place. place < 8) }
 {
-    if 0 < association && association < 9 {
-        Some(usize::from(association - 1))
-    } else {
-        None
-    }
+    places.iter().position(|place| place.is_none())
 }
 
 /// Takes the connection at a place out.
@@ -81,6 +76,14 @@ impl Connections {
         ensures { result ≡ is_some (unwrap_or (slice_get self.now place) None) }
     {
         self.places[place].is_some()
+    }
+
+    /// The lowest place at which no association is open.
+    pub fn free_place(&self) -> Option<usize>
+        ensures lowest { result ≡ position is_none self.now }
+        ensures within { IfSome result (λ place. place < 8) }
+    {
+        free_place_in(&self.places)
     }
 
     /// Takes the connection at a place out, which is not open then.

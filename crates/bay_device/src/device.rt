@@ -1,5 +1,5 @@
 // The device that is handed out: one bay, stepped by events.
-ghost use Rattle.std.specs.Prelude.{◌≡◌, ◌<◌, ℕ, [], List, Option, None, Some, false, All, length, slice_get, option_map, replicate, IfOk, IsSome, OnErr};
+ghost use Rattle.std.specs.Prelude.{◌≡◌, ◌+◌, ◌<◌, ◌≤◌, ℕ, [], List, Option, None, Some, false, All, length, slice_get, option_map, position, replicate, IfOk, IfSome, IsSome, OnErr, is_none, is_some};
 ghost use Rattle.bay_control.specs.Backing.{AreBacked};
 ghost use Rattle.bay_services.specs.Accepted.{AreNamedAlike};
 ghost use Rattle.bay_services.specs.Bay.{Bay};
@@ -20,9 +20,9 @@ ghost use Rattle.bay_device.specs.Steps.{Gives, Hears, IsWithoutOctets, Receives
 ghost use Rattle.bay_device.specs.Told.{AreTalks, Telling, told_all};
 ghost use Rattle.bay_device.specs.declared.event.Event.TheVariants.{Open, Recv, Close, Contact, Input, Measure, Scan};
 
-use crate::connections::{Connections, place_of};
+use crate::connections::Connections;
 use crate::due::forget;
-use crate::event::{Event, LAST_MOMENT, Sent, Step, Why};
+use crate::event::{Event, LAST_MOMENT, Sent, Step, Why, place_of};
 use crate::fault::StepFault;
 use crate::message::Output;
 use crate::octets::drain;
@@ -358,6 +358,32 @@ impl Device {
             answers.push(answer).unwrap();
         }
         Ok(answers)
+    }
+
+    /// The moment of the last accepted event, in milliseconds since 1970; 0 before the first.
+    pub fn moment(&self) -> u64
+        ensures { result ≡ self.now.moment }
+    {
+        self.state.moment
+    }
+
+    /// Whether the association with this number is open.
+    pub fn is_open(&self, association: u16) -> bool
+        ensures { result ≡ is_some (connection_at (place_of association) self.now) }
+    {
+        match place_of(association) {
+            Some(place) => self.connections.is_open(place),
+            None => false,
+        }
+    }
+
+    /// The lowest number of an association that is not open.
+    pub fn free_association(&self) -> Option<u16>
+        ensures lowest { result ≡ option_map (λ place. place + 1) (position is_none self.now.connections) }
+        ensures within { IfSome result (λ a. (0 < a) × (a ≤ 8)) }
+    {
+        let place = self.connections.free_place()?;
+        Some(place as u16 + 1)
     }
 
     /// How many switches the bay has.

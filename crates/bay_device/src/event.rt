@@ -1,4 +1,7 @@
 // What happens to a device, and what is answered.
+ghost use Rattle.std.specs.Prelude.{◌≡◌, ◌<◌, IfSome};
+ghost use Rattle.bay_device.specs.Outcomes.{place_of};
+
 use bay_base::listing::Listing;
 use bay_config::bay::MeterField;
 use bay_services::answer::Command;
@@ -42,6 +45,18 @@ pub enum Event<'a> {
     },
     /// The program runs once.
     Scan,
+}
+
+/// Where an association stands among the eight: none has another number than 1 to 8.
+pub fn place_of(association: u16) -> Option<usize>
+    ensures value { result ≡ place_of association }
+    ensures within { IfSome result (λ place. place < 8) }
+{
+    if 0 < association && association < 9 {
+        Some(usize::from(association - 1))
+    } else {
+        None
+    }
 }
 
 /// Octets that are to be sent to a client.

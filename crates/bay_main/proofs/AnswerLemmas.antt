@@ -4,13 +4,14 @@ use Rattle.std.proofs.lemmas.Bool.Decides.{nat_tests}
 use Rattle.bay_device.specs.Device.{State}
 use Rattle.bay_device.specs.Outcomes.{Outcome, outcome}
 use Rattle.bay_device.specs.declared.event.Event.{Event}
-use Rattle.bay_device.specs.declared.event.Event.TheVariants.{Open, Recv, Close, Contact, Input, Measure, Scan}
 use Rattle.bay_io.specs.Sent.{Sends, SendsPart, Puts}
 use Rattle.bay_io.specs.Watched.{Writing}
 use Rattle.bay_io.specs.declared.outbox.WriteFault.{WriteFault}
-use Rattle.bay_main.specs.Answering.{Answers, Does, LineRoom, Takes, Took, anywhere}
-use Rattle.bay_main.specs.LineAnswers.{Choice, LineAnswer, Replaying, count_of, event_answer, memory_answer, named_answer, placed_event, step_text, unread}
-use Rattle.bay_main.specs.Trace.{NamedData}
+use Rattle.bay_main.specs.Answering.{Answers, Does}
+use Rattle.bay_main.specs.LineAnswers.{Choice, LineAnswer, Replaying, event_answer, memory_answer, named_answer, step_text, unread}
+use Rattle.bay_trace.specs.Placing.{anywhere, count_of, placed_event}
+use Rattle.bay_trace.specs.Trace.{NamedData}
+use Rattle.bay_trace.proofs.PlacingLemmas.{same-anywhere}
 use Rattle.bay_io.proofs.SentLemmas.{Sends-none, Puts-cut, Puts-then}
 
 -- of a text, all but the rest was added to what was pending
@@ -56,16 +57,6 @@ module _ {W : Type 0} (contents : W → Option (List ℕ)) (pending : List ℕ) 
       let all : text ≡ r.done = r.whole ∙ ap (λ t. r.done ++ t) e ∙ append-nil r.done in
       (subst (λ t. Sends (contents old.inner) (contents new.inner) (pending ++ t) left) (sym all) r.sent, r.well)
 
--- where the octets of an event lie is all the same
-pub same-anywhere : (choice : Option ℕ) (now : ℕ) (event : Event) (s : State) → outcome choice now event s ≡ outcome choice now (anywhere event) s
-same-anywhere choice now (Open a) s = refl
-same-anywhere choice now (Recv a octets) s = refl
-same-anywhere choice now (Close a) s = refl
-same-anywhere choice now (Contact k position) s = refl
-same-anywhere choice now (Input k value) s = refl
-same-anywhere choice now (Measure k field value) s = refl
-same-anywhere choice now Scan s = refl
-
 -- what an event comes to is told by what is taken for it
 pub Does-same : {W : Type 0} (contents : W → Option (List ℕ)) (pending : List ℕ) (old : Writing W) (now : ℕ) (event other : Event) (before : State) (left : List ℕ) (new : Writing W) (after : State) (result : Result Unit WriteFault)
     → anywhere event ≡ other → Does contents pending old now event before left new after result → (choice : Option ℕ) × Puts contents pending old (step_text now (outcome choice now other before).answer (outcome choice now other before).after) left new result × (after ≡ (outcome choice now other before).after)
@@ -77,14 +68,6 @@ Does-same contents pending old now event other before left new after result e d 
     )
 
 -- ---- what is taken for a line
-
-pub took-not : {X E : Type 0} (event : NamedData) (old new : LineRoom) (r : Result X E) → is_err r ≡ true → Takes event old new r → old.room < count_of event
-took-not event old new (Ok x) is t = absurd cc
-took-not event old new (Err e) is t = t
-
-pub took : {X E : Type 0} (event : NamedData) (old new : LineRoom) (r : Result X E) → is_err r ≡ false → Takes event old new r → Took event old new
-took event old new (Ok x) is t = t
-took event old new (Err e) is t = absurd cc
 
 pub memory-said : (now : ℕ) (event : NamedData) (r : Replaying) → r.room < count_of event → named_answer unread now event r ≡ memory_answer r
 memory-said now event r lt = by_test (nat_lt r.room (count_of event)) refl

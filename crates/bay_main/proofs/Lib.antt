@@ -1,11 +1,8 @@
 pub mod AnswerLemmas
 pub mod CheckLemmas
 pub mod CommandLemmas
-pub mod DigitLemmas
 pub mod FeedLemmas
+pub mod HexLemmas
 pub mod JobLemmas
 pub mod PieceLemmas
 pub mod ReportLemmas
-pub mod TextLemmas
-pub mod VerbLemmas
-pub mod WordLemmas

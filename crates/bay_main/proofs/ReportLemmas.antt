@@ -11,7 +11,7 @@ use Rattle.bay_main.specs.LineAnswers.{Choice, Replaying, command_text, commands
 use Rattle.bay_main.specs.Report.{TraceReport, HeadReport, Reports, ReportsPart, Prints}
 use Rattle.bay_main.specs.Scenario.{content, lines_of, CutsLine}
 use Rattle.bay_io.specs.Sent.{Sends, SendsPart}
-use Rattle.bay_main.specs.Trace.{trace_line_of}
+use Rattle.bay_trace.specs.Trace.{trace_line_of}
 use Rattle.bay_io.specs.Watched.{Writing}
 use Rattle.bay_io.specs.declared.outbox.WriteFault.{WriteFault}
 use Rattle.bay_io.proofs.SentLemmas.{Sends-more, SendsPart-of_more, SendsPart-more, Sends-trans}

@@ -1,6 +1,9 @@
+-- What public clauses cite of the crate below.
+pub use Rattle.bay_trace.specs.Placing
+pub use Rattle.bay_trace.specs.Trace
+-- Its own definitions.
 pub mod Answering
 pub mod Commands
-pub mod Digits
 pub mod Ending
 pub mod Files
 pub mod Jobs
@@ -10,5 +13,3 @@ pub mod Load
 pub mod Report
 pub mod Scenario
 pub mod ScenarioView
-pub mod Trace
-pub mod TraceView

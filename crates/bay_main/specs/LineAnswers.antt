@@ -1,22 +1,21 @@
 -- What is printed for a line of the trace.
-use Rattle.std.specs.Prelude.{ℕ, ◌+◌, max, nat_lt, Bool, true, false, List, [], ◌∷◌, ◌++◌, length, slice_get, codes, unwrap_or, Option, None, Some, Result, Ok, Err, if◌then◌else◌}
-use Rattle.std.specs.Borrow.{Bor}
+use Rattle.std.specs.Prelude.{ℕ, ◌+◌, max, nat_lt, Bool, true, false, List, [], ◌∷◌, ◌++◌, slice_get, codes, Option, None, Some, Result, Ok, Err, if◌then◌else◌}
 use Rattle.std.specs.Fmt.{decimal}
 use Rattle.hex.specs.Hex.{encode_lower}
 use Rattle.bay_nodes.specs.declared.switch.Switch.{Switch}
 use Rattle.bay_services.specs.declared.answer.Command.{Command}
 use Rattle.bay_device.specs.Code.{step_code_of}
 use Rattle.bay_device.specs.Device.{State}
-use Rattle.bay_device.specs.LookUps.{switch_place, input_place, meter_place, may_open, may_close}
+use Rattle.bay_device.specs.LookUps.{may_open, may_close}
 use Rattle.bay_device.specs.Outcomes.{outcome}
 use Rattle.bay_device.specs.declared.event.Event.{Event}
-use Rattle.bay_device.specs.declared.event.Event.TheVariants.{Open, Recv, Close, Contact, Input, Measure, Scan}
 use Rattle.bay_device.specs.declared.event.Sent.{Sent}
 use Rattle.bay_device.specs.declared.event.Step.{Step}
 use Rattle.bay_device.specs.declared.event.Why.{Why}
 use Rattle.bay_device.specs.declared.event.Why.TheVariants.{Ended, Fault, Memory}
 use Rattle.bay_device.specs.declared.fault.StepFault.{StepFault}
-use Rattle.bay_main.specs.Trace.{NamedData, LineData, connects, receives, disconnects, contact, input, measure, scan, blank, at_moment}
+use Rattle.bay_trace.specs.Placing.{count_of, placed_event}
+use Rattle.bay_trace.specs.Trace.{NamedData, LineData, blank, at_moment}
 
 -- TRUE is 1
 abbrev pub digit_of : Bool → List ℕ
@@ -141,20 +140,6 @@ pub data Choice : Type 0 where
   unread : Choice
   heard : Option ℕ → Choice
 
--- octets, wherever they lie
-abbrev pub lying : List ℕ → Bor (List ℕ)
-lying octets = record { ref_ptr = (0, 0); now = octets }
-
--- the event of a switch, an input or a meter by its place; the place of an unknown name is one at which there is none
-abbrev pub placed_event : State → NamedData → Event
-placed_event s (connects a) = Open a
-placed_event s (receives a octets) = Recv a (lying octets)
-placed_event s (disconnects a) = Close a
-placed_event s (contact id position) = Contact (unwrap_or (switch_place s id) (length s.switches)) position
-placed_event s (input name value) = Input (unwrap_or (input_place s name) (length s.input_values)) value
-placed_event s (measure id field value) = Measure (unwrap_or (meter_place s id) (length s.meters)) field value
-placed_event s scan = Scan
-
 -- an event is done, of which a line has so many octets
 abbrev pub event_answer : Option ℕ → ℕ → Event → ℕ → Replaying → LineAnswer
 event_answer choice now event count r =
@@ -164,16 +149,6 @@ event_answer choice now event count r =
 -- There is no memory for a line's octets, of which there are more than in any line before.
 abbrev pub memory_answer : Replaying → LineAnswer
 memory_answer r = record { text = codes "fault memory\n"; is_last = true; after = r }
-
--- the octets that a line has
-abbrev pub count_of : NamedData → ℕ
-count_of (receives a octets) = length octets
-count_of (connects a) = 0
-count_of (disconnects a) = 0
-count_of (contact id position) = 0
-count_of (input name value) = 0
-count_of (measure id field value) = 0
-count_of scan = 0
 
 -- what happens is done; room for its octets may be refused where there are more than there is room for
 abbrev pub named_answer : Choice → ℕ → NamedData → Replaying → LineAnswer

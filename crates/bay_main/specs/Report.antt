@@ -12,7 +12,7 @@ use Rattle.bay_main.specs.Scenario.{ScenarioParts, scenario_of, lines_of}
 use Rattle.bay_io.specs.Sent.{SendsPart}
 use Rattle.bay_io.specs.Watched.{Writing}
 use Rattle.bay_io.specs.declared.outbox.WriteFault.{WriteFault}
-use Rattle.bay_main.specs.Trace.{trace_line_of}
+use Rattle.bay_trace.specs.Trace.{trace_line_of}
 use Rattle.bay_device.specs.declared.fault.LoadFault.{LoadFault}
 use Rattle.bay_device.specs.declared.fault.LoadFault.TheVariants.{Refused, OutOfMemory}
 use Rattle.bay_main.specs.Scenario.{scenario_limit}
@@ -137,3 +137,10 @@ abbrev pub Prints : {W : Type 0} → (W → Option (List ℕ)) → (List ℕ →
 Prints contents May old new (Ok status) =
     Reports May (contents old.inner) (contents new.inner) status × ((new.has_failed ≡ false) × (new.is_flushed ≡ true))
 Prints contents May old new (Err fault) = ReportsPart May (contents old.inner) (contents new.inner) × (new.has_failed ≡ true)
+
+-- a scenario was replayed from a reader to a writer, of which nobody is told whether they failed: there is a last state of the writer in
+-- which it has taken a whole text that may be printed, or where it failed a front of one
+pub record Replays {R W : Type 0} (remaining : R → Option (List ℕ)) (contents : W → Option (List ℕ)) (reader : R) (writer : W) (result : Result ℕ WriteFault) : Type 0 where
+  pub has_read_failed : Bool
+  pub last : Writing W
+  pub printed : Prints contents (IsReplay (remaining reader) has_read_failed) (record { inner = writer; has_failed = false; is_flushed = false }) last result

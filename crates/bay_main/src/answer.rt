@@ -1,19 +1,19 @@
 // What is printed for a line of the trace.
 ghost use Rattle.std.specs.Prelude.{◌≡◌, false};
 ghost use Rattle.bay_io.specs.Sent.{Puts};
-ghost use Rattle.bay_main.specs.Answering.{Answers, AreOctets, Does, Takes, anywhere};
-ghost use Rattle.bay_main.specs.LineAnswers.{line_answer, named_answer, placed_event, unreadable_text};
-ghost use Rattle.bay_main.specs.Trace.{trace_line_of};
-ghost use Rattle.bay_main.specs.TraceView.{named_view};
+ghost use Rattle.bay_main.specs.Answering.{Answers, Does};
+ghost use Rattle.bay_main.specs.LineAnswers.{line_answer, named_answer, unreadable_text};
+ghost use Rattle.bay_trace.specs.Trace.{trace_line_of};
+ghost use Rattle.bay_trace.specs.TraceView.{named_view};
 
 use crate::lines::{put_last_number, put_step};
-use crate::octets::LineOctets;
-use crate::trace::{NamedEvent, TraceLine, read_trace_line};
 use bay_device::device::Device;
 use bay_device::event::Event;
 use bay_io::outbox::{Outbox, WriteFault};
 use bay_io::writer::WatchedWriter;
-use std::alloc::AllocError;
+use bay_trace::octets::LineOctets;
+use bay_trace::placing::{placed_event, take_octets};
+use bay_trace::trace::{NamedEvent, TraceLine, read_trace_line};
 use std::io::Write;
 
 /// Writes the line that says which line can't be read.
@@ -28,45 +28,6 @@ fn put_unreadable<W: Write>(
 {
     outbox.put(writer, b"fault 120 line ")?;
     put_last_number(outbox, writer, number as u64)
-}
-
-/// Takes the octets of what happens, if it has any.
-fn take_octets(octets: &mut LineOctets, event: &NamedEvent<'_>) -> Result<(), AllocError>
-    ensures { Takes (named_view event.now) octets.old octets.new result }
-{
-    match event {
-        NamedEvent::Recv { digits, .. } => octets.read(*digits),
-        _ => Ok(()),
-    }
-}
-
-/// The event by its place in the device; what has no place is told apart by a place at which there is nothing.
-fn placed_event<'a>(device: &Device, octets: &'a [u8], event: NamedEvent<'_>) -> Event<'a>
-    requires { AreOctets (named_view event) octets.now }
-    ensures { anywhere result ≡ placed_event device.now (named_view event.entry) }
-{
-    match event {
-        NamedEvent::Open { association } => Event::Open { association },
-        NamedEvent::Recv { association, .. } => Event::Recv {
-            association,
-            octets,
-        },
-        NamedEvent::Close { association } => Event::Close { association },
-        NamedEvent::Contact { id, position } => Event::Contact {
-            switch: device.switch(id).unwrap_or(device.switch_count()),
-            position,
-        },
-        NamedEvent::Input { name, value } => Event::Input {
-            input: device.input(name).unwrap_or(device.input_count()),
-            value,
-        },
-        NamedEvent::Measure { id, field, value } => Event::Measure {
-            meter: device.meter(id).unwrap_or(device.meter_count()),
-            field,
-            value,
-        },
-        NamedEvent::Scan => Event::Scan,
-    }
 }
 
 /// Does an event, and writes what is printed for it.

@@ -11,7 +11,7 @@ use crate::ending::Ended;
 use crate::files::{BothFiles, FileFault, FileSystem, read_both};
 use crate::load::{Form, load_octets};
 use crate::output::{CLEAN, FAULT, write_refusal, write_report, write_text};
-use crate::replay::replay_run;
+use crate::replay::replay_watched;
 use crate::words::{Job, Verb, WordsFault, job_of};
 use bay_device::device::Device;
 use bay_io::input::ReadFault;
@@ -189,7 +189,7 @@ fn do_job<F: FileSystem, R: Read, W: Write>(
             }
             _ => unreachable!(),
         },
-        Verb::Replay => replay_run(alloc, reader, writer),
+        Verb::Replay => replay_watched(alloc, reader, writer),
     }
 }
 

@@ -1,20 +1,21 @@
 // Reads a scenario, replays it, and writes its report.
 ghost use Rattle.std.specs.Prelude.{◌≡◌, ◌+◌, ◌≤◌, length, true, OnOk, is_err};
-ghost use Rattle.bay_main.specs.Report.{HeadReport, DeviceReport, MayReport, IsLast, MayRefuse, LoadsReport, IsReport, IsReplay, Prints};
+ghost use Rattle.bay_main.specs.Report.{HeadReport, DeviceReport, MayReport, IsLast, MayRefuse, LoadsReport, IsReport, IsReplay, Prints, Replays};
 ghost use Rattle.bay_main.specs.Scenario.{scenario_limit, lines_of};
 ghost use Rattle.bay_main.specs.ScenarioView.{scenario_view};
 
 use crate::answer::answer_line;
 use crate::load::load_octets;
-use crate::octets::LineOctets;
 use crate::output::{CLEAN, FAULT, OUT_OF_MEMORY, REFUSED, write_refusal, write_text};
 use crate::report::report_text;
 use crate::scenario::{Scenario, cut_line, cut_scenario};
 use bay_device::device::Device;
 use bay_io::input::{ReadFault, read_all};
-use bay_io::outbox::{Outbox, WriteFault};
+use bay_io::outbox::Outbox;
+pub use bay_io::outbox::WriteFault;
 use bay_io::reader::WatchedReader;
 use bay_io::writer::WatchedWriter;
+use bay_trace::octets::LineOctets;
 use std::alloc::Global;
 use std::io::{Read, Write};
 
@@ -104,7 +105,7 @@ fn replay_scenario<W: Write>(
 ///
 /// A scenario of more than 16,777,216 octets is a fault, and so is a read that fails. Of a reader of which a
 /// read has failed before, and of such a writer, nothing is asked.
-pub fn replay_run<R: Read, W: Write>(
+pub fn replay_watched<R: Read, W: Write>(
     alloc: Global,
     reader: &mut WatchedReader<R>,
     writer: &mut WatchedWriter<W>,
@@ -120,4 +121,20 @@ pub fn replay_run<R: Read, W: Write>(
         Err(ReadFault::TooLong) => write_text(writer, b"fault 121\n", FAULT),
         Err(ReadFault::Failed) => write_text(writer, b"fault 121\n", FAULT),
     }
+}
+
+/// The same from any reader to any writer, which are taken.
+///
+/// Nothing says of them whether a read or a write has failed, so a fault of either may be told at any time; whoever wants it told
+/// only where one failed watches them.
+pub fn replay_run<R: Read + Drop, W: Write + Drop>(
+    alloc: Global,
+    reader: R,
+    writer: W,
+) -> Result<u8, WriteFault>
+    ensures { Replays R.remaining W.contents reader writer result }
+{
+    let mut reader = WatchedReader::new(reader);
+    let mut writer = WatchedWriter::new(writer);
+    replay_watched(alloc, &mut reader, &mut writer)
 }

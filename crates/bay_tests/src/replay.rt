@@ -5,7 +5,7 @@ ghost use Rattle.std.specs.Io.KnownBytes.{Keeps, ReadConsumes, WriteAppends};
 
 use bay_io::reader::WatchedReader;
 use bay_io::writer::WatchedWriter;
-use bay_main::replay::replay_run;
+use bay_main::replay::{replay_run, replay_watched};
 use std::alloc::Global;
 use std::io;
 use std::io::{ErrorKind, Read, Write};
@@ -105,7 +105,7 @@ fn outcome_of(
     };
     let mut reader = WatchedReader::new(&mut given);
     let mut writer = WatchedWriter::new(&mut taken);
-    let status = match replay_run(alloc, &mut reader, &mut writer) {
+    let status = match replay_watched(alloc, &mut reader, &mut writer) {
         Ok(status) => status,
         Err(_) => 255,
     };
@@ -194,8 +194,16 @@ fn reads_no_more_than_the_limit(rt: HostRuntime) -> Result<(), Fail> {
         fails_at: 0,
     });
     let mut writer = WatchedWriter::new(Vec::new(rt.alloc()));
-    let found = replay_run(rt.alloc(), &mut reader, &mut writer);
+    let found = replay_watched(rt.alloc(), &mut reader, &mut writer);
     assert!(rt; found.ok() == Some(3) && reader.reads() == 16_777_217);
     assert!(rt; !reader.has_failed() && writer.is_flushed());
+    Ok(())
+}
+
+#[test]
+fn needs_no_watch(rt: HostRuntime) -> Result<(), Fail> {
+    let mut taken = Vec::new(rt.alloc());
+    let found = replay_run(rt.alloc(), scenario(), &mut taken);
+    assert!(rt; found.ok() == Some(0) && taken.as_slice() == report());
     Ok(())
 }

@@ -4,7 +4,7 @@ use bay_device::device::Device;
 use bay_device::load::load;
 use bay_io::reader::WatchedReader;
 use bay_io::writer::WatchedWriter;
-use bay_main::replay::replay_run;
+use bay_main::replay::replay_watched;
 use cases::words::first_word;
 use std::alloc::{AllocError, Global};
 
@@ -45,7 +45,7 @@ fn check(alloc: Global, scenario: &[u8], report: &[u8], status: u8) -> Result<()
     let mut reader = WatchedReader::new(scenario);
     let mut taken = Vec::new(alloc);
     let mut writer = WatchedWriter::new(&mut taken);
-    let found = replay_run(alloc, &mut reader, &mut writer).ok();
+    let found = replay_watched(alloc, &mut reader, &mut writer).ok();
     let is_done = !reader.has_failed() && !writer.has_failed() && writer.is_flushed();
     if !is_done || found != Some(status) || taken.as_slice() != report {
         bail!("the scenario is to end with {status}");

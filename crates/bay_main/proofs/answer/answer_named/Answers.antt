@@ -1,7 +1,9 @@
 use Rattle.std.proofs.Common.{true, false, refl, sym, ap₂, ◌∙◌}
-use Rattle.bay_main.specs.LineAnswers.{Replaying, heard, named_answer, placed_event, unread}
-use Rattle.bay_main.specs.TraceView.{named_view}
-use Rattle.bay_main.proofs.AnswerLemmas.{Does-same, answers-err, answers-ok, memory-said, took, took-not}
+use Rattle.bay_main.specs.LineAnswers.{Replaying, heard, named_answer, unread}
+use Rattle.bay_main.proofs.AnswerLemmas.{Does-same, answers-err, answers-ok, memory-said}
+use Rattle.bay_trace.proofs.PlacingLemmas.{took, took-not}
+use Rattle.bay_trace.specs.Placing.{placed_event}
+use Rattle.bay_trace.specs.TraceView.{named_view}
 use Rattle.bay_main.proofs.answer.answer_named.Goals as goal
 
 pub returns-in_err-put : goal.returns-in_err-put

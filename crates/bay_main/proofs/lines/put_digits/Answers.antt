@@ -2,7 +2,7 @@ use Rattle.std.proofs.Common.{◌≡◌, [], length, ap, ◌∙◌, arith}
 use Rattle.std.proofs.lemmas.Bool.Decides.{nat_tests}
 use Rattle.hex.specs.Hex.{encode_lower, lower_digits}
 use Rattle.bay_main.proofs.AnswerLemmas.{Rest-step, Rest-cut, Rest-end}
-use Rattle.bay_main.proofs.DigitLemmas.{encode-append, encode-nil}
+use Rattle.bay_main.proofs.HexLemmas.{encode-append, encode-nil}
 use Rattle.bay_main.proofs.ReportLemmas.{nil_from_length}
 use Rattle.bay_main.proofs.lines.put_digits.Goals as goal
 

@@ -2,7 +2,7 @@ use Rattle.std.proofs.Common.{rules, ◌+◌, ◌-◌, ◌<◌, length, subst, a
 use Rattle.bay_main.specs.Scenario.{CutsLine}
 use Rattle.bay_main.proofs.FeedLemmas.{first_feed, no_feed}
 use Rattle.bay_main.proofs.PieceLemmas.{cuts_fed, cuts_unfed}
-use Rattle.bay_main.proofs.WordLemmas.{take_rest}
+use Rattle.bay_trace.proofs.WordLemmas.{take_rest}
 use Rattle.bay_main.proofs.scenario.cut_line.Goals as goal
 
 pub slice_bounds-without_return-end : goal.slice_bounds-without_return-end

@@ -1,8 +1,0 @@
-use Rattle.std.proofs.Common.{rules}
-use Rattle.bay_main.proofs.VerbLemmas.{alone-position}
-use Rattle.bay_main.proofs.trace.contact.Goals as goal
-
-pub returns-in_err-position : goal.returns-in_err-position
-returns-in_err-position c =
-    let none = alone-position c.in_ok-told.field-0.now in
-    search (rules, none)

@@ -1,0 +1,60 @@
+-- What a link is asked, and what it answers.
+use Rattle.std.specs.Prelude.{◌≡◌, ℕ, ◌+◌, ◌≤◌, Bool, true, false, if◌then◌else◌, min, List, [], ◌∷◌, length, take, Option, is_none, Result, Ok, Err}
+use Rattle.bay_serve.specs.declared.link.Got.{Got}
+use Rattle.bay_serve.specs.declared.link.Got.TheVariants.{Bytes, Nothing, End}
+
+-- what a read brought: octets, nothing yet, the end, or a failure
+pub data Heard : Type 0 where
+  Octets : List ℕ → Heard
+  Silence : Heard
+  Over : Heard
+  Broken : Heard
+
+-- one call, with the number of an association: whether a connection was taken for it; how many octets were asked for, and what came;
+-- the octets offered, and how many of them were taken; a closing. None stands for a failure
+pub data Call : Type 0 where
+  Accepts : ℕ → Option Bool → Call
+  Reads : ℕ → ℕ → Heard → Call
+  Writes : ℕ → List ℕ → Option ℕ → Call
+  Closes : ℕ → Call
+
+-- what a read's answer says, with the octets that were put into its room
+abbrev pub heard : {E : Type 0} → Result Got E → List ℕ → Heard
+heard (Ok (Bytes n)) room = Octets (take n room)
+heard (Ok Nothing) room = Silence
+heard (Ok End) room = Over
+heard (Err e) room = Broken
+
+-- a read brings no more octets than there is room for
+abbrev pub FitsIn : {E : Type 0} → List ℕ → Result Got E → Type 0
+FitsIn room (Ok (Bytes n)) = n ≤ length room
+FitsIn room (Ok Nothing) = Unit {0}
+FitsIn room (Ok End) = Unit {0}
+FitsIn room (Err e) = Unit {0}
+
+abbrev pub is_broken : Heard → Bool
+is_broken (Octets xs) = false
+is_broken Silence = false
+is_broken Over = false
+is_broken Broken = true
+
+-- the call failed
+abbrev pub is_failed : Call → Bool
+is_failed (Accepts a taken) = is_none taken
+is_failed (Reads a room what) = is_broken what
+is_failed (Writes a octets taken) = is_none taken
+is_failed (Closes a) = false
+
+-- how many failures there are after a call that may have failed, counted up to 18,446,744,073,709,551,615
+abbrev pub failures_after : ℕ → Bool → ℕ
+failures_after n failed = if failed then min (n + 1) 18446744073709551615 else n
+
+-- one call of a link, which counts its failures
+pub record Called {L : Type 0} (does : L → Call → L → Type 0) (failures : L → ℕ) (old : L) (call : Call) (new : L) : Type 0 where
+  pub done : does old call new
+  pub counted : failures new ≡ failures_after (failures old) (is_failed call)
+
+-- the calls, each in the state of the link that the one before left
+abbrev pub Talks : {L : Type 0} → (L → Call → L → Type 0) → L → List Call → L → Type 0
+Talks step old [] new = old ≡ new
+Talks {L} step old (call ∷ calls) new = (mid : L) × step old call mid × Talks step mid calls new

@@ -1,0 +1,17 @@
+-- The numbers of closings and faults.
+use Rattle.std.specs.Prelude.{ℕ, Option, Some, None}
+use Rattle.bay_serve.specs.declared.told.Closing.{Closing}
+use Rattle.bay_serve.specs.declared.told.Closing.TheVariants.{Ended, Fault, QueueFull, LinkFailed}
+use Rattle.bay_serve.specs.declared.fault.ServeFault.{ServeFault}
+use Rattle.bay_serve.specs.declared.fault.ServeFault.TheVariants.{BadLine, MomentTooLarge, OutOfMemory}
+
+abbrev pub code_of : Closing → ℕ
+code_of Ended = 0
+code_of (Fault code) = code
+code_of QueueFull = 130
+code_of LinkFailed = 131
+
+abbrev pub serve_code_of : ServeFault → Option ℕ
+serve_code_of BadLine = Some 120
+serve_code_of MomentTooLarge = Some 114
+serve_code_of OutOfMemory = None

@@ -1,0 +1,96 @@
+-- What a turn does, with the link that it is done over.
+use Rattle.std.specs.Prelude.{◌≡◌, ℕ, nat_lt, Bool, true, false, List, ◌++◌, length, drop, Option, Some, None, option_and_then, option_map, if◌then◌else◌}
+use Rattle.std.specs.Borrow.{Bor}
+use Rattle.bay_device.specs.Outcomes.{last_moment}
+use Rattle.bay_trace.specs.Trace.{NamedData, process_of, trace_line_of}
+use Rattle.bay_serve.specs.Calls.{Call, Talks}
+use Rattle.bay_serve.specs.Offers.{offered, after_calls}
+use Rattle.bay_serve.specs.Turns.{Held, Script, Turning, after_each, calls_of_each, moment_at, taken_in, turned, turn_calls}
+use Rattle.bay_serve.specs.declared.fault.ServeFault.{ServeFault}
+use Rattle.bay_serve.specs.declared.fault.ServeFault.TheVariants.{BadLine, MomentTooLarge, OutOfMemory}
+use Rattle.bay_serve.specs.declared.told.Turn.{Turn}
+
+-- ---- why a turn is not done
+
+-- what a line tells of the process: a contact, an input or a measure
+abbrev pub line_of : List ℕ → Option NamedData
+line_of text = process_of (trace_line_of text)
+
+abbrev pub line_in : Option (List ℕ) → Option NamedData
+line_in line = option_and_then line_of line
+
+-- the line of a turn, if there is one
+abbrev pub text_in : Option (Bor (List ℕ)) → Option (List ℕ)
+text_in line = option_map (λ (text : Bor (List ℕ)). text.now) line
+
+abbrev pub refusal_behind : Bool → Option ServeFault
+refusal_behind is_late = if is_late then Some MomentTooLarge else None
+
+abbrev pub refusal_of : Option NamedData → Bool → Option ServeFault
+refusal_of None is_late = Some BadLine
+refusal_of (Some told) is_late = refusal_behind is_late
+
+abbrev pub refusal_at : Option (List ℕ) → Bool → Option ServeFault
+refusal_at None is_late = refusal_behind is_late
+refusal_at (Some text) is_late = refusal_of (line_of text) is_late
+
+-- A line that tells of no contact, no input and no measure comes first, and then a moment that is too large.
+abbrev pub turn_refusal : ℕ → Option (List ℕ) → Held → Option ServeFault
+turn_refusal clock line h = refusal_at line (nat_lt last_moment (moment_at clock h))
+
+-- Want of memory is told only where nothing else is.
+abbrev pub IsRefused : ServeFault → Option ServeFault → Type 0
+IsRefused BadLine refusal = refusal ≡ Some BadLine
+IsRefused MomentTooLarge refusal = refusal ≡ Some MomentTooLarge
+IsRefused OutOfMemory refusal = refusal ≡ None
+
+-- ---- its parts
+
+-- octets of an open association were taken in
+pub record TakesIn (now place : ℕ) (octets : List ℕ) (before after : Turning) : Type 0 where
+  pub choice : Option ℕ
+  pub is : after ≡ taken_in now place choice octets before
+
+module _ {L : Type 0} (step : L → Call → L → Type 0) where
+  -- a part of a turn was done: with some choice, the calls and what is left are the part's
+  pub record Goes {C : Type 0} (f : C → Turning → Turning) (calls : C → Turning → List Call) (old new : L) (before after : Turning) : Type 0 where
+    pub choice : C
+    pub talks : Talks step old (calls choice before) new
+    pub is : after ≡ f choice before
+
+  -- it was done for the first places, so many
+  pub record GoesEach {C : Type 0} (f : ℕ → C → Turning → Turning) (calls : ℕ → C → Turning → List Call) (old new : L) (count : ℕ) (before after : Turning) : Type 0 where
+    pub choices : List C
+    pub many : length choices ≡ count
+    pub talks : Talks step old (calls_of_each f calls 0 choices before) new
+    pub is : after ≡ after_each f 0 choices before
+
+  -- octets were offered to the link: how many were taken, and whether a write failed
+  pub record Offers (old new : L) (a : ℕ) (octets : List ℕ) (done : ℕ) (failed : Bool) : Type 0 where
+    pub takes : List ℕ
+    pub fails : Bool
+    pub talks : Talks step old (offered a octets takes fails).calls new
+    pub left : (offered a octets takes fails).left ≡ drop done octets
+    pub failed_is : (offered a octets takes fails).failed ≡ failed
+
+  -- octets are being offered: so many were taken up to here
+  pub record Offering (old new : L) (a : ℕ) (octets : List ℕ) (done : ℕ) : Type 0 where
+    pub takes : List ℕ
+    pub calls : List Call
+    pub talks : Talks step old calls new
+    pub goes : (later : List ℕ) (fails : Bool) → offered a octets (takes ++ later) fails ≡ after_calls calls (offered a (drop done octets) later fails)
+
+  -- ---- a turn
+
+  -- There is a script, of what the link answered to an accept, eight reads and eight offers and of where memory was refused, such that the calls on the
+  -- link, the server after them and what the turn tells are the script's.
+  pub record Serves (old new : L) (now : ℕ) (line : Option NamedData) (before after : Held) (turn : Turn) : Type 0 where
+    pub script : Script
+    pub all_read : length script.readings ≡ 8
+    pub all_offered : length script.offers ≡ 8
+    pub talks : Talks step old (turn_calls now line script before) new
+    pub server : after ≡ (turned now line script before).server
+    pub refused : turn.refused ≡ (turned now line script before).noted.refused
+    pub commands : turn.commands ≡ (turned now line script before).noted.commands
+    pub closed : turn.closed ≡ (turned now line script before).noted.closed
+    pub memory : turn.memory ≡ (turned now line script before).noted.memory

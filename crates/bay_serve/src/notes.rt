@@ -1,0 +1,149 @@
+// What a turn has to remember.
+ghost use Rattle.std.specs.Prelude.{◌≡◌, ◌+◌, ◌<◌, ◌++◌, ◌∷◌, [], Some, true, length, IfOk, IfSome};
+ghost use Rattle.bay_serve.specs.Standings.{filled, is_leaving};
+ghost use Rattle.bay_serve.specs.Turns.{first_full, goes, leaves, nothing_noted, standing_in, stands};
+ghost use Rattle.bay_serve.specs.declared.standing.Standing.TheVariants.{Gone};
+
+use crate::server::ASSOCIATIONS;
+use crate::standing::Standing;
+use crate::told::{Closing, Turn};
+use bay_base::listing::Listing;
+use bay_device::event::Why;
+use bay_services::answer::Command;
+use std::alloc::{AllocError, Global};
+use std::marker::Model;
+
+/// How each association stands, and what the turn will tell. The room for that was taken at first: one entry for each association, and
+/// one command for each that is read.
+#[derive(Drop)]
+pub struct Notes {
+    standings: [Standing; ASSOCIATIONS],
+    refused: Option<u8>,
+    commands: Vec<Command>,
+    closed: Vec<(u16, Closing)>,
+    memory: Vec<u16>,
+}
+
+impl Model for Notes {
+    ghost use Rattle.bay_serve.specs.Turns.{Noted};
+    ghost use Rattle.bay_serve.specs.Room.{HasEntries};
+
+    ghost Value = { Noted };
+
+    ghost view = { λ n. record { standings = n.standings; refused = n.refused; commands = n.commands.items; closed = n.closed.items; memory = n.memory.items } };
+
+    ghost invariant = { λ n. HasEntries n.standings n.commands n.closed n.memory };
+}
+
+impl Notes {
+    /// Nothing has come of any association, and there is nothing to tell.
+    pub fn new(alloc: Global) -> Result<Self, AllocError>
+        ensures { IfOk result (λ notes. notes ≡ nothing_noted) }
+    {
+        let commands = Vec::with_capacity(alloc, ASSOCIATIONS)?;
+        let closed = Vec::with_capacity(alloc, ASSOCIATIONS)?;
+        let memory = Vec::with_capacity(alloc, ASSOCIATIONS)?;
+        Ok(Notes {
+            standings: [Standing::Steady; ASSOCIATIONS],
+            refused: None,
+            commands,
+            closed,
+            memory,
+        })
+    }
+
+    /// How the association at a place stands.
+    pub fn standing(&self, place: usize) -> Standing
+        requires { place < 8 }
+        ensures { result ≡ standing_in place self.now }
+    {
+        self.standings[place]
+    }
+
+    /// The place of the lowest association to which a reply did not fit.
+    pub fn first_full(&self) -> Option<usize>
+        ensures lowest { result ≡ first_full self.now }
+        ensures within { IfSome result (λ place. place < 8) }
+    {
+        self.standings.iter().position(|standing| standing.is_full())
+    }
+
+    /// A reply to the association at a place did not fit its queue.
+    pub fn fill(&mut self, place: usize)
+        requires { place < 8 }
+        ensures { self.new ≡ stands place (filled (standing_in place self.old)) self.old }
+    {
+        self.standings[place] = self.standings[place].filled();
+    }
+
+    /// The device has closed the association at a place, or its client has; its queue is to be offered once more.
+    pub fn leave(&mut self, place: usize, why: Why)
+        requires { place < 8 }
+        ensures { self.new ≡ leaves place why self.old }
+    {
+        if !self.standings[place].is_told() {
+            match why {
+                Why::Ended => self.closed.push((place as u16 + 1, Closing::Ended)).unwrap(),
+                Why::Fault(code) => {
+                    self.closed.push((place as u16 + 1, Closing::Fault(code))).unwrap();
+                }
+                Why::Memory => self.memory.push(place as u16 + 1).unwrap(),
+            }
+        }
+        self.standings[place] = Standing::Leaving;
+    }
+
+    /// The association at a place was closed, and there is nothing left to send.
+    pub fn go(&mut self, place: usize, closing: Closing)
+        requires { place < 8 }
+        ensures { self.new ≡ goes place closing self.old }
+    {
+        if !self.standings[place].is_told() {
+            self.closed.push((place as u16 + 1, closing)).unwrap();
+        }
+        self.standings[place] = Standing::Gone;
+    }
+
+    /// What is left to send to an association that was closed has been offered.
+    pub fn part(&mut self, place: usize)
+        requires place { place < 8 }
+        requires leaving { is_leaving (standing_in place self.old) ≡ true }
+        ensures { self.new ≡ stands place Gone self.old }
+    {
+        self.standings[place] = Standing::Gone;
+    }
+
+    /// Tells that the device has refused what the line told.
+    pub fn refuse(&mut self, code: u8)
+        ensures { self.new ≡ record self.old { refused = Some code } }
+    {
+        self.refused = Some(code);
+    }
+
+    /// Tells that a switch is to be operated.
+    pub fn command(&mut self, command: Command)
+        requires { length self.old.commands < 8 }
+        ensures { self.new ≡ record self.old { commands = self.old.commands ++ command ∷ [] } }
+    {
+        self.commands.push(command).unwrap();
+    }
+
+    /// What the turn tells.
+    pub fn into_turn(self) -> Turn
+        ensures { result ≡ record { refused = self.refused; commands = self.commands; closed = self.closed; memory = self.memory } }
+    {
+        let Notes {
+            standings: _,
+            refused,
+            commands,
+            closed,
+            memory,
+        } = self;
+        Turn {
+            refused,
+            commands: Listing::new(commands),
+            closed: Listing::new(closed),
+            memory: Listing::new(memory),
+        }
+    }
+}

@@ -1,0 +1,78 @@
+// What is still to be sent is offered to the clients.
+ghost use Rattle.std.specs.Prelude.{◌≡◌, ◌+◌, ◌<◌, ◌≤◌, length};
+ghost use Rattle.bay_serve.specs.Calls.{Called};
+ghost use Rattle.bay_serve.specs.Served.{Goes, GoesEach, Offers};
+ghost use Rattle.bay_serve.specs.Turns.{offer_calls, offer_one, turning};
+
+use crate::closing::{cut_off, settle};
+use crate::link::Link;
+use crate::notes::Notes;
+use crate::server::{ASSOCIATIONS, Server};
+use crate::told::Closing;
+
+/// How an offer went: how many octets were taken, and whether a write failed.
+#[derive(Clone, Copy)]
+struct Offered {
+    done: usize,
+    failed: bool,
+}
+
+/// Offers octets to a client until none is left, until a write takes none, or until one fails.
+fn offer<L: Link>(octets: &[u8], link: &mut L, association: u16) -> Offered
+    requires low { 0 < association }
+    requires high { association ≤ 8 }
+    ensures within { result.done ≤ length octets.now }
+    ensures offers { Offers (Called L.does L.failures) link.old link.new association octets.now result.done result.failed }
+{
+    let mut done = 0;
+    while done < octets.len() {
+        match link.write(association, &octets[done..]) {
+            Ok(0) => {
+                return Offered {
+                    done,
+                    failed: false,
+                };
+            }
+            Ok(count) => done += count,
+            Err(_) => return Offered { done, failed: true },
+        }
+    }
+    Offered {
+        done,
+        failed: false,
+    }
+}
+
+/// Offers the queue of an association, if it is open or leaving.
+fn offer_one<L: Link>(server: &mut Server, notes: &mut Notes, link: &mut L, now: u64, place: usize)
+    requires { place < 8 }
+    ensures { Goes (Called L.does L.failures) (offer_one now place) (offer_calls now place) link.old link.new (turning server.old notes.old) (turning server.new notes.new) }
+{
+    let association = place as u16 + 1;
+    if notes.standing(place).is_leaving() {
+        offer(server.queue(place), link, association);
+        link.close(association);
+        server.clear(place);
+        notes.part(place);
+        return;
+    }
+    if !server.is_open(place) {
+        return;
+    }
+    let offered = offer(server.queue(place), link, association);
+    if offered.failed {
+        cut_off(server, notes, link, now, place, Closing::LinkFailed);
+        settle(server, notes, link, now);
+    } else {
+        server.drop_front(place, offered.done);
+    }
+}
+
+/// Offers all queues, in the order of their numbers.
+pub fn offer_each<L: Link>(server: &mut Server, notes: &mut Notes, link: &mut L, now: u64)
+    ensures { GoesEach (Called L.does L.failures) (offer_one now) (offer_calls now) link.old link.new 8 (turning server.old notes.old) (turning server.new notes.new) }
+{
+    for place in 0..ASSOCIATIONS {
+        offer_one(server, notes, link, now, place);
+    }
+}

@@ -1,0 +1,100 @@
+// Connections are taken, and clients are read.
+ghost use Rattle.std.specs.Prelude.{◌≡◌, ◌+◌, ◌<◌, ◌≤◌, length};
+ghost use Rattle.bay_serve.specs.Calls.{Called};
+ghost use Rattle.bay_serve.specs.Served.{Goes, GoesEach, TakesIn};
+ghost use Rattle.bay_serve.specs.Turns.{accept_calls, accepted, read_calls, read_one, turning};
+
+use crate::closing::{cut_off, settle};
+use crate::link::{Got, Link};
+use crate::notes::Notes;
+use crate::sending::{put_all, put_ended, step_quietly, tell_commands};
+use crate::server::{ASSOCIATIONS, Server};
+use crate::told::Closing;
+use bay_device::event::{Event, Why};
+
+/// How many octets of a client are read in a turn at most.
+const PIECE: usize = 4096;
+
+/// Takes a connection that waits, if there is one and a number is free.
+pub fn accept_one<L: Link>(server: &mut Server, notes: &mut Notes, link: &mut L, now: u64)
+    ensures goes { Goes (Called L.does L.failures) (accepted now) (accept_calls now) link.old link.new (turning server.old notes.old) (turning server.new notes.new) }
+    ensures commands { notes.new.commands ≡ notes.old.commands }
+{
+    let Some(place) = server.free_place() else {
+        return;
+    };
+    let association = place as u16 + 1;
+    match link.accept(association) {
+        Ok(true) => {
+            step_quietly(server, notes, now, Event::Open { association });
+            settle(server, notes, link, now);
+        }
+        Ok(false) => {}
+        Err(_) => {}
+    }
+}
+
+/// The device takes in octets of a client, and the queues what it sends.
+fn take_in(server: &mut Server, notes: &mut Notes, now: u64, place: usize, octets: &[u8])
+    requires place { place < 8 }
+    requires room { length notes.old.commands < 8 }
+    ensures takes { TakesIn now place octets.now (turning server.old notes.old) (turning server.new notes.new) }
+    ensures grows { length notes.new.commands ≤ length notes.old.commands + 1 }
+{
+    let association = place as u16 + 1;
+    let Ok(step) = server.step(
+        now,
+        Event::Recv {
+            association,
+            octets,
+        },
+    ) else {
+        return;
+    };
+    if let Some((_, why)) = step.closed {
+        notes.leave(place, why);
+    }
+    put_ended(server, notes, &step.ended);
+    put_all(server, notes, step.sent.as_slice());
+    tell_commands(server, notes, step.commands.as_slice());
+}
+
+/// Reads a client once, if its association is open.
+fn read_one<L: Link>(server: &mut Server, notes: &mut Notes, link: &mut L, now: u64, place: usize)
+    requires place { place < 8 }
+    requires room { length notes.old.commands < 8 }
+    ensures goes { Goes (Called L.does L.failures) (read_one now place) (read_calls now place) link.old link.new (turning server.old notes.old) (turning server.new notes.new) }
+    ensures grows { length notes.new.commands ≤ length notes.old.commands + 1 }
+{
+    if !server.is_open(place) {
+        return;
+    }
+    let association = place as u16 + 1;
+    let mut room = [0; PIECE];
+    match link.read(association, &mut room) {
+        Ok(Got::Bytes(count)) => {
+            take_in(server, notes, now, place, &room[..count]);
+            settle(server, notes, link, now);
+        }
+        Ok(Got::Nothing) => {}
+        Ok(Got::End) => {
+            notes.leave(place, Why::Ended);
+            step_quietly(server, notes, now, Event::Close { association });
+            settle(server, notes, link, now);
+        }
+        Err(_) => {
+            cut_off(server, notes, link, now, place, Closing::LinkFailed);
+            settle(server, notes, link, now);
+        }
+    }
+}
+
+/// Reads all clients, in the order of their numbers.
+pub fn read_each<L: Link>(server: &mut Server, notes: &mut Notes, link: &mut L, now: u64)
+    requires { length notes.old.commands ≤ 0 }
+    ensures { GoesEach (Called L.does L.failures) (read_one now) (read_calls now) link.old link.new 8 (turning server.old notes.old) (turning server.new notes.new) }
+{
+    for place in 0..ASSOCIATIONS {
+        read_one(server, notes, link, now, place);
+    }
+}

@@ -1,0 +1,134 @@
+// A device with what is still to be sent to each of its clients.
+ghost use Rattle.std.specs.Prelude.{◌≡◌, ℕ, ◌+◌, ◌<◌, ◌≤◌, ◌++◌, [], None, length, drop, replicate, IfSome, IfOk, IfErr, if◌then◌else◌};
+ghost use Rattle.bay_services.specs.Released.{AreTimed};
+ghost use Rattle.bay_device.specs.Commands.{IsSingle};
+ghost use Rattle.bay_device.specs.Outcomes.{outcome};
+ghost use Rattle.bay_device.specs.Steps.{Gives, IsWithoutOctets, Steps};
+ghost use Rattle.bay_serve.specs.Turns.{free_place, has_room, is_up_in, put_queue, queue_at};
+
+use crate::queue::Queue;
+use bay_device::device::Device;
+use bay_device::event::{Event, Step};
+use bay_device::fault::StepFault;
+use std::alloc::{AllocError, Global};
+use std::marker::Model;
+
+/// How many associations there are.
+pub(crate) const ASSOCIATIONS: usize = 8;
+
+/// A device, and for each association at most 262,144 octets that are still to be sent to it. The room for them was taken at first.
+#[derive(Drop)]
+pub struct Server {
+    device: Device,
+    queues: Vec<Queue>,
+}
+
+impl Model for Server {
+    ghost use Rattle.bay_serve.specs.Turns.{Held};
+    ghost use Rattle.std.specs.Coded.{codes};
+
+    ghost Value = { Held };
+
+    ghost coded = { Prim.hlevel codes };
+
+    ghost use Rattle.bay_serve.specs.Serving.{IsServing};
+
+    ghost view = { λ s. record { device = s.device; queues = s.queues.items } };
+
+    ghost invariant = { λ s. IsServing s.device s.queues.items };
+}
+
+/// Eight empty queues.
+fn make_queues(alloc: Global) -> Result<Vec<Queue>, AllocError>
+    ensures { IfOk result (λ queues. queues.items ≡ replicate 8 []) }
+{
+    let mut queues = Vec::with_capacity(alloc, ASSOCIATIONS)?;
+    for i in 0..ASSOCIATIONS {
+        queues.push(Queue::new(alloc)?)?;
+    }
+    Ok(queues)
+}
+
+impl Server {
+    /// A server of a device of which no association is open, and each switch that can be operated takes some time, as load makes it.
+    /// It takes the room of eight queues; where there is no memory for them, the device comes back.
+    pub fn new(alloc: Global, device: Device) -> Result<Self, Device>
+        requires closed { device.connections ≡ replicate 8 None }
+        requires timed { AreTimed device.controls.controls }
+        ensures ok { IfOk result (λ server. server ≡ record { device = device; queues = replicate 8 [] }) }
+        ensures err { IfErr result (λ back. back ≡ device) }
+    {
+        match make_queues(alloc) {
+            Ok(queues) => Ok(Server { device, queues }),
+            Err(_) => Err(device),
+        }
+    }
+
+    /// The device, to look at.
+    pub fn device(&self) -> &Device
+        ensures { result.now ≡ self.now.device }
+    {
+        &self.device
+    }
+
+    /// Whether the association at a place is open.
+    pub(crate) fn is_open(&self, place: usize) -> bool
+        requires { place < 8 }
+        ensures { result ≡ is_up_in place self.now }
+    {
+        self.device.is_open(place as u16 + 1)
+    }
+
+    /// The place of the lowest association that is free.
+    pub(crate) fn free_place(&self) -> Option<usize>
+        ensures lowest { result ≡ free_place self.now }
+        ensures within { IfSome result (λ place. place < 8) }
+    {
+        let association = self.device.free_association()?;
+        Some(usize::from(association - 1))
+    }
+
+    /// Does one event on the device.
+    pub(crate) fn step(&mut self, now: u64, event: Event<'_>) -> Result<Step, StepFault>
+        ensures steps { Steps now event.entry self.old.device result self.new.device }
+        ensures sure { IsWithoutOctets event.entry → Gives (outcome None now event.entry self.old.device) result self.new.device }
+        ensures single { IsSingle result }
+        ensures queues { self.new.queues ≡ self.old.queues }
+    {
+        self.device.step(now, event)
+    }
+
+    /// What is still to be sent to the association at a place.
+    pub(crate) fn queue(&self, place: usize) -> &[u8]
+        requires { place < 8 }
+        ensures { result.now ≡ queue_at place self.now }
+    {
+        self.queues[place].as_slice()
+    }
+
+    /// Adds octets where there is room for all of them, and answers whether there was.
+    pub(crate) fn put(&mut self, place: usize, octets: &[u8]) -> bool
+        requires { place < 8 }
+        ensures fits { result ≡ has_room (queue_at place self.old) octets.now }
+        ensures after { self.new ≡ (if result then put_queue place (queue_at place self.old ++ octets.now) self.old else self.old) }
+    {
+        self.queues[place].put(octets)
+    }
+
+    /// Drops the first octets of what is still to be sent.
+    pub(crate) fn drop_front(&mut self, place: usize, count: usize)
+        requires place { place < 8 }
+        requires count { count ≤ length (queue_at place self.old) }
+        ensures { self.new ≡ put_queue place (drop count (queue_at place self.old)) self.old }
+    {
+        self.queues[place].drop_front(count);
+    }
+
+    /// Drops all that is still to be sent.
+    pub(crate) fn clear(&mut self, place: usize)
+        requires { place < 8 }
+        ensures { self.new ≡ put_queue place [] self.old }
+    {
+        self.queues[place].clear();
+    }
+}

@@ -1,0 +1,104 @@
+// One turn of the server.
+ghost use Rattle.std.specs.Prelude.{◌≡◌, [], None, Some, Option, option_map, IfOk, IfErr, IfSome, OnErr, OnOk};
+ghost use Rattle.bay_trace.specs.Placing.{AreOctets};
+ghost use Rattle.bay_trace.specs.TraceView.{named_view};
+ghost use Rattle.bay_serve.specs.Calls.{Called, Talks};
+ghost use Rattle.bay_serve.specs.Served.{IsRefused, Serves, line_in, text_in, turn_refusal};
+ghost use Rattle.bay_serve.specs.Turns.{line_calls, lined, moment_at, scan_calls, scanned, told_of, turning};
+
+use crate::closing::settle;
+use crate::fault::ServeFault;
+use crate::line::read_line;
+use crate::link::Link;
+use crate::notes::Notes;
+use crate::offering::offer_each;
+use crate::reading::{accept_one, read_each};
+use crate::sending::{put_ended, step_quietly};
+use crate::server::Server;
+use crate::told::Turn;
+use bay_device::event::Event;
+use bay_trace::placing::placed_event;
+use bay_trace::trace::NamedEvent;
+use std::alloc::{AllocError, Global};
+
+/// The last moment that an event may have, in milliseconds since 1970.
+const LAST_MOMENT: u64 = 4_294_967_295_999;
+
+/// What a line tells of the process happens at the turn's moment.
+fn tell(server: &mut Server, notes: &mut Notes, now: u64, event: NamedEvent<'_>)
+    requires { AreOctets (named_view event) [] }
+    ensures after { turning server.new notes.new ≡ told_of now (named_view event.entry) (turning server.old notes.old) }
+{
+    let event = placed_event(server.device(), &[], event);
+    match server.step(now, event) {
+        Ok(step) => put_ended(server, notes, &step.ended),
+        Err(fault) => notes.refuse(fault.code()),
+    }
+}
+
+/// What a line tells of the process happens, if there is a line.
+fn tell_line<L: Link>(
+    server: &mut Server,
+    notes: &mut Notes,
+    link: &mut L,
+    now: u64,
+    line: Option<NamedEvent<'_>>,
+)
+    requires { IfSome line (λ event. AreOctets (named_view event) []) }
+    ensures talks { Talks (Called L.does L.failures) link.old (line_calls now (option_map named_view line.entry) (turning server.old notes.old)) link.new }
+    ensures after { turning server.new notes.new ≡ lined now (option_map named_view line.entry) (turning server.old notes.old) }
+{
+    if let Some(event) = line {
+        tell(server, notes, now, event);
+        settle(server, notes, link, now);
+    }
+}
+
+/// The program runs once.
+fn scan<L: Link>(server: &mut Server, notes: &mut Notes, link: &mut L, now: u64)
+    ensures talks { Talks (Called L.does L.failures) link.old (scan_calls now (turning server.old notes.old)) link.new }
+    ensures after { turning server.new notes.new ≡ scanned now (turning server.old notes.old) }
+{
+    step_quietly(server, notes, now, Event::Scan);
+    settle(server, notes, link, now);
+}
+
+/// One turn, at the greater of the clock's moment (in milliseconds since 1970) and the last. At most one connection that waits is taken, under
+/// the lowest free number. Each association is read once, in order, up to 4,096 octets; one whose client sends no more is closed, and so is one
+/// whose read fails, with 131. The contact, the input or the measure that the line tells of happens, whatever the line's own moment. The
+/// program runs once. What is still to be sent to each association is written as far as the link takes it; where a write fails, the
+/// association is closed with 131, and so it is with 130 where a reply does not fit into what is still to be sent to it.
+///
+/// A line that tells of no contact, no input and no measure is refused first, and then a moment that is too large; where there is no memory for
+/// what the turn would tell, nothing is done either.
+pub fn serve_turn<L: Link>(
+    alloc: Global,
+    server: &mut Server,
+    link: &mut L,
+    clock: u64,
+    line: Option<&str>,
+) -> Result<Turn, ServeFault>
+    // There is a script with which the calls on the link, the server after them and what is told are the turn's.
+    ensures ok { IfOk result (λ turn. Serves (Called L.does L.failures) link.old link.new (moment_at clock server.old) (line_in (text_in line.entry)) server.old server.new turn) }
+    // A turn is done where its line and its moment are right, and where it is not there is want of memory or it says why.
+    ensures right { OnOk result (turn_refusal clock (text_in line.entry) server.old ≡ None) }
+    ensures refused { IfErr result (λ fault. IsRefused fault (turn_refusal clock (text_in line.entry) server.old)) }
+    ensures server_kept { OnErr result (server.new ≡ server.old) }
+    ensures link_kept { OnErr result (link.new ≡ link.old) }
+{
+    let line = read_line(line)?;
+    let now = clock.max(server.device().moment());
+    if now > LAST_MOMENT {
+        return Err(ServeFault::MomentTooLarge);
+    }
+    let mut notes = match Notes::new(alloc) {
+        Ok(notes) => notes,
+        Err(AllocError) => return Err(ServeFault::OutOfMemory),
+    };
+    accept_one(server, &mut notes, link, now);
+    read_each(server, &mut notes, link, now);
+    tell_line(server, &mut notes, link, now, line);
+    scan(server, &mut notes, link, now);
+    offer_each(server, &mut notes, link, now);
+    Ok(notes.into_turn())
+}

@@ -1,0 +1,5 @@
+pub mod DigitLemmas
+pub mod PlacingLemmas
+pub mod TextLemmas
+pub mod VerbLemmas
+pub mod WordLemmas

@@ -1,0 +1,4 @@
+pub mod Digits
+pub mod Placing
+pub mod Trace
+pub mod TraceView

@@ -1,0 +1,66 @@
+-- The event of a device that a line of the trace tells of: by its place, with its octets, for which there is room.
+use Rattle.std.specs.Prelude.{◌≡◌, ℕ, ◌<◌, max, List, length, unwrap_or, Result, Ok, Err}
+use Rattle.std.specs.Borrow.{Bor}
+use Rattle.bay_device.specs.Device.{State}
+use Rattle.bay_device.specs.LookUps.{switch_place, input_place, meter_place}
+use Rattle.bay_device.specs.declared.event.Event.{Event}
+use Rattle.bay_device.specs.declared.event.Event.TheVariants.{Open, Recv, Close, Contact, Input, Measure, Scan}
+use Rattle.bay_trace.specs.Trace.{NamedData, connects, receives, disconnects, contact, input, measure, scan}
+
+-- octets, wherever they lie
+abbrev pub lying : List ℕ → Bor (List ℕ)
+lying octets = record { ref_ptr = (0, 0); now = octets }
+
+-- the event of a switch, an input or a meter by its place; the place of an unknown name is one at which there is none
+abbrev pub placed_event : State → NamedData → Event
+placed_event s (connects a) = Open a
+placed_event s (receives a octets) = Recv a (lying octets)
+placed_event s (disconnects a) = Close a
+placed_event s (contact id position) = Contact (unwrap_or (switch_place s id) (length s.switches)) position
+placed_event s (input name value) = Input (unwrap_or (input_place s name) (length s.input_values)) value
+placed_event s (measure id field value) = Measure (unwrap_or (meter_place s id) (length s.meters)) field value
+placed_event s scan = Scan
+
+-- an event with its octets lying anywhere
+abbrev pub anywhere : Event → Event
+anywhere (Recv a octets) = Recv a (lying octets.now)
+anywhere (Open a) = Open a
+anywhere (Close a) = Close a
+anywhere (Contact k position) = Contact k position
+anywhere (Input k value) = Input k value
+anywhere (Measure k field value) = Measure k field value
+anywhere Scan = Scan
+
+-- the octets that a line has
+abbrev pub count_of : NamedData → ℕ
+count_of (receives a octets) = length octets
+count_of (connects a) = 0
+count_of (disconnects a) = 0
+count_of (contact id position) = 0
+count_of (input name value) = 0
+count_of (measure id field value) = 0
+count_of scan = 0
+
+-- the octets of a line, and for how many there is room
+pub record LineRoom : Type 0 where
+  pub octets : List ℕ
+  pub room : ℕ
+
+-- these are the octets of what happens, if it has any
+abbrev pub AreOctets : NamedData → List ℕ → Type 0
+AreOctets (receives a xs) octets = octets ≡ xs
+AreOctets (connects a) octets = Unit {0}
+AreOctets (disconnects a) octets = Unit {0}
+AreOctets (contact id position) octets = Unit {0}
+AreOctets (input name value) octets = Unit {0}
+AreOctets (measure id field value) octets = Unit {0}
+AreOctets scan octets = Unit {0}
+
+-- the octets of what happens were taken, or there was no room for so many and no memory for more
+pub record Took (event : NamedData) (old new : LineRoom) : Type 0 where
+  pub octets : AreOctets event new.octets
+  pub room : new.room ≡ max old.room (count_of event)
+
+abbrev pub Takes : {X E : Type 0} → NamedData → LineRoom → LineRoom → Result X E → Type 0
+Takes event old new (Ok x) = Took event old new
+Takes event old new (Err e) = old.room < count_of event

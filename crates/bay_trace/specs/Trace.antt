@@ -1,0 +1,171 @@
+-- What a line of the trace says: words parted by one space.
+use Rattle.std.specs.Prelude.{ℕ, ℤ, pos, neg_ℤ, ◌==◌, ◌&&◌, ◌||◌, ◌+◌, ◌-◌, ◌*◌, ◌^◌, Bool, true, false, nat_lt, nat_le, List, [], ◌∷◌, length, codes, Option, None, Some, option_map, option_and_then, if◌then◌else◌}
+use Rattle.std.specs.List.{slice_split}
+use Rattle.std.specs.Char.{is_ascii_digit}
+use Rattle.std.specs.Str.{all_ascii_digits, bytes_eq, is_utf8}
+use Rattle.std.specs.Str.Parse.{digits_value}
+use Rattle.bay_config.specs.declared.bay.MeterField.{MeterField}
+use Rattle.bay_config.specs.declared.bay.MeterField.TheVariants.{TotW, TotVAr, Hz, PhaseA, PhaseB, PhaseC}
+use Rattle.bay_tree.specs.declared.leaf.Dbpos.{Dbpos}
+use Rattle.bay_tree.specs.declared.leaf.Dbpos.TheVariants.{Intermediate, Off, On, Bad}
+use Rattle.bay_trace.specs.Digits.{octets_of}
+
+-- what happens at a moment: an association is opened, octets of its client come, or it is closed; a switch's position, an input's
+-- value or a field of a meter is told; or the program runs
+pub data NamedData : Type 0 where
+  connects : ℕ → NamedData
+  receives : ℕ → List ℕ → NamedData
+  disconnects : ℕ → NamedData
+  contact : List ℕ → Dbpos → NamedData
+  input : List ℕ → Bool → NamedData
+  measure : List ℕ → MeterField → ℤ → NamedData
+  scan : NamedData
+
+-- a line that can be read
+pub data LineData : Type 0 where
+  blank : LineData
+  at_moment : ℕ → NamedData → LineData
+
+abbrev pub is_space : ℕ → Bool
+is_space b = b == 32
+
+-- the words after the first
+abbrev pub rest_words : Option (List ℕ) → List (List ℕ)
+rest_words None = []
+rest_words (Some rest) = slice_split is_space rest
+
+-- the word that stands alone
+abbrev pub only_word : List (List ℕ) → Option (List ℕ)
+only_word [] = None
+only_word (word ∷ []) = Some word
+only_word (word ∷ next ∷ others) = None
+
+-- a number with one more decimal digit behind its own, below 2 ^ 64
+abbrev pub with_digit : ℕ → ℕ → Option ℕ
+with_digit n b = if is_ascii_digit b && nat_lt (n * 10 + (b - 48)) (2 ^ 64) then Some (n * 10 + (b - 48)) else None
+
+-- the number that decimal digits write, below 2 ^ 64
+abbrev pub read_number : List ℕ → Option ℕ
+read_number digits =
+    if all_ascii_digits digits && nat_lt 0 (length digits) && nat_lt (digits_value 10 digits) (2 ^ 64) then Some (digits_value 10 digits) else None
+
+-- the number that the first of several words is, and the words behind it
+abbrev pub first_number : List (List ℕ) → Option (ℕ × List (List ℕ))
+first_number [] = None
+first_number (word ∷ []) = None
+first_number (word ∷ next ∷ words) = option_map (λ n. (n, next ∷ words)) (read_number word)
+
+-- a number and its opposite, from -(2 ^ 31) to 2 ^ 31 - 1
+abbrev pub positive_of : ℕ → Option ℤ
+positive_of n = if nat_lt n (2 ^ 31) then Some (pos n) else None
+
+abbrev pub negative_of : ℕ → Option ℤ
+negative_of n = if nat_le n (2 ^ 31) then Some (neg_ℤ (pos n)) else None
+
+-- the number that decimal digits write, before which a `-` may stand
+abbrev pub read_integer : List ℕ → Option ℤ
+read_integer [] = None
+read_integer (b ∷ bs) = if b == 45 then option_and_then negative_of (read_number bs) else option_and_then positive_of (read_number (b ∷ bs))
+
+-- 0 intermediate, 1 off, 2 on, 3 bad
+abbrev pub position_of : List ℕ → Option Dbpos
+position_of word =
+    if bytes_eq word (codes "0") then Some Intermediate
+    else if bytes_eq word (codes "1") then Some Off
+    else if bytes_eq word (codes "2") then Some On
+    else if bytes_eq word (codes "3") then Some Bad
+    else None
+
+-- 0 FALSE, 1 TRUE
+abbrev pub truth_of : List ℕ → Option Bool
+truth_of word =
+    if bytes_eq word (codes "0") then Some false
+    else if bytes_eq word (codes "1") then Some true
+    else None
+
+abbrev pub field_of : List ℕ → Option MeterField
+field_of word =
+    if bytes_eq word (codes "TOTW") then Some TotW
+    else if bytes_eq word (codes "TOTVAR") then Some TotVAr
+    else if bytes_eq word (codes "HZ") then Some Hz
+    else if bytes_eq word (codes "AA") then Some PhaseA
+    else if bytes_eq word (codes "AB") then Some PhaseB
+    else if bytes_eq word (codes "AC") then Some PhaseC
+    else None
+
+-- a field and its value
+abbrev pub measure_of : List ℕ → List (List ℕ) → Option NamedData
+measure_of id [] = None
+measure_of id (field ∷ value) =
+    option_and_then (λ f. option_map (measure id f) (option_and_then read_integer (only_word value))) (field_of field)
+
+-- a word that is a name: it is UTF-8, and not empty
+abbrev pub name_of : List ℕ → Option (List ℕ)
+name_of [] = None
+name_of (b ∷ bs) = if is_utf8 (b ∷ bs) then Some (b ∷ bs) else None
+
+-- what is told of what has this name: `contact` a position, `input` a truth value, `measure` a field and its value
+abbrev pub named_of : List ℕ → List ℕ → List (List ℕ) → Option NamedData
+named_of verb name values =
+    if bytes_eq verb (codes "contact") then option_map (contact name) (option_and_then position_of (only_word values))
+    else if bytes_eq verb (codes "input") then option_map (input name) (option_and_then truth_of (only_word values))
+    else if bytes_eq verb (codes "measure") then measure_of name values
+    else None
+
+-- the number of an association, below 2 ^ 16
+abbrev pub association_of : List ℕ → Option ℕ
+association_of word = option_and_then (λ n. if nat_lt n (2 ^ 16) then Some n else None) (read_number word)
+
+-- an association, and octets of its client
+abbrev pub received_of : List (List ℕ) → Option NamedData
+received_of [] = None
+received_of (word ∷ octets) =
+    option_and_then (λ a. option_map (receives a) (option_and_then octets_of (only_word octets))) (association_of word)
+
+-- what is told of an association: `open` and `close` stand before it alone, `recv` before it and octets
+abbrev pub talk_of : List ℕ → List (List ℕ) → Option NamedData
+talk_of verb words =
+    if bytes_eq verb (codes "open") then option_map connects (option_and_then association_of (only_word words))
+    else if bytes_eq verb (codes "close") then option_map disconnects (option_and_then association_of (only_word words))
+    else if bytes_eq verb (codes "recv") then received_of words
+    else None
+
+-- what words tell of an association, if the first is one of these three
+abbrev pub talk_in : List (List ℕ) → Option NamedData
+talk_in [] = None
+talk_in (verb ∷ words) = talk_of verb words
+
+abbrev pub is_talk : List ℕ → Bool
+is_talk verb = bytes_eq verb (codes "open") || (bytes_eq verb (codes "close") || bytes_eq verb (codes "recv"))
+
+-- `scan` stands alone; the other verbs stand before an association, or before a name and what is told
+abbrev pub event_of : List (List ℕ) → Option NamedData
+event_of [] = None
+event_of (verb ∷ []) = if bytes_eq verb (codes "scan") then Some scan else None
+event_of (verb ∷ word ∷ values) =
+    if is_talk verb then talk_of verb (word ∷ values) else option_and_then (λ name. named_of verb name values) (name_of word)
+
+-- a moment, and what happens then
+abbrev pub words_line : List (List ℕ) → Option LineData
+words_line words = option_and_then (λ cut. option_map (at_moment cut.0) (event_of cut.1)) (first_number words)
+
+-- an empty line says nothing; the words of another are read by their forms, in which all but a name are ASCII
+abbrev pub trace_line_of : List ℕ → Option LineData
+trace_line_of [] = Some blank
+trace_line_of (b ∷ bs) = words_line (slice_split is_space (b ∷ bs))
+
+-- what happens to the process: to a switch, an input or a meter
+abbrev pub process_event : NamedData → Option NamedData
+process_event (connects a) = None
+process_event (receives a octets) = None
+process_event (disconnects a) = None
+process_event (contact id position) = Some (contact id position)
+process_event (input name value) = Some (input name value)
+process_event (measure id field value) = Some (measure id field value)
+process_event scan = None
+
+-- what a line tells of the process; nothing where it can't be read, or tells of something else
+abbrev pub process_of : Option LineData → Option NamedData
+process_of None = None
+process_of (Some blank) = None
+process_of (Some (at_moment moment event)) = process_event event

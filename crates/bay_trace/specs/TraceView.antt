@@ -1,0 +1,20 @@
+-- A line of the trace without its place in memory.
+use Rattle.bay_trace.specs.declared.trace.NamedEvent.{NamedEvent}
+use Rattle.bay_trace.specs.declared.trace.NamedEvent.TheVariants.{Open, Recv, Close, Contact, Input, Measure, Scan}
+use Rattle.bay_trace.specs.declared.trace.TraceLine.{TraceLine}
+use Rattle.bay_trace.specs.declared.trace.TraceLine.TheVariants.{Blank, At}
+use Rattle.bay_trace.specs.Digits.{octets_in}
+use Rattle.bay_trace.specs.Trace.{NamedData, LineData, connects, receives, disconnects, contact, input, measure, scan, blank, at_moment}
+
+abbrev pub named_view : NamedEvent → NamedData
+named_view (Open a) = connects a
+named_view (Recv a digits) = receives a (octets_in digits.text.now)
+named_view (Close a) = disconnects a
+named_view (Contact id position) = contact id.now position
+named_view (Input name value) = input name.now value
+named_view (Measure id field value) = measure id.now field value
+named_view Scan = scan
+
+abbrev pub line_view : TraceLine → LineData
+line_view Blank = blank
+line_view (At moment event) = at_moment moment (named_view event)

@@ -1,0 +1,111 @@
+// Octets in hexadecimal digits: those of a line of the trace.
+ghost use Rattle.std.specs.Prelude.{◌≡◌, ◌<◌, ◌≤◌, [], true, is_some, length, max, option_map, take, OnErr, OnOk};
+ghost use Rattle.bay_trace.specs.Digits.{octets_in, octets_of};
+
+use std::alloc::{AllocError, Global};
+use std::marker::Model;
+
+/// Hexadecimal digits of either case that write octets, one at least.
+#[derive(Clone, Copy)]
+pub struct Digits<'a> {
+    text: &'a [u8],
+    ghost are_octets: { is_some (octets_of text.now) ≡ true },
+}
+
+/// Whether a word is such digits.
+fn are_octets(word: &[u8]) -> bool
+    ensures { result ≡ is_some (octets_of word.now) }
+{
+    if word.is_empty() {
+        return false;
+    }
+    if word.len() % 2 != 0 {
+        return false;
+    }
+    word.iter().all(|octet| octet.is_ascii_hexdigit())
+}
+
+impl<'a> Digits<'a> {
+    /// The digits that a word is, if it is such.
+    pub fn of(word: &'a [u8]) -> Option<Self>
+        ensures { option_map (λ d. octets_in d.text.now) result ≡ octets_of word.entry.now }
+    {
+        if are_octets(word) {
+            Some(Digits { text: word })
+        } else {
+            None
+        }
+    }
+}
+
+/// Decodes digits into the front of room for their octets.
+fn decode(digits: Digits<'_>, count: usize, room: &mut [u8])
+    requires counted { count ≡ length (octets_in digits.text.now) }
+    requires fits { count ≤ length room.old }
+    ensures { take count room.new ≡ octets_in digits.entry.text.now }
+{
+    let _ = hex::decode_to_slice(digits.text, &mut room[..count]);
+}
+
+/// Room for the octets of a line. It is made anew for a line with more octets than any before, and no larger than that.
+#[derive(Drop)]
+pub struct LineOctets {
+    alloc: Global,
+    room: Vec<u8>,
+    count: usize,
+}
+
+impl Model for LineOctets {
+    ghost use Rattle.std.specs.Prelude.{◌≤◌, take, vec_len};
+    ghost use Rattle.bay_trace.specs.Placing.{LineRoom};
+
+    ghost Value = { LineRoom };
+
+    ghost view = { λ line. record { octets = take line.count line.room.items; room = vec_len line.room } };
+
+    ghost invariant = { λ line. line.count ≤ vec_len line.room };
+}
+
+impl LineOctets {
+    /// Room for no octet. It takes no memory.
+    pub fn new(alloc: Global) -> Self
+        ensures { result ≡ record { octets = []; room = 0 } }
+    {
+        LineOctets {
+            alloc,
+            room: Vec::new(alloc),
+            count: 0,
+        }
+    }
+
+    /// Makes room for so many octets, if there is less.
+    fn make_room(&mut self, count: usize) -> Result<(), AllocError>
+        ensures made { OnOk result ((length self.new.octets ≡ count) × (self.new.room ≡ max self.old.room count)) }
+        ensures refused { OnErr result (self.old.room < count) }
+    {
+        if self.room.len() < count {
+            self.room = vec![in self.alloc; 0u8; count]?;
+        }
+        self.count = count;
+        Ok(())
+    }
+
+    /// Takes the octets that digits write, in the place of those of the line before.
+    pub fn read(&mut self, digits: Digits<'_>) -> Result<(), AllocError>
+        ensures octets { OnOk result (self.new.octets ≡ octets_in digits.entry.text.now) }
+        ensures room { OnOk result (self.new.room ≡ max self.old.room (length (octets_in digits.entry.text.now))) }
+        ensures refused { OnErr result (self.old.room < length (octets_in digits.entry.text.now)) }
+    {
+        let count = digits.text.len() / 2;
+        self.make_room(count)?;
+        decode(digits, count, self.room.as_mut_slice());
+        Ok(())
+    }
+
+    /// The octets of the line.
+    pub fn as_slice(&self) -> &[u8]
+        ensures { result.now ≡ self.now.octets }
+    {
+        &self.room.as_slice()[..self.count]
+    }
+}

@@ -1,0 +1,49 @@
+// What a line of the trace tells of, as an event of a device: by its place, with its octets.
+ghost use Rattle.std.specs.Prelude.{◌≡◌};
+ghost use Rattle.bay_trace.specs.Placing.{AreOctets, Takes, anywhere, placed_event};
+ghost use Rattle.bay_trace.specs.TraceView.{named_view};
+
+use crate::octets::LineOctets;
+use crate::trace::NamedEvent;
+use bay_device::device::Device;
+use bay_device::event::Event;
+use std::alloc::AllocError;
+
+/// Takes the octets of what happens, if it has any.
+pub fn take_octets(octets: &mut LineOctets, event: &NamedEvent<'_>) -> Result<(), AllocError>
+    ensures { Takes (named_view event.now) octets.old octets.new result }
+{
+    match event {
+        NamedEvent::Recv { digits, .. } => octets.read(*digits),
+        _ => Ok(()),
+    }
+}
+
+/// The event by its place in the device; what has no place is told apart by a place at which there is nothing.
+pub fn placed_event<'a>(device: &Device, octets: &'a [u8], event: NamedEvent<'_>) -> Event<'a>
+    requires { AreOctets (named_view event) octets.now }
+    ensures { anywhere result ≡ placed_event device.now (named_view event.entry) }
+{
+    match event {
+        NamedEvent::Open { association } => Event::Open { association },
+        NamedEvent::Recv { association, .. } => Event::Recv {
+            association,
+            octets,
+        },
+        NamedEvent::Close { association } => Event::Close { association },
+        NamedEvent::Contact { id, position } => Event::Contact {
+            switch: device.switch(id).unwrap_or(device.switch_count()),
+            position,
+        },
+        NamedEvent::Input { name, value } => Event::Input {
+            input: device.input(name).unwrap_or(device.input_count()),
+            value,
+        },
+        NamedEvent::Measure { id, field, value } => Event::Measure {
+            meter: device.meter(id).unwrap_or(device.meter_count()),
+            field,
+            value,
+        },
+        NamedEvent::Scan => Event::Scan,
+    }
+}
