@@ -16,7 +16,7 @@ REASONS = {110: 'before the last event', 111: 'no such association', 112: 'alrea
            114: 'the moment is too large'}
 CODES = {0: 'ended', 10: 'no TPKT', 11: 'no TPDU that may come now', 12: 'another transport class', 13: 'a TSDU that is too long',
          20: 'no SPDU', 21: 'no value of the presentation', 22: 'a context that is not served', 23: 'no value of ACSE', 24: 'it can\'t come now',
-         25: 'too small a PDU size'}
+         25: 'too small a PDU size', 130: 'it did not read, and its queue is full', 131: 'its connection failed'}
 
 ENDINGS = ('end', 'abort', 'fault', 'finish', 'release')
 
@@ -161,6 +161,11 @@ def bay_file(text):
         sys.exit(f'the bay file has TOML that Python can\'t read: {error}')
 
 
+def not_run(error):
+    """Why a program was not run, and where bayctl comes from."""
+    return f'{error.filename}: {error.strerror}; `rt run` in crates/bayctl builds bayctl, and --bayctl names another'
+
+
 def replayed(octets, bayctl, report=None):
     """What bayctl prints for a scenario: the report in a file, or a run of the program."""
     try:
@@ -169,5 +174,5 @@ def replayed(octets, bayctl, report=None):
             return printed, 0
         run = subprocess.run([bayctl, 'replay'], input=octets, stdout=subprocess.PIPE)
     except OSError as error:
-        sys.exit(str(error))
+        sys.exit(str(error) if report else not_run(error))
     return run.stdout.decode(), run.returncode

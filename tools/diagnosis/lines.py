@@ -1,0 +1,298 @@
+"""A program line by line: what each line is, and why one can't stand where it does."""
+from dataclasses import dataclass, field
+
+from .place import Place, near
+from .tokens import Token, is_operator, lines_of
+from .words import ALONE, COMBINES, JUMPS, LOADS, OPERATORS, RETURNS, STORES, TIMERS, TYPES
+
+DEEPEST, LONGEST = 16, 4000
+
+
+@dataclass
+class Declaration:
+    name: Token
+    line: int
+    scope: str
+    kind: str
+    initial: Token | None
+
+
+@dataclass
+class Item:
+    """A label, an instruction, an operator with `(`, or a `)`. Operands are lists of tokens: a literal, a name, or a name with an output."""
+    verb: str
+    line: int
+    token: Token
+    operand: list = field(default_factory=list)
+    arguments: list = field(default_factory=list)
+
+
+class Misplaced(Exception):
+    """Why a line can't stand where it does, with the token at which that shows."""
+
+    def __init__(self, told, token=None, others=()):
+        super().__init__(told)
+        self.told, self.token, self.others = told, token, list(others)
+
+
+class Reader:
+    """Takes the lines of a program one after the other."""
+
+    def __init__(self, text):
+        self.lines = lines_of(text)
+        if text.endswith('\n') or not text:
+            self.lines.pop()
+        self.state, self.block, self.began, self.ended = 'start', None, None, None
+        self.open, self.declarations, self.items, self.count = [], [], [], 0
+
+    def read(self, last):
+        """Takes the lines up to this one; Misplaced comes of it."""
+        for number, tokens in enumerate(self.lines[:last], 1):
+            if tokens:
+                self.take(number, tokens)
+
+    def take(self, number, tokens):
+        bad = next((token for token in tokens if token.kind in ('bad', 'far')), None)
+        if bad:
+            raise Misplaced(bad.told, bad)
+        first = tokens[0]
+        if self.state == 'done':
+            raise Misplaced(f'nothing but comments may stand behind END_PROGRAM, which is line {self.ended}', first)
+        if self.state == 'start':
+            return self.heading(tokens)
+        if first.means('END_PROGRAM'):
+            return self.end(number, tokens)
+        if first.means('PROGRAM'):
+            raise Misplaced('a text has one program, which begins at its first line', first)
+        if first.means('VAR', 'VAR_EXTERNAL', 'END_VAR'):
+            return self.frame(number, tokens)
+        if self.state == 'block':
+            return self.declare(number, tokens)
+        self.body(number, tokens)
+
+    def heading(self, tokens):
+        if not tokens[0].means('PROGRAM'):
+            raise Misplaced('a program begins with PROGRAM and its name', tokens[0])
+        self.named(tokens, 'PROGRAM')
+        self.state = 'head'
+
+    def named(self, tokens, what):
+        """One name, and nothing behind it."""
+        if len(tokens) < 2:
+            raise Misplaced(f'{what} wants a name behind it', tokens[0])
+        if tokens[1].kind != 'name':
+            raise Misplaced(f'{tokens[1].text} is no name' + reserved_told(tokens[1]), tokens[1])
+        self.nothing(tokens[2:], f'{what} and its name')
+
+    def nothing(self, rest, what):
+        if rest:
+            told = f'nothing may stand behind {what} on its line'
+            told += ': no ; ends an instruction' if rest[0].text == ';' else ': each instruction has a line of its own' if is_operator(rest[0]) else ''
+            raise Misplaced(told, rest[0])
+
+    def end(self, number, tokens):
+        self.nothing(tokens[1:], 'END_PROGRAM')
+        if self.open:
+            raise Misplaced('a parenthesis is still open', tokens[0], [(line, 'which was opened here') for line in self.open[-1:]])
+        if self.state == 'block':
+            raise Misplaced('END_VAR is missing', tokens[0], [(self.block[1], 'of the block that begins here')])
+        self.state, self.ended = 'done', number
+
+    def frame(self, number, tokens):
+        first = tokens[0]
+        self.nothing(tokens[1:], first.text)
+        if first.means('END_VAR'):
+            if self.state != 'block':
+                raise Misplaced('no block is open that END_VAR could end', first)
+            self.state = 'head'
+            return
+        if self.state == 'block':
+            raise Misplaced('END_VAR is missing before it', first, [(self.block[1], 'of the block that begins here')])
+        if self.state == 'body':
+            raise Misplaced('declarations stand before the first instruction', first, [(self.began, 'which is here')])
+        self.state, self.block = 'block', (first.upper, number)
+
+    def declare(self, number, tokens):
+        """name {, name} : type [:= literal] ;"""
+        if is_operator(tokens[0]):
+            raise Misplaced(f'{tokens[0].text} stands in a block of declarations: END_VAR is missing', tokens[0], [(self.block[1], 'the block begins here')])
+        names, at = [], 0
+        while True:
+            if at >= len(tokens) or tokens[at].kind != 'name':
+                told = reserved_told(tokens[at]) if at < len(tokens) else ''
+                raise Misplaced(f'a name is wanted{" here" if at < len(tokens) else " behind the comma"}{told}', tokens[min(at, len(tokens) - 1)])
+            names.append(tokens[at])
+            at += 1
+            if at < len(tokens) and tokens[at].text == ',':
+                at += 1
+                continue
+            break
+        kind, initial = self.tail(tokens[at:], names[-1])
+        self.declarations += [Declaration(name, number, self.block[0], kind, initial) for name in names]
+
+    def tail(self, rest, before):
+        if not rest or rest[0].text != ':':
+            told = 'the value of a variable stands behind its type' if rest and rest[0].text == ':=' else 'a : is wanted, and then a type'
+            raise Misplaced(told, rest[0] if rest else before)
+        if len(rest) < 2 or not rest[1].means(*TYPES, *TIMERS):
+            known = f'{rest[1].text} is no type here: ' if len(rest) > 1 else 'a type is wanted: '
+            raise Misplaced(known + 'BOOL, INT, DINT, LINT, TIME, TON and TOF are', rest[1] if len(rest) > 1 else rest[0])
+        kind, initial, at = rest[1].upper, None, 2
+        if len(rest) > 2 and rest[2].text == ':=':
+            if kind in TIMERS:
+                raise Misplaced('a timer has no initial value', rest[2])
+            if len(rest) < 4 or rest[3].kind != 'literal':
+                raise Misplaced('a literal is wanted behind :=', rest[3] if len(rest) > 3 else rest[2])
+            initial, at = rest[3], 4
+        if initial and self.block[0] == 'VAR_EXTERNAL':
+            raise Misplaced('a point of the bay has no initial value', rest[2])
+        if at >= len(rest) or rest[at].text != ';':
+            raise Misplaced('the ; is missing' if at >= len(rest) else 'a ; is wanted here', rest[min(at, len(rest) - 1)])
+        if len(rest) > at + 1:
+            raise Misplaced('each declaration has a line of its own', rest[at + 1])
+        return kind, initial
+
+    def body(self, number, tokens):
+        if self.state == 'head':
+            self.state, self.began = 'body', number
+        if tokens[0].kind == 'name':
+            if len(tokens) > 1 and tokens[1].text == ':' and (len(tokens) == 2 or is_operator(tokens[2]) or tokens[2].text == ')'):
+                tokens = self.label(number, tokens)
+            else:
+                raise self.no_operator(tokens)
+        if tokens:
+            self.instruction(number, tokens)
+
+    def no_operator(self, tokens):
+        first = tokens[0]
+        if any(token.means(*TYPES, *TIMERS) for token in tokens[1:]):
+            return Misplaced('a declaration stands between VAR and END_VAR, before the first instruction', first)
+        if len(tokens) > 1 and tokens[1].text == ':':
+            return Misplaced('behind a label an instruction may stand, and nothing else', tokens[2])
+        return Misplaced(f'{first.text} is no operator{near(first.text, OPERATORS)} (behind a label a : is wanted)', first)
+
+    def label(self, number, tokens):
+        if self.open:
+            raise Misplaced('no label may stand within a parenthesis', tokens[0], [(self.open[-1], 'which was opened here')])
+        self.items.append(Item('label', number, tokens[0]))
+        if len(tokens) > 2 and tokens[2].text == ')':
+            raise Misplaced('a ) stands alone on its line', tokens[2])
+        return tokens[2:]
+
+    def instruction(self, number, tokens):
+        first, rest = tokens[0], tokens[1:]
+        if first.text != ')' and not is_operator(first):
+            raise Misplaced(f'a line begins with an operator or a label, and not with {first.text}', first)
+        if self.open and first.means('CAL', *JUMPS, *RETURNS):
+            raise Misplaced(f'{first.text} can\'t stand within a parenthesis', first, [(self.open[-1], 'which was opened here')])
+        if self.open and self.items[-1].verb == '(' and not self.items[-1].operand and not first.means(*LOADS):
+            raise Misplaced('a parenthesis begins with LD or LDN, or with an operand behind its (', first, [(self.open[-1], 'it was opened here')])
+        if first.text == ')':
+            self.nothing(rest, ')')
+            if not self.open:
+                raise Misplaced('no parenthesis is open', first)
+            self.open.pop()
+            self.items.append(Item(')', number, first))
+        elif first.means(*COMBINES) and rest and rest[0].text == '(':
+            operand = self.operand(rest[1:], first, True)
+            self.open.append(number)
+            self.items.append(Item('(', number, first, operand))
+            if len(self.open) > DEEPEST:
+                raise Misplaced(f'this is the {len(self.open)}th open parenthesis', rest[0], [(line, 'open since here') for line in self.open[:-1]])
+        else:
+            self.items.append(self.plain(number, first, rest))
+        self.count += 1
+        if self.count > LONGEST:
+            raise Misplaced(f'this is the {self.count:,}th line with an instruction or a )', first)
+
+    def plain(self, number, first, rest):
+        if first.means(*ALONE):
+            self.nothing(rest, first.text)
+            return Item(first.upper, number, first)
+        if first.means(*JUMPS):
+            self.named([first, *rest], first.text)
+            return Item(first.upper, number, first, rest[:1])
+        if first.means('CAL'):
+            return self.call(number, first, rest)
+        operand = self.operand(rest, first)
+        if first.means(*STORES) and operand[0].kind == 'literal':
+            raise Misplaced(f'{first.text} wants a variable, and not a literal', operand[0])
+        return Item(first.upper, number, first, operand)
+
+    def operand(self, tokens, before, may_miss=False):
+        """A literal, a name, or a name with `.Q` or `.ET`."""
+        if not tokens:
+            if may_miss:
+                return []
+            raise Misplaced(f'{before.text} wants an operand', before)
+        if tokens[0].kind not in ('literal', 'name'):
+            raise Misplaced(f'{tokens[0].text} is no operand' + reserved_told(tokens[0]), tokens[0])
+        size = 1
+        if len(tokens) > 1 and tokens[1].text == '.':
+            if tokens[0].kind == 'literal':
+                raise Misplaced('numbers have no fractions here', tokens[1])
+            if len(tokens) < 3 or tokens[2].upper not in ('Q', 'ET'):
+                raise Misplaced('.Q or .ET is wanted, the outputs of a timer', tokens[min(2, len(tokens) - 1)])
+            size = 3
+        self.nothing(tokens[size:], f'{before.text} and its operand')
+        return tokens[:size]
+
+    def call(self, number, first, rest):
+        """name ( [IN := operand] [, PT := operand] )"""
+        if not rest or rest[0].kind != 'name':
+            raise Misplaced('CAL wants the name of a timer', rest[0] if rest else first)
+        if len(rest) < 3 or rest[1].text != '(' or rest[-1].text != ')':
+            raise Misplaced('CAL wants its timer\'s inputs in parentheses on one line, as CAL t1(IN := a, PT := T#5s)', rest[-1])
+        item, inside, part = Item('CAL', number, first, rest[:1]), rest[2:-1], []
+        for token in [*inside, Token('mark', ',', rest[-1].start)] if inside else []:
+            if token.text == ',':
+                item.arguments.append(self.argument(part, token))
+                part = []
+            else:
+                part.append(token)
+        names = [name.upper for name, _ in item.arguments]
+        if len(set(names)) < len(names):
+            raise Misplaced(f'{names[-1]} is given twice', item.arguments[-1][0])
+        return item
+
+    def argument(self, part, behind):
+        if not part or part[0].upper not in ('IN', 'PT'):
+            raise Misplaced('IN := or PT := is wanted', part[0] if part else behind)
+        if len(part) < 2 or part[1].text != ':=':
+            raise Misplaced(':= is wanted behind ' + part[0].text, part[1] if len(part) > 1 else part[0])
+        return part[0], self.operand(part[2:], part[1])
+
+
+def reserved_told(token):
+    return ': it is a word of the language' if token.kind == 'word' else ''
+
+
+def placed(text, line):
+    """Why the line of a program can't be read or can't stand there, or None where it is not found."""
+    reader = Reader(text)
+    try:
+        reader.read(line)
+    except Misplaced as found:
+        token = found.token
+        return Place(found.told, line=line, start=token and token.start, end=token and token.end, others=found.others)
+    if line >= len(reader.lines) and reader.state != 'done':
+        return Place(*ending_told(reader), line=line)
+    return None
+
+
+def ending_told(reader):
+    """What is missing at the end of a text."""
+    if reader.state == 'start':
+        return 'the text is empty: a program begins with PROGRAM and its name', ''
+    if reader.open:
+        return f'the text ends here with a parenthesis open, which was opened at line {reader.open[-1]}', ''
+    if reader.state == 'block':
+        return f'the text ends here: END_VAR is missing, of the block at line {reader.block[1]}, and END_PROGRAM', ''
+    return 'the text ends here: END_PROGRAM is missing', ''
+
+
+def read(text):
+    """A program that reads well: its declarations and its items."""
+    reader = Reader(text)
+    reader.read(len(reader.lines))
+    return reader

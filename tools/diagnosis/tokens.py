@@ -1,0 +1,163 @@
+"""A program cut into tokens, line by line, as far as a faulty line can be."""
+import re
+from dataclasses import dataclass
+
+from .words import NUMBERS, OPERATORS, RESERVED
+
+TOKEN = re.compile(r'[ \t]+|(?P<word>[A-Za-z0-9_](?:[A-Za-z0-9_#]|(?<=#)[+-])*|[+-][0-9](?:[A-Za-z0-9_#]|(?<=#)[+-])*|#[\w#]*)'
+                   r'|(?P<mark>:=|&N(?![A-Za-z0-9_])|[:,;.()&])|(?P<odd>.)', re.IGNORECASE | re.DOTALL | re.ASCII)
+DIGITS = {2: '01', 8: '01234567', 10: '0123456789', 16: '0123456789ABCDEF'}
+UNITS = [('D', 86_400_000), ('H', 3_600_000), ('M', 60_000), ('S', 1000), ('MS', 1)]
+LONGEST = 2_147_483_647
+
+
+@dataclass
+class Literal:
+    """A literal: its type, or none, and its value."""
+    kind: str | None
+    value: int
+
+
+@dataclass
+class Token:
+    """A token of a line with its column. `kind` is name, word, mark, literal, bad (60) or far (63); `told` is what is wrong with it."""
+    kind: str
+    text: str
+    start: int
+    told: str = ''
+    literal: Literal | None = None
+
+    @property
+    def end(self):
+        return self.start + len(self.text)
+
+    @property
+    def upper(self):
+        return self.text.upper()
+
+    def means(self, *words):
+        return self.kind in ('word', 'mark') and self.upper in words
+
+
+def without_comments(text):
+    """The text with blanks for comments, and the place of a comment that is not closed."""
+    out, at = [], 0
+    while (begin := text.find('(*', at)) >= 0:
+        end = text.find('*)', begin + 2)
+        if end < 0:
+            return ''.join(out) + text[at:begin] + blank(text[begin:]), begin
+        out += text[at:begin], blank(text[begin:end + 2])
+        at = end + 2
+    return ''.join(out) + text[at:], None
+
+
+def blank(text):
+    return re.sub(r'[^\n]', ' ', text)
+
+
+def lines_of(text):
+    """The tokens of each line of a program; those of line n stand at place n - 1."""
+    plain, unclosed = without_comments(text)
+    *whole, last = plain.split('\n')
+    lines = [list(tokens_of(line)) for line in [*(line.removesuffix('\r') for line in whole), last]]
+    if unclosed is not None:
+        line = text.count('\n', 0, unclosed)
+        start = unclosed - (text.rfind('\n', 0, unclosed) + 1)
+        lines[line].append(Token('bad', '(*', start, 'this comment is not closed'))
+    return lines
+
+
+def tokens_of(line):
+    for found in TOKEN.finditer(line):
+        if found['word'] is not None:
+            yield word_token(found['word'], found.start())
+        elif found['mark'] is not None:
+            yield Token('mark', found['mark'], found.start())
+        elif found['odd'] is not None:
+            yield Token('bad', found['odd'], found.start(), odd_told(found['odd']))
+
+
+def odd_told(character):
+    if character == '\ufeff':
+        return 'a byte order mark stands here, which a program may not have'
+    if character == '\r':
+        return 'a carriage return stands here without a line feed behind it'
+    if ord(character) > 126 or ord(character) < 32:
+        return f'the character {character!r} (U+{ord(character):04X}) is not of ASCII, and no comment is round it'
+    if character in '+-':
+        return 'a sign stands directly before the first digit of a number'
+    return f'no token begins with {character!r}'
+
+
+def word_token(text, start):
+    upper = text.upper()
+    if '#' not in text and re.match('[A-Z_]', upper):
+        if upper in ('TRUE', 'FALSE'):
+            return Token('literal', text, start, literal=Literal('BOOL', int(upper == 'TRUE')))
+        if upper in RESERVED:
+            return Token('word', text, start)
+        told = '' if len(text) <= 64 else f'this name has {len(text)} characters, and 64 are the most'
+        return Token('bad' if told else 'name', text, start, told)
+    kind, held = literal_of(upper)
+    return Token(kind, text, start, held) if isinstance(held, str) else Token(kind, text, start, literal=held)
+
+
+def literal_of(text):
+    """A literal, or why it is none (bad) or out of range (far)."""
+    before, hash_mark, after = text.partition('#')
+    if hash_mark and before in ('T', 'TIME'):
+        return duration_of(after)
+    if hash_mark and before in ('BOOL', *NUMBERS):
+        if after in ('TRUE', 'FALSE'):
+            return ('literal', Literal('BOOL', int(after == 'TRUE'))) if before == 'BOOL' else ('far', f'{after} is no {before}')
+        return in_range(before, number_of(after))
+    return in_range(None, number_of(text))
+
+
+def in_range(kind, value):
+    """A number of a type, where it is one."""
+    if isinstance(value, str):
+        return 'bad', value
+    bits = NUMBERS.get(kind or 'LINT')
+    least, most = (0, 1) if kind == 'BOOL' else (-2 ** (bits - 1), 2 ** (bits - 1) - 1)
+    if not least <= value <= most:
+        return 'far', f'{value:,} is not from {least:,} to {most:,}' + (f', the values of {kind}' if kind else '')
+    return 'literal', Literal(kind, value)
+
+
+def number_of(text):
+    """The value of a number with a base or a sign, or what is wrong with it."""
+    before, hash_mark, digits = text.partition('#')
+    if hash_mark and before not in ('2', '8', '16'):
+        return f'{before or "nothing"} is no base and no type: 2, 8, 16, BOOL, INT, DINT, LINT, T and TIME may stand before #'
+    base = int(before) if hash_mark else 10
+    sign = '' if hash_mark else text[:1] if text[:1] in '+-' else ''
+    digits = digits if hash_mark else text.removeprefix(sign) if sign else text
+    if hash_mark and digits[:1] in ('+', '-'):
+        return 'a number with a base has no sign'
+    odd = next((c for c in digits if c != '_' and c not in DIGITS[base]), None)
+    if odd is not None:
+        return f'{odd} is no digit of a number of base {base}'
+    if not digits or digits[0] == '_' or digits[-1] == '_' or '__' in digits:
+        return 'a single _ may stand between two digits, and nowhere else' if digits else 'there is no digit'
+    return int(digits.replace('_', ''), base) * (-1 if sign == '-' else 1)
+
+
+def duration_of(text):
+    """A TIME by its parts in falling units."""
+    parts, rest, total, last = 0, text, 0, -1
+    while rest:
+        part = re.match(r'(_?)(\d+(?:_\d+)*)([A-Z]*)', rest)
+        place = next((n for n, (unit, _) in enumerate(UNITS) if part and unit == part[3]), None)
+        if place is None:
+            return 'bad', f'{rest} is no number with a unit: d, h, m, s or ms'
+        if part[1] and not parts or place <= last:
+            return 'bad', 'the units of a duration fall, and none comes twice: d, h, m, s, ms' if parts else 'a duration begins with a digit'
+        total, last, rest, parts = total + int(part[2].replace('_', '')) * UNITS[place][1], place, rest[part.end():], parts + 1
+    if not parts:
+        return 'bad', 'a duration has a number with a unit, as T#500ms'
+    return ('literal', Literal('TIME', total)) if total <= LONGEST else ('far', f'{total:,} ms are more than {LONGEST:,}, some 24 days')
+
+
+def is_operator(token):
+    return token.means(*OPERATORS)
