@@ -168,7 +168,10 @@ def change_octets(rng, octets, others):
         return odd_octets(rng, octets)
     for _ in range(rng.choice((1, 1, 1, 2, 4))):
         change_values(rng, roots, others)
-    tsdu = outer(rng, front, items, roots)[:70_010]
+    try:
+        tsdu = outer(rng, front, items, roots)[:70_010]
+    except OverflowError:   # longer than a length of the session can say
+        return odd_octets(rng, octets)
     if rng.random() < 0.05:
         tsdu = odd_octets(rng, tsdu)
     return stream.wrapped(tsdu, rng.choice((8192, 8192, 8192, 128, 4, 65_000))) + rest

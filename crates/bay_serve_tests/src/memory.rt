@@ -1,5 +1,7 @@
-use crate::memory_link::{Client, MemoryLink};
-use crate::session::{CONFIRM, CONNECT, CONNECTED, IDENTIFY, IDENTITY, REQUEST, device, octets_of};
+use crate::memory_link::MemoryLink;
+use crate::session::{
+    CONFIRM, CONNECT, CONNECTED, IDENTIFY, IDENTITY, REQUEST, has_octets, octets_of, server,
+};
 use bay_serve::fault::ServeFault;
 use bay_serve::server::Server;
 use bay_serve::told::Closing;
@@ -7,159 +9,134 @@ use bay_serve::turn::serve_turn;
 use std::alloc::Global;
 use std::test::Fail;
 
-/// What became of the clients: what each got, what was told of closings, and how often connections were closed.
-#[derive(Drop)]
-struct Told {
-    taken: Vec<Vec<u8>>,
-    closed: Vec<(u16, Closing)>,
-    calls: u64,
-    failures: u64,
-    closings: u64,
+/// One turn, of which the closings are added to those before.
+fn turn(
+    alloc: Global,
+    server: &mut Server,
+    link: &mut MemoryLink,
+    now: u64,
+    closed: &mut Vec<(u16, Closing)>,
+) -> Result<(), Fail> {
+    let turn = serve_turn(alloc, server, link, now, None)?;
+    closed.extend_from_slice(turn.closed.as_slice())?;
+    Ok(())
 }
 
-/// Serves clients for so many turns, each of which is a millisecond after the one before.
-fn serve(
-    alloc: Global,
-    clients: Vec<Client>,
-    per_write: usize,
-    fails_at: u64,
-    turns: u64,
-) -> Result<Told, Fail> {
-    let mut link = MemoryLink::new(clients, per_write, fails_at);
-    let Ok(mut server) = Server::new(alloc, device(alloc)?) else {
-        return Err(Fail::from("no memory"));
-    };
+/// Serves clients for so many turns, each of which is a millisecond after the one before, and tells what was closed.
+fn serve(alloc: Global, link: &mut MemoryLink, turns: u64) -> Result<Vec<(u16, Closing)>, Fail> {
+    let mut server = server(alloc)?;
     let mut closed = Vec::new(alloc);
     for now in 0..turns {
-        let turn = serve_turn(alloc, &mut server, &mut link, now, None)?;
-        closed.extend_from_slice(turn.closed.as_slice())?;
+        turn(alloc, &mut server, link, now, &mut closed)?;
     }
-    let MemoryLink {
-        clients,
-        calls,
-        failures,
-        closed: closings,
-        taken: _,
-        places: _,
-        per_write: _,
-        fails_at: _,
-    } = link;
-    let mut taken = Vec::new(alloc);
-    for client in clients {
-        taken.push(client.taken)?;
-    }
-    Ok(Told {
-        taken,
-        closed,
-        calls,
-        failures,
-        closings,
-    })
+    Ok(closed)
 }
 
-/// One client with a whole session.
-fn one(alloc: Global, ends: bool) -> Result<Vec<Client>, Fail> {
-    let mut clients = Vec::new(alloc);
+/// So many clients with a whole session each.
+fn sessions(alloc: Global, count: usize) -> Result<MemoryLink, Fail> {
     let octets = octets_of(alloc, &[REQUEST, CONNECT, IDENTIFY])?;
-    clients.push(Client::new(alloc, octets, ends))?;
-    Ok(clients)
+    MemoryLink::new(alloc, octets.as_slice(), count)
 }
+
+/// What a session is answered.
+const ANSWERS: [&str; 3] = [CONFIRM, CONNECTED, IDENTITY];
 
 #[test]
 fn a_request_is_confirmed_in_its_turn(rt: HostRuntime) -> Result<(), Fail> {
-    let alloc = rt.alloc();
-    let mut clients = Vec::new(alloc);
-    clients.push(Client::new(alloc, octets_of(alloc, &[REQUEST])?, false))?;
-    let told = serve(alloc, clients, 1000, 0, 1)?;
-    assert_eq!(rt; told.taken[0].as_slice(), octets_of(alloc, &[CONFIRM])?.as_slice());
-    assert_eq!(rt; told.closed.len(), 0);
+    let octets = octets_of(rt.alloc(), &[REQUEST])?;
+    let mut link = MemoryLink::new(rt.alloc(), octets.as_slice(), 1)?;
+    let closed = serve(rt.alloc(), &mut link, 1)?;
+    assert!(rt; has_octets(rt.alloc(), link.taken(0), &[CONFIRM])? && closed.is_empty());
     Ok(())
 }
 
 #[test]
 fn one_octet_at_a_write_gives_the_same(rt: HostRuntime) -> Result<(), Fail> {
-    let alloc = rt.alloc();
-    let wanted = octets_of(alloc, &[CONFIRM, CONNECTED, IDENTITY])?;
-    let whole = serve(alloc, one(alloc, true)?, 1000, 0, 3)?;
-    let single = serve(alloc, one(alloc, true)?, 1, 0, 3)?;
-    assert_eq!(rt; whole.taken[0].as_slice(), wanted.as_slice());
-    assert_eq!(rt; single.taken[0].as_slice(), wanted.as_slice());
-    assert_eq!(rt; whole.closed.as_slice(), [(1, Closing::Ended)].as_slice());
-    assert_eq!(rt; single.closed.as_slice(), [(1, Closing::Ended)].as_slice());
-    assert_eq!(rt; whole.closings, 1);
+    let mut link = sessions(rt.alloc(), 1)?;
+    link.per_write = 1;
+    link.ends = true;
+    let closed = serve(rt.alloc(), &mut link, 3)?;
+    assert!(rt; has_octets(rt.alloc(), link.taken(0), &ANSWERS)?);
+    assert!(rt; closed.as_slice() == [(1, Closing::Ended)].as_slice() && link.closed == 1);
     Ok(())
 }
 
 #[test]
 fn nine_clients_are_served_one_after_the_other(rt: HostRuntime) -> Result<(), Fail> {
-    let alloc = rt.alloc();
-    let mut clients = Vec::new(alloc);
-    for _ in 0..9 {
-        let octets = octets_of(alloc, &[REQUEST, CONNECT, IDENTIFY])?;
-        clients.push(Client::new(alloc, octets, true))?;
+    let mut link = sessions(rt.alloc(), 9)?;
+    link.ends = true;
+    let closed = serve(rt.alloc(), &mut link, 20)?;
+    for client in 0..9 {
+        assert!(rt; link.taken(client).len() == 204);
     }
-    let told = serve(alloc, clients, 1000, 0, 20)?;
-    let identity = octets_of(alloc, &[IDENTITY])?;
-    for taken in &told.taken {
-        assert!(rt; taken.ends_with(identity.as_slice()));
-    }
-    assert_eq!(rt; told.closed.len(), 9);
-    assert_eq!(rt; told.closings, 9);
+    assert!(rt; closed.len() == 9 && link.closed == 9);
     Ok(())
+}
+
+/// A session of which the call with this number fails: what its client got, and what was told.
+fn failing(alloc: Global, fails_at: u64) -> Result<(MemoryLink, Vec<(u16, Closing)>), Fail> {
+    let mut link = sessions(alloc, 1)?;
+    link.per_write = 50;
+    link.fails_at = fails_at;
+    let closed = serve(alloc, &mut link, 3)?;
+    Ok((link, closed))
 }
 
 #[test]
 fn each_call_may_fail(rt: HostRuntime) -> Result<(), Fail> {
-    let alloc = rt.alloc();
-    let whole = serve(alloc, one(alloc, false)?, 50, 0, 3)?;
+    let (whole, _) = failing(rt.alloc(), 0)?;
     for fails_at in 1..whole.calls {
-        let told = serve(alloc, one(alloc, false)?, 50, fails_at, 3)?;
-        assert_eq!(rt; told.failures, 1);
-        assert!(rt; whole.taken[0].starts_with(told.taken[0].as_slice()));
-        let is_closed = told.closed.as_slice() == [(1, Closing::LinkFailed)].as_slice();
-        let is_whole = told.closed.len() == 0 && told.taken[0].len() == whole.taken[0].len();
-        assert!(rt; is_closed || is_whole);
+        let (link, closed) = failing(rt.alloc(), fails_at)?;
+        let is_front = whole.taken(0).starts_with(link.taken(0));
+        let is_closed = closed.as_slice() == [(1, Closing::LinkFailed)].as_slice();
+        let is_whole = closed.is_empty() && link.taken(0).len() == 204;
+        assert!(rt; link.failures == 1 && is_front && (is_closed || is_whole));
     }
     Ok(())
 }
 
-#[test]
-fn a_client_that_never_reads_is_closed(rt: HostRuntime) -> Result<(), Fail> {
-    let alloc = rt.alloc();
+/// A session with so many requests to identify.
+fn long_session(alloc: Global, count: u64) -> Result<MemoryLink, Fail> {
     let mut octets = octets_of(alloc, &[REQUEST, CONNECT])?;
     let identify = octets_of(alloc, &[IDENTIFY])?;
-    for _ in 0..8000 {
+    for _ in 0..count {
         octets.extend_from_slice(identify.as_slice())?;
     }
-    let mut clients = Vec::new(alloc);
-    clients.push(Client::new(alloc, octets, false))?;
-    let told = serve(alloc, clients, 0, 0, 60)?;
-    assert_eq!(rt; told.taken[0].len(), 0);
-    assert_eq!(rt; told.closed.as_slice(), [(1, Closing::QueueFull)].as_slice());
-    assert_eq!(rt; told.closings, 1);
+    MemoryLink::new(alloc, octets.as_slice(), 1)
+}
+
+#[test]
+fn a_client_that_never_reads_is_closed(rt: HostRuntime) -> Result<(), Fail> {
+    let mut link = long_session(rt.alloc(), 8000)?;
+    link.per_write = 0;
+    let closed = serve(rt.alloc(), &mut link, 60)?;
+    let is_told = closed.as_slice() == [(1, Closing::QueueFull)].as_slice();
+    assert!(rt; is_told && link.taken(0).is_empty() && link.closed == 1);
     Ok(())
 }
 
 #[test]
 fn a_line_tells_of_the_process(rt: HostRuntime) -> Result<(), Fail> {
+    let mut link = sessions(rt.alloc(), 0)?;
+    let mut server = server(rt.alloc())?;
     let alloc = rt.alloc();
-    let mut link = MemoryLink::new(Vec::new(alloc), 0, 0);
-    let Ok(mut server) = Server::new(alloc, device(alloc)?) else {
-        return Err(Fail::from("no memory"));
-    };
     let turn = serve_turn(alloc, &mut server, &mut link, 1000, Some("1 contact QA1 1"))?;
-    assert_eq!(rt; turn.refused, None);
-    assert_eq!(rt; server.device().ena(1), Some((true, true)));
-    assert_eq!(rt; server.device().moment(), 1000);
+    assert!(rt; turn.refused.is_none() && server.device().ena(1) == Some((true, true)));
     let turn = serve_turn(alloc, &mut server, &mut link, 999, Some("1 contact QA9 1"))?;
-    assert_eq!(rt; turn.refused, Some(113));
-    assert_eq!(rt; server.device().moment(), 1000);
+    assert!(rt; turn.refused == Some(113) && server.device().moment() == 1000);
+    Ok(())
+}
+
+#[test]
+fn a_turn_is_refused(rt: HostRuntime) -> Result<(), Fail> {
+    let mut link = sessions(rt.alloc(), 0)?;
+    let mut server = server(rt.alloc())?;
     for line in ["1 scan", "1 open 1", "", "contact QA1 1", "1 contact QA1 4"] {
-        let answer = serve_turn(alloc, &mut server, &mut link, 2000, Some(line));
+        let answer = serve_turn(rt.alloc(), &mut server, &mut link, 2000, Some(line));
         assert!(rt; matches!(answer, Err(ServeFault::BadLine)));
     }
-    let late = serve_turn(alloc, &mut server, &mut link, 4_294_967_296_000, None);
+    let late = serve_turn(rt.alloc(), &mut server, &mut link, 4_294_967_296_000, None);
     assert!(rt; matches!(late, Err(ServeFault::MomentTooLarge)));
-    assert_eq!(rt; server.device().moment(), 1000);
+    assert!(rt; server.device().moment() == 0);
     Ok(())
 }

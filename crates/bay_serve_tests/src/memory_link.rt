@@ -1,33 +1,23 @@
 // Clients in memory, of which one call fails, and which take so many octets at a write.
 use bay_serve::link::{Got, Link, LinkFault};
 use std::alloc::Global;
+use std::test::Fail;
 
-/// A client that sends some octets, as many at a time as they are read, and then nothing or its end.
+/// A client: how many octets of what it sends were read, and what was sent to it.
 #[derive(Drop)]
-pub struct Client {
-    pub incoming: Vec<u8>,
-    pub given: usize,
-    pub ends: bool,
-    pub taken: Vec<u8>,
+struct Client {
+    given: usize,
+    taken: Vec<u8>,
 }
 
-impl Client {
-    pub fn new(alloc: Global, incoming: Vec<u8>, ends: bool) -> Client {
-        Client {
-            incoming,
-            given: 0,
-            ends,
-            taken: Vec::new(alloc),
-        }
-    }
-}
-
-/// The clients connect one after the other. Each connection that was taken has a place among them.
+/// Clients that connect one after the other. Each sends the same octets, as many at a time as they are read, and then nothing or its end.
 #[derive(Drop)]
 pub struct MemoryLink {
-    pub clients: Vec<Client>,
-    pub taken: usize,
-    pub places: [Option<usize>; 8],
+    incoming: Vec<u8>,
+    clients: Vec<Client>,
+    connected: usize,
+    places: [Option<usize>; 8],
+    pub ends: bool,
     pub per_write: usize,
     pub calls: u64,
     pub fails_at: u64,
@@ -35,17 +25,41 @@ pub struct MemoryLink {
     pub closed: u64,
 }
 
+/// So many clients.
+fn clients_of(alloc: Global, count: usize) -> Result<Vec<Client>, Fail> {
+    let mut clients = Vec::new(alloc);
+    for _ in 0..count {
+        clients.push(Client {
+            given: 0,
+            taken: Vec::new(alloc),
+        })?;
+    }
+    Ok(clients)
+}
+
 impl MemoryLink {
-    pub fn new(clients: Vec<Client>, per_write: usize, fails_at: u64) -> MemoryLink {
-        MemoryLink {
+    pub fn new(alloc: Global, incoming: &[u8], count: usize) -> Result<MemoryLink, Fail> {
+        let clients = clients_of(alloc, count)?;
+        let incoming = incoming.to_vec(alloc)?;
+        Ok(MemoryLink {
+            incoming,
             clients,
-            taken: 0,
+            connected: 0,
             places: [None; 8],
-            per_write,
+            ends: false,
+            per_write: 1000,
             calls: 0,
-            fails_at,
+            fails_at: 0,
             failures: 0,
             closed: 0,
+        })
+    }
+
+    /// What was sent to a client.
+    pub fn taken(&self, client: usize) -> &[u8] {
+        match self.clients.as_slice().get(client) {
+            Some(client) => client.taken.as_slice(),
+            None => &[],
         }
     }
 
@@ -56,15 +70,16 @@ impl MemoryLink {
     }
 }
 
-/// What a client has sent that was not read.
-fn give(client: &mut Client, room: &mut [u8]) -> Got {
-    let rest = client.incoming.get(client.given..).unwrap_or(&[]);
+/// Octets of what a client sends that were not read.
+fn give(incoming: &[u8], given: &mut usize, room: &mut [u8], ends: bool) -> Got {
+    let from = *given;
+    let rest = incoming.get(from..).unwrap_or(&[]);
     let count = room.len().min(rest.len());
     room[..count].copy_from_slice(&rest[..count]);
-    client.given = client.given.saturating_add(count);
+    *given = from.saturating_add(count);
     if count > 0 {
         Got::Bytes(count)
-    } else if client.ends {
+    } else if ends {
         Got::End
     } else {
         Got::Nothing
@@ -79,9 +94,9 @@ impl Link for MemoryLink {
             self.failures = self.failures.saturating_add(1);
             return Err(LinkFault);
         }
-        if self.taken < self.clients.len() {
-            self.places[a as usize - 1] = Some(self.taken);
-            self.taken = self.taken.saturating_add(1);
+        if self.connected < self.clients.len() {
+            self.places[a as usize - 1] = Some(self.connected);
+            self.connected = self.connected.saturating_add(1);
             return Ok(true);
         }
         Ok(false)
@@ -96,7 +111,8 @@ impl Link for MemoryLink {
         if let Some(at) = place
             && at < self.clients.len()
         {
-            return Ok(give(&mut self.clients[at], room));
+            let incoming = self.incoming.as_slice();
+            return Ok(give(incoming, &mut self.clients[at].given, room, self.ends));
         }
         Ok(Got::Nothing)
     }
@@ -110,7 +126,10 @@ impl Link for MemoryLink {
         let place = self.places[a as usize - 1];
         if let Some(at) = place
             && at < self.clients.len()
-            && self.clients[at].taken.extend_from_slice(&octets[..count]).is_ok()
+            && self.clients[at]
+                .taken
+                .extend_from_slice(&octets[..count])
+                .is_ok()
         {
             return Ok(count);
         }
