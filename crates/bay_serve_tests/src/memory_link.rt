@@ -92,10 +92,13 @@ impl Link for MemoryLink {
             self.failures = self.failures.saturating_add(1);
             return Err(LinkFault);
         }
-        match self.places[a as usize - 1] {
-            Some(at) if at < self.clients.len() => Ok(give(&mut self.clients[at], room)),
-            _ => Ok(Got::Nothing),
+        let place = self.places[a as usize - 1];
+        if let Some(at) = place
+            && at < self.clients.len()
+        {
+            return Ok(give(&mut self.clients[at], room));
         }
+        Ok(Got::Nothing)
     }
 
     fn write(&mut self, a: u16, octets: &[u8]) -> Result<usize, LinkFault> {
@@ -104,7 +107,8 @@ impl Link for MemoryLink {
             return Err(LinkFault);
         }
         let count = self.per_write.min(octets.len());
-        if let Some(at) = self.places[a as usize - 1]
+        let place = self.places[a as usize - 1];
+        if let Some(at) = place
             && at < self.clients.len()
             && self.clients[at].taken.extend_from_slice(&octets[..count]).is_ok()
         {
