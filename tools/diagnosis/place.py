@@ -1,4 +1,5 @@
 """A place in a text, and what is wrong there."""
+import difflib
 from dataclasses import dataclass, field
 
 
@@ -28,6 +29,5 @@ def shown(text_line, number, start=None, end=None, width=88):
 
 def near(name, names):
     """A name that is like another, to ask whether it was meant."""
-    import difflib
     found = difflib.get_close_matches(name.upper(), [other.upper() for other in names], 1, 0.6)
     return f'; is {found[0]} meant?' if found else ''
