@@ -12,7 +12,7 @@ use Rattle.bay_serve.specs.Turns.{Noted, Turning, cut_off, first_full, is_up, pu
 use Rattle.bay_serve.specs.declared.standing.Standing.TheVariants.{Steady, Full, Gone}
 use Rattle.bay_serve.specs.declared.told.Closing.{Closing}
 use Rattle.bay_serve.specs.declared.told.Closing.TheVariants as closing
-use Rattle.bay_serve_laws.specs.Events.{Doing, closing_of, settled_events, settled_in_events, settled_next_events}
+use Rattle.bay_serve_laws.specs.Events.{ChosenEvent, closing_of, settled_events, settled_in_events, settled_next_events}
 use Rattle.bay_serve_laws.specs.Flows.{answer_to, taken_of}
 use Rattle.bay_serve_laws.proofs.CarryLemmas.{Carried, Carries, Carries-as, IsSound, also-lost, device-carried, other-queue, other-standing, put_quiet-carried}
 use Rattle.bay_serve_laws.proofs.MoveLemmas.{Moves, Moves-none, Moves-one, Moves-trans}
@@ -174,7 +174,7 @@ module _ (now p : ℕ) (held : List ℕ) (h : p < 8) (past : now ≤ last_moment
       Moves-one (Carried now p held) (Carried now p held) now p s (cut_off now why i s) calls (closing_of i) (cut-device now i why s) none
       (λ taken sent c. cut-carried now p i held taken sent why s h past c)
 
-  next-moves : (o : Option ℕ) (s : Turning) (f : Turning → Turning) (calls : Turning → List Call) (events : Turning → List Doing)
+  next-moves : (o : Option ℕ) (s : Turning) (f : Turning → Turning) (calls : Turning → List Call) (events : Turning → List ChosenEvent)
       → ((t : Turning) → Moves (Carried now p held) (Carried now p held) now p t (calls t) (events t) (f t))
       → Moves (Carried now p held) (Carried now p held) now p s (settling_next now o s calls) (settled_next_events now o s events) (settled_next now o s f)
   next-moves None s f calls events later = Moves-none (Carried now p held) (Carried now p held) now p s s [] refl refl (λ taken sent c. c)
@@ -202,12 +202,12 @@ module _ (now p : ℕ) (held : List ℕ) (h : p < 8) (past : now ≤ last_moment
       }
 
   -- an event, and what did not fit then
-  pub then-moves : (s t : Turning) (calls : List Call) (e : Doing) → Moves (Well now p held) (Carried now p held) now p s calls (e ∷ []) t
+  pub then-moves : (s t : Turning) (calls : List Call) (e : ChosenEvent) → Moves (Well now p held) (Carried now p held) now p s calls (e ∷ []) t
       → Moves (Well now p held) (Well now p held) now p s (calls ++ settling now t) (e ∷ settled_events now t) (settled now t)
   then-moves s t calls e m =
       Moves-trans (Well now p held) (Carried now p held) (Well now p held) now p s t (settled now t) calls (settling now t) (e ∷ []) (settled_events now t) m (settled-moves t)
 
   -- where nothing of the association was of interest before
-  pub calm-moves : (s t : Turning) (calls : List Call) (events : List Doing) → Moves (Carried now p held) (Carried now p held) now p s calls events t
+  pub calm-moves : (s t : Turning) (calls : List Call) (events : List ChosenEvent) → Moves (Carried now p held) (Carried now p held) now p s calls events t
       → Moves (Well now p held) (Carried now p held) now p s calls events t
   calm-moves s t calls events m = record { device = m.device; goes = λ taken sent w. m.goes taken sent w.carried }

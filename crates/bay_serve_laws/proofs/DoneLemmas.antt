@@ -4,14 +4,14 @@ use Rattle.bay_device.specs.Device.{State}
 use Rattle.bay_device.specs.Outcomes.{outcome}
 use Rattle.bay_device.specs.declared.event.Step.{Step}
 use Rattle.bay_device.specs.declared.fault.StepFault.{StepFault}
-use Rattle.bay_serve_laws.specs.Events.{Doing, done_at, commands_in, commands_of}
+use Rattle.bay_serve_laws.specs.Events.{ChosenEvent, done_at, commands_in, commands_of}
 
-pub record IsBoth (now : ℕ) (xs ys : List Doing) (s : State) : Type 0 where
+pub record IsBoth (now : ℕ) (xs ys : List ChosenEvent) (s : State) : Type 0 where
   pub after : (done_at now (xs ++ ys) s).after ≡ (done_at now ys (done_at now xs s).after).after
   pub answers : (done_at now (xs ++ ys) s).answers ≡ (done_at now xs s).answers ++ (done_at now ys (done_at now xs s).after).answers
 
 -- some events, and then others
-pub done-append : (now : ℕ) (xs ys : List Doing) (s : State) → IsBoth now xs ys s
+pub done-append : (now : ℕ) (xs ys : List ChosenEvent) (s : State) → IsBoth now xs ys s
 done-append now [] ys s = record { after = refl; answers = refl }
 done-append now (x ∷ xs) ys s =
     let o = outcome x.0 now x.1 s in

@@ -7,7 +7,7 @@ use Rattle.bay_device.specs.declared.fault.StepFault.{StepFault}
 use Rattle.bay_serve.specs.Calls.{Call, Writes}
 use Rattle.bay_serve.specs.Offers.{offered}
 use Rattle.bay_serve.specs.Turns.{Turning}
-use Rattle.bay_serve_laws.specs.Events.{Doing, done_at}
+use Rattle.bay_serve_laws.specs.Events.{ChosenEvent, done_at}
 use Rattle.bay_serve_laws.specs.Flows.{answer_to, sent_to, taken_by, taken_of}
 use Rattle.bay_serve_laws.proofs.DoneLemmas.{IsBoth, done-append}
 
@@ -46,7 +46,7 @@ offered-other a b (x ∷ xs) (zero ∷ takes) fails n = rw (ne_eqb b a n) refl
 offered-other a b (x ∷ xs) (suc m ∷ takes) fails n = rw (ne_eqb b a n) (offered-other a b (drop m xs) takes fails n)
 
 -- From P, of what was taken and what was sent before, R of what was by then.
-pub record Moves (P R : List ℕ → List ℕ → Turning → Type 0) (now p : ℕ) (s : Turning) (calls : List Call) (events : List Doing) (t : Turning) : Type 0 where
+pub record Moves (P R : List ℕ → List ℕ → Turning → Type 0) (now p : ℕ) (s : Turning) (calls : List Call) (events : List ChosenEvent) (t : Turning) : Type 0 where
   pub device : t.server.device ≡ (done_at now events s.server.device).after
   pub goes : (taken sent : List ℕ) → P taken sent s → R (taken ++ taken_of (p + 1) calls) (sent ++ sent_to (p + 1) (done_at now events s.server.device).answers) t
 
@@ -54,7 +54,7 @@ pub moved : (R : List ℕ → List ℕ → Turning → Type 0) (t : Turning) (ta
 moved R t taken more sent further r e f = subst (λ l. R more l t) f (subst (λ l. R l sent t) e r)
 
 module _ (P Q R : List ℕ → List ℕ → Turning → Type 0) (now p : ℕ) where
-  pub Moves-trans : (s t u : Turning) (c d : List Call) (xs ys : List Doing) → Moves P Q now p s c xs t → Moves Q R now p t d ys u → Moves P R now p s (c ++ d) (xs ++ ys) u
+  pub Moves-trans : (s t u : Turning) (c d : List Call) (xs ys : List ChosenEvent) → Moves P Q now p s c xs t → Moves Q R now p t d ys u → Moves P R now p s (c ++ d) (xs ++ ys) u
   Moves-trans s t u c d xs ys a b =
       let both : IsBoth now xs ys s.server.device = done-append now xs ys s.server.device in
       let first = (done_at now xs s.server.device).answers in
@@ -81,7 +81,7 @@ module _ (P R : List ℕ → List ℕ → Turning → Type 0) (now p : ℕ) wher
   }
 
   -- one event
-  pub Moves-one : (s t : Turning) (calls : List Call) (e : Doing) → t.server.device ≡ (done_at now (e ∷ []) s.server.device).after → taken_of (p + 1) calls ≡ []
+  pub Moves-one : (s t : Turning) (calls : List Call) (e : ChosenEvent) → t.server.device ≡ (done_at now (e ∷ []) s.server.device).after → taken_of (p + 1) calls ≡ []
       → ((taken sent : List ℕ) → P taken sent s → R taken (sent ++ answer_to (p + 1) (outcome e.0 now e.1 s.server.device).answer) t)
       → Moves P R now p s calls (e ∷ []) t
   Moves-one s t calls e device none h = record {

@@ -15,7 +15,7 @@ use Rattle.bay_serve.specs.Standings.{is_leaving}
 use Rattle.bay_serve.specs.Turns.{Held, Reading, Script, Turning, accept_calls, accept_calls_at, accepted, after_accept, after_each, after_line, after_reads, after_scan, begun, calls_of_each, cut_off, first_full, free_place, goes, heard_calls, hung_up, is_up, leaves, line_calls, lined, offer_calls, offer_end, offer_of, offer_one, after_offer, on_accept, on_heard, opened, parted, read_calls, read_one, scan_calls, scanned, settled, settled_in, settled_next, settling, settling_in, settling_next, standing_of, stepped, taken_in, told_after, told_of, turn_calls, turned, with_device, with_noted, with_queue}
 use Rattle.bay_serve.specs.declared.told.Closing.{Closing}
 use Rattle.bay_serve.specs.declared.told.Closing.TheVariants as closing
-use Rattle.bay_serve_laws.specs.Events.{Doing, HasNoOctets, accept_events, accept_events_at, closing_of, commands_in, commands_of, done_at, events_of_each, failed_events, heard_events, line_events, offer_events, read_events, scan_events, settled_events, settled_in_events, settled_next_events, surely, turn_events}
+use Rattle.bay_serve_laws.specs.Events.{ChosenEvent, HasNoOctets, accept_events, accept_events_at, closing_of, commands_in, commands_of, done_at, events_of_each, failed_events, heard_events, line_events, offer_events, read_events, scan_events, settled_events, settled_in_events, settled_next_events, surely, turn_events}
 use Rattle.bay_serve_laws.specs.Faults.{is_link_failed}
 use Rattle.bay_serve_laws.proofs.BlameLemmas.{Blames, Blames-same, Blames-failed, Blames-trans, offered-failed, some_failed}
 use Rattle.bay_serve_laws.proofs.DoneLemmas.{IsBoth, done-append, commands-append}
@@ -23,7 +23,7 @@ use Rattle.bay_serve_laws.proofs.QuietLemmas.{IsQuiet, outcome-quiet, placed-qui
 use Rattle.bay_serve_laws.proofs.SameLemmas.{Commands, Same, SameNotes, Same-refl, goes-commands, goes-same, leaves-same, parted-same, put_answer-commands, put_quiet-same, put_told-same}
 
 -- Where Q holds, the commands that are told are those of the events.
-pub record Part (Q : Type 0) (now : ℕ) (s : Turning) (calls : List Call) (events : List Doing) (t : Turning) : Type 0 where
+pub record Part (Q : Type 0) (now : ℕ) (s : Turning) (calls : List Call) (events : List ChosenEvent) (t : Turning) : Type 0 where
   pub device : t.server.device ≡ (done_at now events s.server.device).after
   pub commands : Q → t.noted.commands ≡ s.noted.commands ++ commands_of (done_at now events s.server.device).answers
   pub blames : Blames s.noted.closed t.noted.closed calls
@@ -39,7 +39,7 @@ module _ (Q : Type 0) (now : ℕ) where
   Part-still : (s : Turning) (calls : List Call) → Part Q now s calls [] s
   Part-still s calls = Part-same s s calls (Same-refl s)
 
-  pub Part-trans : (s t u : Turning) (c d : List Call) (xs ys : List Doing) → Part Q now s c xs t → Part Q now t d ys u → Part Q now s (c ++ d) (xs ++ ys) u
+  pub Part-trans : (s t u : Turning) (c d : List Call) (xs ys : List ChosenEvent) → Part Q now s c xs t → Part Q now t d ys u → Part Q now s (c ++ d) (xs ++ ys) u
   Part-trans s t u c d xs ys a b =
       let both : IsBoth now xs ys s.server.device = done-append now xs ys s.server.device in
       let first = (done_at now xs s.server.device).answers in
@@ -61,7 +61,7 @@ module _ (Q : Type 0) (now : ℕ) where
   quiet-commands (Ok step) h = h.commands
 
   -- an event of which only the device is left, and what does not matter here
-  Part-one : (s t : Turning) (calls : List Call) (e : Doing) (o : Outcome) → outcome e.0 now e.1 s.server.device ≡ o
+  Part-one : (s t : Turning) (calls : List Call) (e : ChosenEvent) (o : Outcome) → outcome e.0 now e.1 s.server.device ≡ o
       → (Q → IsQuiet o.answer) → Same (with_device o.after s) t → Part Q now s calls (e ∷ []) t
   Part-one s t calls e o is quiet same = record {
     device = same.device ∙ ap (λ (x : Outcome). x.after) (sym is);
@@ -122,7 +122,7 @@ module _ (Q : Type 0) (now : ℕ) where
 
   -- ---- what did not fit
 
-  Part-next : (o : Option ℕ) (s : Turning) (f : Turning → Turning) (calls : Turning → List Call) (events : Turning → List Doing)
+  Part-next : (o : Option ℕ) (s : Turning) (f : Turning → Turning) (calls : Turning → List Call) (events : Turning → List ChosenEvent)
       → ((t : Turning) → Part Q now t (calls t) (events t) (f t))
       → Part Q now s (settling_next now o s calls) (settled_next_events now o s events) (settled_next now o s f)
   Part-next None s f calls events later = Part-still s []
@@ -141,7 +141,7 @@ module _ (Q : Type 0) (now : ℕ) where
   Part-settled s = Part-settled_in 8 s
 
   -- an event, and what did not fit then
-  Part-then : (s t : Turning) (calls : List Call) (e : Doing) → Part Q now s calls (e ∷ []) t
+  Part-then : (s t : Turning) (calls : List Call) (e : ChosenEvent) → Part Q now s calls (e ∷ []) t
       → Part Q now s (calls ++ settling now t) (e ∷ settled_events now t) (settled now t)
   Part-then s t calls e h = Part-trans s t (settled now t) calls (settling now t) (e ∷ []) (settled_events now t) h (Part-settled t)
 
@@ -172,7 +172,7 @@ module _ (Q : Type 0) (now : ℕ) where
       let calls = Reads (place + 1) 4096 Broken ∷ Closes (place + 1) ∷ [] in
       Part-then s (cut_off now closing.LinkFailed place s) calls (closing_of place) (Part-cut closing.LinkFailed place s calls (inr refl))
 
-  Part-if : (s t : Turning) (calls : List Call) (events : List Doing) (b : Bool) → Part Q now s calls events t
+  Part-if : (s t : Turning) (calls : List Call) (events : List ChosenEvent) (b : Bool) → Part Q now s calls events t
       → Part Q now s (if b then calls else []) (if b then events else []) (if b then t else s)
   Part-if s t calls events true h = h
   Part-if s t calls events false h = Part-still s []
@@ -215,7 +215,7 @@ module _ (Q : Type 0) (now : ℕ) where
   pub Part-offer : (place : ℕ) (o : Offer) (s : Turning) → Part Q now s (offer_calls now place o s) (offer_events now place o s) (offer_one now place o s)
   Part-offer place o s = Part-offer_if place o s (is_leaving (standing_of place s)) (is_up place s)
 
-  Part-each : {C : Type 0} (f : ℕ → C → Turning → Turning) (calls : ℕ → C → Turning → List Call) (events : ℕ → C → Turning → List Doing)
+  Part-each : {C : Type 0} (f : ℕ → C → Turning → Turning) (calls : ℕ → C → Turning → List Call) (events : ℕ → C → Turning → List ChosenEvent)
       → ((place : ℕ) (c : C) (s : Turning) → Part Q now s (calls place c s) (events place c s) (f place c s))
       → (place : ℕ) (cs : List C) (s : Turning) → Part Q now s (calls_of_each f calls place cs s) (events_of_each f events place cs s) (after_each f place cs s)
   Part-each f calls events step place [] s = Part-still s []

@@ -7,7 +7,7 @@ use Rattle.bay_serve.specs.Standings.{is_full, is_leaving}
 use Rattle.bay_serve.specs.Turns.{Held, Script, Turning, after_accept, after_each, after_line, after_reads, after_scan, begun, calls_of_each, is_up, offer_calls, offer_one, queue_at, queue_of, read_calls, read_one, standing_of, turn_calls, turned}
 use Rattle.bay_serve.specs.declared.standing.Standing.{Standing}
 use Rattle.bay_serve.specs.declared.standing.Standing.TheVariants.{Steady, Full, Leaving, LeavingFull, Gone}
-use Rattle.bay_serve_laws.specs.Events.{Doing, done_at, events_of_each, offer_events, read_events, turn_events}
+use Rattle.bay_serve_laws.specs.Events.{ChosenEvent, done_at, events_of_each, offer_events, read_events, turn_events}
 use Rattle.bay_serve_laws.specs.Flows.{IsInTime, IsOfProcess, IsTidy, LosesNothing, sent_to, taken_of}
 use Rattle.bay_serve_laws.proofs.CarryLemmas.{MayLose}
 use Rattle.bay_serve_laws.proofs.CutLemmas.{Well}
@@ -15,7 +15,7 @@ use Rattle.bay_serve_laws.proofs.MoveLemmas.{Moves, Moves-none, Moves-trans}
 use Rattle.bay_serve_laws.proofs.OfferFlows.{each-left, offer-moves}
 use Rattle.bay_serve_laws.proofs.ReadFlows.{Fresh, accept-moves, begun-fresh, line-moves, read-moves, scan-moves}
 
-each-moves : {C : Type 0} (P : List ℕ → List ℕ → Turning → Type 0) (now p : ℕ) (f : ℕ → C → Turning → Turning) (calls : ℕ → C → Turning → List Call) (events : ℕ → C → Turning → List Doing)
+each-moves : {C : Type 0} (P : List ℕ → List ℕ → Turning → Type 0) (now p : ℕ) (f : ℕ → C → Turning → Turning) (calls : ℕ → C → Turning → List Call) (events : ℕ → C → Turning → List ChosenEvent)
     → ((i : ℕ) (c : C) (s : Turning) → Moves P P now p s (calls i c s) (events i c s) (f i c s))
     → (i : ℕ) (cs : List C) (s : Turning) → Moves P P now p s (calls_of_each f calls i cs s) (events_of_each f events i cs s) (after_each f i cs s)
 each-moves P now p f calls events step i [] s = Moves-none P P now p s s [] refl refl (λ taken sent w. w)
