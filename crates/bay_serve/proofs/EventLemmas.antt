@@ -1,12 +1,12 @@
 -- Events of the device as a turn steps them.
-use Rattle.std.proofs.Common.{◌≡◌, ℕ, ◌+◌, ◌-◌, ◌<◌, List, [], Option, Some, None, nat_lt, Bool, true, refl, ap, sym, ◌∙◌, subst, arith}
+use Rattle.std.proofs.Common.{◌≡◌, ℕ, ◌+◌, ◌-◌, ◌<◌, [], Option, Some, None, nat_lt, true, refl, ap, sym, ◌∙◌, subst, arith}
 use Rattle.std.proofs.lemmas.Bool.{lt-ltb}
 use Rattle.bay_device.specs.Device.{State}
-use Rattle.bay_device.specs.Outcomes.{Outcome, outcome, place_of}
+use Rattle.bay_device.specs.Outcomes.{outcome, place_of}
 use Rattle.bay_device.specs.Steps.{IsWithoutOctets}
 use Rattle.bay_device.specs.declared.event.Event.{Event}
 use Rattle.bay_device.specs.declared.event.Event.TheVariants.{Open, Recv, Close, Contact, Input, Measure, Scan}
-use Rattle.bay_trace.specs.Placing.{AreOctets, anywhere, lying, placed_event}
+use Rattle.bay_trace.specs.Placing.{AreOctets, anywhere, placed_event}
 use Rattle.bay_trace.specs.Trace.{NamedData, connects, receives, disconnects, contact, input, measure, scan}
 
 -- where the octets of an event lie changes nothing

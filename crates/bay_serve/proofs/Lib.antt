@@ -1,5 +1,6 @@
-pub mod TalkLemmas
+pub mod EventLemmas
 pub mod OfferLemmas
 pub mod PartLemmas
 pub mod RoomLemmas
-pub mod EventLemmas
+pub mod StepLemmas
+pub mod TalkLemmas

@@ -2,10 +2,10 @@
 use Rattle.std.proofs.Common.{◌≡◌, ℕ, ◌+◌, Bool, true, false, Option, Some, None, Result, Ok, Err, List, [], ◌∷◌, ◌++◌, drop, refl, ap, sym, ◌∙◌, subst}
 use Rattle.bay_trace.specs.Trace.{NamedData}
 use Rattle.bay_serve.specs.Calls.{Call, Accepts, Reads, Closes, Talks, Heard, Silence, Octets, Over, Broken, heard}
-use Rattle.bay_serve.specs.Offers.{Offer, Offered}
+use Rattle.bay_serve.specs.Offers.{Offer}
 use Rattle.bay_serve.specs.Served.{Goes, GoesEach, Offers, Serves, TakesIn}
 use Rattle.bay_serve.specs.Standings.{is_leaving}
-use Rattle.bay_serve.specs.Turns.{Held, Noted, Reading, Script, Turning, accept_calls, accept_calls_at, accepted, after_accept, after_each, after_line, after_reads, after_scan, begun, calls_of_each, cut_off, free_place, heard_calls, hung_up, is_up, line_calls, lined, offer_calls, offer_end, offer_of, offer_one, on_accept, on_heard, opened, parted, queue_of, read_calls, read_one, scan_calls, scanned, settled, settling, standing_of, taken_in, turned, turning, with_queue}
+use Rattle.bay_serve.specs.Turns.{Held, Noted, Script, Turning, accept_calls, accept_calls_at, accepted, after_accept, after_each, after_line, after_reads, after_scan, begun, calls_of_each, cut_off, free_place, heard_calls, hung_up, is_up, line_calls, lined, offer_calls, offer_end, offer_of, offer_one, on_accept, on_heard, opened, parted, queue_of, read_calls, read_one, scan_calls, scanned, settled, settling, standing_of, turned, turning, with_queue}
 use Rattle.bay_serve.specs.declared.link.Got.{Got}
 use Rattle.bay_serve.specs.declared.told.Closing.TheVariants.{LinkFailed}
 use Rattle.bay_serve.specs.declared.told.Turn.{Turn}
@@ -198,3 +198,8 @@ module _ {L : Type 0} (step : L → Call → L → Type 0) where
       → Serves step old new now line before after turn
   serves_with old l m p q new now line before after first noted s t u v turn e a r lt li st si o told =
       serves old l m p q new now line before after noted s t u v turn (subst (λ x. Goes step (accepted now) (accept_calls now) old l x s) e a) r lt li st si o told
+
+  pub serves_as : (old new : L) (now same : ℕ) (line told : Option NamedData) (before after : Held) (turn : Turn) → Serves step old new now line before after turn
+      → now ≡ same → line ≡ told → Serves step old new same told before after turn
+  serves_as old new now same line told before after turn serves p q =
+      subst (λ n. Serves step old new n told before after turn) p (subst (λ l. Serves step old new now l before after turn) q serves)

@@ -1,6 +1,6 @@
 -- There is room for an entry of each association that is not told yet.
-use Rattle.std.proofs.Common.{◌≡◌, ℕ, zero, suc, ◌+◌, ◌<◌, ◌≤◌, Bool, true, false, cond, List, [], ◌∷◌, length, count_by, slice_index_or, slice_set, ap, sym, ◌∙◌, arith}
-use Rattle.std.proofs.lemmas.List.Sums.{count_by-le-length}
+use Rattle.std.proofs.Common.{◌≡◌, ℕ, zero, suc, ◌+◌, ◌<◌, true, false, cond, List, [], ◌∷◌, length, count_by, slice_index_or, slice_set, refl, ap, arith}
+use Rattle.std.proofs.lemmas.List.Sums.{count_by-le-length, sum_by-cons}
 use Rattle.bay_serve.specs.Standings.{is_told}
 use Rattle.bay_serve.specs.declared.standing.Standing.{Standing}
 use Rattle.bay_serve.specs.declared.standing.Standing.TheVariants.{Steady, Gone}
@@ -12,9 +12,16 @@ entry_of s = cond (is_told s) 1 0
 pub told-set : (xs : List Standing) (k : ℕ) (v : Standing) → k < length xs
     → count_by is_told (slice_set xs k v) + entry_of (slice_index_or xs k Steady) ≡ count_by is_told xs + entry_of v
 told-set [] k v h = absurd (omega arith)
-told-set (x ∷ xs) zero v h = omega arith
+told-set (x ∷ xs) zero v h =
+    let new : count_by is_told (slice_set (x ∷ xs) zero v) ≡ entry_of v + count_by is_told xs = sum_by-cons entry_of v xs in
+    let old : count_by is_told (x ∷ xs) ≡ entry_of x + count_by is_told xs = sum_by-cons entry_of x xs in
+    let here : entry_of (slice_index_or (x ∷ xs) zero Steady) ≡ entry_of x = refl in
+    omega arith
 told-set (x ∷ xs) (suc k) v h =
     let inner : k < length xs = omega arith in
+    let new : count_by is_told (slice_set (x ∷ xs) (suc k) v) ≡ entry_of x + count_by is_told (slice_set xs k v) = sum_by-cons entry_of x (slice_set xs k v) in
+    let old : count_by is_told (x ∷ xs) ≡ entry_of x + count_by is_told xs = sum_by-cons entry_of x xs in
+    let here : entry_of (slice_index_or (x ∷ xs) (suc k) Steady) ≡ entry_of (slice_index_or xs k Steady) = refl in
     omega (arith, told-set xs k v inner)
 
 set-length : (xs : List Standing) (k : ℕ) (v : Standing) → length (slice_set xs k v) ≡ length xs
@@ -25,9 +32,9 @@ set-length (x ∷ xs) (suc k) v = omega (arith, set-length xs k v)
 -- one that was not told is told now
 pub told-more : (xs : List Standing) (k : ℕ) (v : Standing) → k < length xs → is_told (slice_index_or xs k Steady) ≡ false → is_told v ≡ true
     → count_by is_told (slice_set xs k v) ≡ count_by is_told xs + 1
-told-more xs k v h no yes =
-    let none : entry_of (slice_index_or xs k Steady) ≡ 0 = ap (λ b. cond b 1 0) no in
-    let one : entry_of v ≡ 1 = ap (λ b. cond b 1 0) yes in
+told-more xs k v h isnt is =
+    let none : entry_of (slice_index_or xs k Steady) ≡ 0 = ap (λ b. cond b 1 0) isnt in
+    let one : entry_of v ≡ 1 = ap (λ b. cond b 1 0) is in
     omega (arith, told-set xs k v h)
 
 -- one that is told, or is not, still is
@@ -39,6 +46,6 @@ told-same xs k v h same =
 
 -- while one is not told, there are fewer entries than associations
 pub told-room : (xs : List Standing) (k : ℕ) → k < length xs → is_told (slice_index_or xs k Steady) ≡ false → count_by is_told xs < length xs
-told-room xs k h no =
-    let yes : is_told Gone ≡ true = cc in
-    omega (arith, told-more xs k Gone h no yes, count_by-le-length is_told (slice_set xs k Gone), set-length xs k Gone)
+told-room xs k h isnt =
+    let is : is_told Gone ≡ true = refl in
+    omega (arith, told-more xs k Gone h isnt is, count_by-le-length is_told (slice_set xs k Gone), set-length xs k Gone)

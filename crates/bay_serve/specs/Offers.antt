@@ -1,5 +1,5 @@
 -- Octets that are offered to a link.
-use Rattle.std.specs.Prelude.{ℕ, zero, suc, ◌+◌, Bool, true, false, if◌then◌else◌, List, [], ◌∷◌, ◌++◌, drop, Option, Some, None}
+use Rattle.std.specs.Prelude.{ℕ, zero, suc, ◌+◌, Bool, false, if◌then◌else◌, List, [], ◌∷◌, ◌++◌, drop, Some, None}
 use Rattle.bay_serve.specs.Calls.{Call, Writes}
 
 -- what the link takes of an offer: so much at each write that takes anything, and whether the last write fails

@@ -1,5 +1,5 @@
 -- What a turn does, with the link that it is done over.
-use Rattle.std.specs.Prelude.{◌≡◌, ℕ, nat_lt, Bool, true, false, List, ◌++◌, length, drop, Option, Some, None, option_and_then, option_map, if◌then◌else◌}
+use Rattle.std.specs.Prelude.{◌≡◌, ℕ, nat_lt, Bool, List, ◌++◌, length, drop, Option, Some, None, option_and_then, option_map, if◌then◌else◌}
 use Rattle.std.specs.Borrow.{Bor}
 use Rattle.bay_device.specs.Outcomes.{last_moment}
 use Rattle.bay_trace.specs.Trace.{NamedData, process_of, trace_line_of}

@@ -1,5 +1,5 @@
 -- A turn of the server: what it comes to, by what the link and the memory decide.
-use Rattle.std.specs.Prelude.{ℕ, zero, suc, ◌+◌, max, nat_le, Bool, true, false, if◌then◌else◌, List, [], ◌∷◌, ◌++◌, length, position, replicate, slice_set, unwrap_or, Option, Some, None, is_none, is_some, Result, Ok, Err}
+use Rattle.std.specs.Prelude.{ℕ, zero, suc, ◌+◌, max, nat_le, Bool, true, false, if◌then◌else◌, List, [], ◌∷◌, ◌++◌, length, position, replicate, slice_set, Option, Some, None, is_none, is_some, Result, Ok, Err}
 use Rattle.std.specs.List.{slice_index_or}
 use Rattle.bay_services.specs.declared.answer.Command.{Command}
 use Rattle.bay_device.specs.Code.{step_code_of}
@@ -211,9 +211,13 @@ pub record Reading : Type 0 where
   pub heard : Heard
   pub choice : Option ℕ
 
+-- the device has closed it, or not
+abbrev pub left_noted : ℕ → Option (ℕ × Why) → Noted → Noted
+left_noted place None n = n
+left_noted place (Some closed) n = leaves place closed.1 n
+
 abbrev pub left_by : ℕ → Option (ℕ × Why) → Turning → Turning
-left_by place None s = s
-left_by place (Some closed) s = with_noted (leaves place closed.1 s.noted) s
+left_by place closed s = with_noted (left_noted place closed s.noted) s
 
 abbrev pub with_commands : List Command → Turning → Turning
 with_commands commands s = with_noted (record s.noted { commands = s.noted.commands ++ commands }) s

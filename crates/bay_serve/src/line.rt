@@ -1,6 +1,5 @@
 // What a line of the trace tells a server.
 ghost use Rattle.std.specs.Prelude.{◌≡◌, true, false, Some, None, option_map, IfOk, IfErr};
-ghost use Rattle.bay_trace.specs.Placing.{AreOctets};
 ghost use Rattle.bay_trace.specs.TraceView.{named_view};
 ghost use Rattle.bay_serve.specs.Served.{line_in, refusal_at, text_in};
 ghost use Rattle.bay_serve.specs.declared.fault.ServeFault.TheVariants.{BadLine};

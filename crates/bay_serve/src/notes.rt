@@ -1,7 +1,7 @@
 // What a turn has to remember.
 ghost use Rattle.std.specs.Prelude.{◌≡◌, ◌+◌, ◌<◌, ◌++◌, ◌∷◌, [], Some, true, length, IfOk, IfSome};
 ghost use Rattle.bay_serve.specs.Standings.{filled, is_leaving};
-ghost use Rattle.bay_serve.specs.Turns.{first_full, goes, leaves, nothing_noted, standing_in, stands};
+ghost use Rattle.bay_serve.specs.Turns.{first_full, goes, leaves, left_noted, nothing_noted, standing_in, stands};
 ghost use Rattle.bay_serve.specs.declared.standing.Standing.TheVariants.{Gone};
 
 use crate::server::ASSOCIATIONS;
@@ -65,7 +65,9 @@ impl Notes {
         ensures lowest { result ≡ first_full self.now }
         ensures within { IfSome result (λ place. place < 8) }
     {
-        self.standings.iter().position(|standing| standing.is_full())
+        self.standings
+            .iter()
+            .position(|standing| standing.is_full())
     }
 
     /// A reply to the association at a place did not fit its queue.
@@ -83,14 +85,29 @@ impl Notes {
     {
         if !self.standings[place].is_told() {
             match why {
-                Why::Ended => self.closed.push((place as u16 + 1, Closing::Ended)).unwrap(),
+                Why::Ended => self
+                    .closed
+                    .push((place as u16 + 1, Closing::Ended))
+                    .unwrap(),
                 Why::Fault(code) => {
-                    self.closed.push((place as u16 + 1, Closing::Fault(code))).unwrap();
+                    self.closed
+                        .push((place as u16 + 1, Closing::Fault(code)))
+                        .unwrap();
                 }
                 Why::Memory => self.memory.push(place as u16 + 1).unwrap(),
             }
         }
         self.standings[place] = Standing::Leaving;
+    }
+
+    /// The device has closed the association at a place, if it has closed one.
+    pub fn leave_if_closed(&mut self, place: usize, closed: Option<(u16, Why)>)
+        requires { place < 8 }
+        ensures { self.new ≡ left_noted place closed self.old }
+    {
+        if let Some((_, why)) = closed {
+            self.leave(place, why);
+        }
     }
 
     /// The association at a place was closed, and there is nothing left to send.

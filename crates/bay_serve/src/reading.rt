@@ -51,9 +51,7 @@ fn take_in(server: &mut Server, notes: &mut Notes, now: u64, place: usize, octet
     ) else {
         return;
     };
-    if let Some((_, why)) = step.closed {
-        notes.leave(place, why);
-    }
+    notes.leave_if_closed(place, step.closed);
     put_ended(server, notes, &step.ended);
     put_all(server, notes, step.sent.as_slice());
     tell_commands(server, notes, step.commands.as_slice());

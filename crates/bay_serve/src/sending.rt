@@ -55,7 +55,7 @@ pub fn put_ended(server: &mut Server, notes: &mut Notes, ended: &Option<Sent>)
 
 /// Does an event that sends nothing but what tells of an end.
 pub fn step_quietly(server: &mut Server, notes: &mut Notes, now: u64, event: Event<'_>)
-    requires { IsWithoutOctets event.entry }
+    requires { IsWithoutOctets event }
     ensures after { turning server.new notes.new ≡ stepped now event.entry (turning server.old notes.old) }
     ensures commands { notes.new.commands ≡ notes.old.commands }
 {

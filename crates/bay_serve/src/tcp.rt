@@ -42,9 +42,11 @@ fn write_some(stream: &Option<TcpStream>, octets: &[u8]) -> io::Result<usize>
     }
 }
 
+/// A connection that waits; neither its reads nor its writes do, and what is written goes out at once.
 fn accept_one(listener: &TcpListener) -> io::Result<TcpStream> {
     let (stream, _) = listener.accept()?;
     stream.set_nonblocking(true)?;
+    stream.set_nodelay(true)?;
     Ok(stream)
 }
 

@@ -1,0 +1,10 @@
+use Rattle.bay_serve.specs.Turns.{settled, settling}
+use Rattle.bay_serve.proofs.closing.settle.Goals as goal
+
+pub returns-clause-talks : goal.returns-clause-talks
+unfolding settling
+returns-clause-talks g c = c.settle_some.ensures.talks
+
+pub returns-clause-after : goal.returns-clause-after
+unfolding settled
+returns-clause-after g c = c.settle_some.ensures.after
