@@ -1,0 +1,15 @@
+pub mod BlameLemmas
+pub mod DoneLemmas
+pub mod QuietLemmas
+pub mod SameLemmas
+pub mod PartLemmas
+pub mod StandingLemmas
+pub mod UpLemmas
+pub mod CarryLemmas
+pub mod PutLemmas
+pub mod MoveLemmas
+pub mod LineLemmas
+pub mod CutLemmas
+pub mod ReadFlows
+pub mod OfferFlows
+pub mod TurnFlows

@@ -1,0 +1,129 @@
+-- What changes neither the device nor the commands, and tells of no failed link.
+use Rattle.std.proofs.Common.{◌≡◌, ℕ, ◌+◌, Bool, true, false, if◌then◌else◌, List, [], ◌∷◌, ◌++◌, Option, Some, None, Result, Ok, Err, refl, ap, sym, ◌∙◌, append-nil}
+use Rattle.bay_services.specs.declared.answer.Command.{Command}
+use Rattle.bay_device.specs.Outcomes.{place_of}
+use Rattle.bay_device.specs.declared.event.Sent.{Sent}
+use Rattle.bay_device.specs.declared.event.Step.{Step}
+use Rattle.bay_device.specs.declared.event.Why.{Why}
+use Rattle.bay_device.specs.declared.event.Why.TheVariants.{Ended, Fault, Memory}
+use Rattle.bay_device.specs.declared.fault.StepFault.{StepFault}
+use Rattle.bay_serve.specs.Standings.{filled, is_told, takes_replies}
+use Rattle.bay_serve.specs.Turns.{Noted, Turning, goes, has_room, is_up, leaves, left_by, parted, put_all, put_answer, put_at, put_ended, put_quiet, put_sent, put_told, put_whole, queue_of, standing_in, standing_of, stands, told, told_memory, told_why, with_noted, with_queue}
+use Rattle.bay_serve.specs.declared.told.Closing.{Closing}
+use Rattle.bay_serve.specs.declared.told.Closing.TheVariants as closing
+use Rattle.bay_serve_laws.specs.Events.{commands_in}
+use Rattle.bay_serve_laws.specs.Faults.{is_link_failed, tells_failure}
+use Rattle.bay_serve_laws.proofs.BlameLemmas.{tells-append}
+
+pub record Same (s t : Turning) : Type 0 where
+  pub device : t.server.device ≡ s.server.device
+  pub commands : t.noted.commands ≡ s.noted.commands
+  pub failures : tells_failure t.noted.closed ≡ tells_failure s.noted.closed
+
+pub Same-refl : (s : Turning) → Same s s
+Same-refl s = record { device = refl; commands = refl; failures = refl }
+
+pub Same-trans : (s t u : Turning) → Same s t → Same t u → Same s u
+Same-trans s t u a b = record { device = b.device ∙ a.device; commands = b.commands ∙ a.commands; failures = b.failures ∙ a.failures }
+
+Same-if : (s t u : Turning) (b : Bool) → Same s t → Same s u → Same s (if b then t else u)
+Same-if s t u true a b = a
+Same-if s t u false a b = b
+
+put_whole-same : (place : ℕ) (octets : List ℕ) (s : Turning) → Same s (put_whole place octets s)
+put_whole-same place octets s =
+    Same-if s (with_queue place (queue_of place s ++ octets) s) (with_noted (stands place (filled (standing_of place s)) s.noted) s) (has_room (queue_of place s) octets)
+    (record { device = refl; commands = refl; failures = refl }) (record { device = refl; commands = refl; failures = refl })
+
+put_at-same : (place : Option ℕ) (octets : List ℕ) (s : Turning) → Same s (put_at place octets s)
+put_at-same None octets s = Same-refl s
+put_at-same (Some place) octets s =
+    Same-if s (put_whole place octets s) s (takes_replies (standing_of place s) (is_up place s)) (put_whole-same place octets s) (Same-refl s)
+
+put_sent-same : (sent : Sent) (s : Turning) → Same s (put_sent sent s)
+put_sent-same sent s = put_at-same (place_of sent.association) sent.octets s
+
+put_all-same : (sends : List Sent) (s : Turning) → Same s (put_all sends s)
+put_all-same [] s = Same-refl s
+put_all-same (sent ∷ more) s =
+    Same-trans s (put_sent sent s) (put_all more (put_sent sent s)) (put_sent-same sent s) (put_all-same more (put_sent sent s))
+
+put_ended-same : (ended : Option Sent) (s : Turning) → Same s (put_ended ended s)
+put_ended-same None s = Same-refl s
+put_ended-same (Some sent) s = put_sent-same sent s
+
+pub put_quiet-same : (answer : Result Step StepFault) (s : Turning) → Same s (put_quiet answer s)
+put_quiet-same (Err fault) s = Same-refl s
+put_quiet-same (Ok step) s = put_ended-same step.ended s
+
+pub put_told-same : (answer : Result Step StepFault) (s : Turning) → Same s (put_told answer s)
+put_told-same (Err fault) s = record { device = refl; commands = refl; failures = refl }
+put_told-same (Ok step) s = put_ended-same step.ended s
+
+-- ---- what is told
+
+pub record SameNotes (n m : Noted) : Type 0 where
+  pub commands : m.commands ≡ n.commands
+  pub failures : tells_failure m.closed ≡ tells_failure n.closed
+
+notes_if : (n m : Noted) (b : Bool) → SameNotes n m → SameNotes n (if b then n else m)
+notes_if n m true h = record { commands = refl; failures = refl }
+notes_if n m false h = h
+
+told-same : (place : ℕ) (closing : Closing) (n : Noted) → is_link_failed closing ≡ false → SameNotes n (told place closing n)
+told-same place closing n e =
+    notes_if n (record n { closed = n.closed ++ (place + 1, closing) ∷ [] }) (is_told (standing_in place n))
+    (record { commands = refl; failures = tells-append n.closed (place + 1) closing e })
+
+told_memory-same : (place : ℕ) (n : Noted) → SameNotes n (told_memory place n)
+told_memory-same place n =
+    notes_if n (record n { memory = n.memory ++ (place + 1) ∷ [] }) (is_told (standing_in place n)) (record { commands = refl; failures = refl })
+
+told_why-same : (place : ℕ) (why : Why) (n : Noted) → SameNotes n (told_why place why n)
+told_why-same place Ended n = told-same place closing.Ended n refl
+told_why-same place (Fault code) n = told-same place (closing.Fault code) n refl
+told_why-same place Memory n = told_memory-same place n
+
+pub leaves-same : (place : ℕ) (why : Why) (s : Turning) → Same s (with_noted (leaves place why s.noted) s)
+leaves-same place why s =
+    let told : SameNotes s.noted (told_why place why s.noted) = told_why-same place why s.noted in
+    record { device = refl; commands = told.commands; failures = told.failures }
+
+pub goes-same : (place : ℕ) (closing : Closing) (n : Noted) → is_link_failed closing ≡ false → SameNotes n (goes place closing n)
+goes-same place closing n e =
+    let told : SameNotes n (told place closing n) = told-same place closing n e in
+    record { commands = told.commands; failures = told.failures }
+
+commands_if : (n m : Noted) (b : Bool) → m.commands ≡ n.commands → (let o : Noted = if b then n else m in o).commands ≡ n.commands
+commands_if n m true e = refl
+commands_if n m false e = e
+
+-- whatever the reason
+pub goes-commands : (place : ℕ) (closing : Closing) (n : Noted) → (goes place closing n).commands ≡ n.commands
+goes-commands place closing n = commands_if n (record n { closed = n.closed ++ (place + 1, closing) ∷ [] }) (is_told (standing_in place n)) refl
+
+pub parted-same : (place : ℕ) (s : Turning) → Same s (parted place s)
+parted-same place s = record { device = refl; commands = refl; failures = refl }
+
+-- ---- the device's answer to octets
+
+left_by-same : (place : ℕ) (closed : Option (ℕ × Why)) (s : Turning) → Same s (left_by place closed s)
+left_by-same place None s = Same-refl s
+left_by-same place (Some closed) s = leaves-same place closed.1 s
+
+-- its commands are told besides
+pub record Commands (added : List Command) (s t : Turning) : Type 0 where
+  pub device : t.server.device ≡ s.server.device
+  pub commands : t.noted.commands ≡ s.noted.commands ++ added
+  pub failures : tells_failure t.noted.closed ≡ tells_failure s.noted.closed
+
+pub put_answer-commands : (place : ℕ) (answer : Result Step StepFault) (s : Turning) → Commands (commands_in answer) s (put_answer place answer s)
+put_answer-commands place (Err fault) s = record { device = refl; commands = sym (append-nil s.noted.commands); failures = refl }
+put_answer-commands place (Ok step) s =
+    let left : Turning = left_by place step.closed s in
+    let ended : Turning = put_ended step.ended left in
+    let put : Turning = put_all step.sent ended in
+    let all : Same s put =
+    Same-trans s left put (left_by-same place step.closed s)
+    (Same-trans left ended put (put_ended-same step.ended left) (put_all-same step.sent ended)) in
+    record { device = all.device; commands = ap (λ l. l ++ step.commands) all.commands; failures = all.failures }

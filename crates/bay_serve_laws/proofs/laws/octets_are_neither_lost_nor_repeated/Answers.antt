@@ -1,0 +1,9 @@
+use Rattle.bay_serve_laws.proofs.LineLemmas.{line-process}
+use Rattle.bay_serve_laws.proofs.TurnFlows.{loses-nothing}
+use Rattle.bay_serve_laws.proofs.laws.octets_are_neither_lost_nor_repeated.Goals as goal
+
+pub returns-clause-octets : goal.returns-clause-octets
+returns-clause-octets c = loses-nothing
+
+pub returns-clause-lines : goal.returns-clause-lines
+returns-clause-lines c = line-process

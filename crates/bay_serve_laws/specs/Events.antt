@@ -1,0 +1,125 @@
+-- The events that a turn does on the device, in their order, each with its choice; and what they come to.
+use Rattle.std.specs.Prelude.{◌≡◌, ℕ, zero, suc, ◌+◌, Bool, true, false, if◌then◌else◌, List, [], ◌∷◌, ◌++◌, Option, Some, None, IfSome, Result, Ok, Err}
+use Rattle.bay_services.specs.declared.answer.Command.{Command}
+use Rattle.bay_device.specs.Device.{State}
+use Rattle.bay_device.specs.Outcomes.{Outcomes, outcomes}
+use Rattle.bay_device.specs.declared.event.Event.{Event}
+use Rattle.bay_device.specs.declared.event.Event.TheVariants.{Open, Recv, Close, Scan}
+use Rattle.bay_device.specs.declared.event.Step.{Step}
+use Rattle.bay_device.specs.declared.fault.StepFault.{StepFault}
+use Rattle.bay_trace.specs.Placing.{AreOctets, lying, placed_event}
+use Rattle.bay_trace.specs.Trace.{NamedData}
+use Rattle.bay_serve.specs.Calls.{Heard, Octets, Silence, Over, Broken}
+use Rattle.bay_serve.specs.Offers.{Offer}
+use Rattle.bay_serve.specs.Standings.{is_leaving}
+use Rattle.bay_serve.specs.Turns.{Held, Reading, Script, Turning, after_accept, after_line, after_reads, after_scan, begun, cut_off, first_full, free_place, hung_up, is_up, offer_of, offer_one, opened, read_one, standing_of, stepped, taken_in, told_of, turned}
+use Rattle.bay_serve.specs.declared.told.Closing.TheVariants as closing
+
+-- an event with its choice: behind how many things that its octets come to memory was refused, if it was
+abbrev pub ChosenEvent : Type 0
+ChosenEvent = Option ℕ × Event
+
+-- memory is never refused in it
+abbrev pub surely : Event → ChosenEvent
+surely event = (None, event)
+
+abbrev pub closing_of : ℕ → ChosenEvent
+closing_of place = surely (Close (place + 1))
+
+-- ---- the events of the parts of a turn
+
+-- each association to which a reply did not fit is closed
+abbrev pub settled_next_events : ℕ → Option ℕ → Turning → (Turning → List ChosenEvent) → List ChosenEvent
+settled_next_events now None s later = []
+settled_next_events now (Some place) s later = closing_of place ∷ later (cut_off now closing.QueueFull place s)
+
+abbrev pub settled_in_events : ℕ → ℕ → Turning → List ChosenEvent
+settled_in_events now zero s = []
+settled_in_events now (suc count) s = settled_next_events now (first_full s.noted) s (settled_in_events now count)
+
+unfoldable pub settled_events : ℕ → Turning → List ChosenEvent
+settled_events now s = settled_in_events now 8 s
+
+-- a connection that waits opens an association
+abbrev pub accept_events_at : ℕ → Option ℕ → Option Bool → Turning → List ChosenEvent
+accept_events_at now None taken s = []
+accept_events_at now (Some place) None s = []
+accept_events_at now (Some place) (Some false) s = []
+accept_events_at now (Some place) (Some true) s = surely (Open (place + 1)) ∷ settled_events now (opened now place s)
+
+abbrev pub accept_events : ℕ → Option Bool → Turning → List ChosenEvent
+accept_events now taken s = accept_events_at now (free_place s.server) taken s
+
+-- octets of a client come, or it is closed
+abbrev pub heard_events : ℕ → ℕ → Option ℕ → Heard → Turning → List ChosenEvent
+heard_events now place choice (Octets octets) s = (choice, Recv (place + 1) (lying octets)) ∷ settled_events now (taken_in now place choice octets s)
+heard_events now place choice Silence s = []
+heard_events now place choice Over s = closing_of place ∷ settled_events now (hung_up now place s)
+heard_events now place choice Broken s = closing_of place ∷ settled_events now (cut_off now closing.LinkFailed place s)
+
+abbrev pub read_events : ℕ → ℕ → Reading → Turning → List ChosenEvent
+read_events now place r s = if is_up place s then heard_events now place r.choice r.heard s else []
+
+-- what the line tells of happens
+abbrev pub line_events : ℕ → Option NamedData → Turning → List ChosenEvent
+line_events now None s = []
+line_events now (Some named) s = surely (placed_event s.server.device named) ∷ settled_events now (told_of now named s)
+
+-- the program runs once
+abbrev pub scan_events : ℕ → Turning → List ChosenEvent
+scan_events now s = surely Scan ∷ settled_events now (stepped now Scan s)
+
+-- an association is closed where a write fails
+abbrev pub failed_events : ℕ → ℕ → Bool → Turning → List ChosenEvent
+failed_events now place failed s = if failed then closing_of place ∷ settled_events now (cut_off now closing.LinkFailed place s) else []
+
+abbrev pub offer_events : ℕ → ℕ → Offer → Turning → List ChosenEvent
+offer_events now place o s =
+    if is_leaving (standing_of place s) then []
+    else (if is_up place s then failed_events now place (offer_of place o s).failed s else [])
+
+-- ---- the events of a turn
+
+abbrev pub events_of_each : {C : Type 0} → (ℕ → C → Turning → Turning) → (ℕ → C → Turning → List ChosenEvent) → ℕ → List C → Turning → List ChosenEvent
+events_of_each f events place [] s = []
+events_of_each f events place (c ∷ cs) s = events place c s ++ events_of_each f events (place + 1) cs (f place c s)
+
+abbrev pub turn_events : ℕ → Option NamedData → Script → Held → List ChosenEvent
+turn_events now line script h =
+    accept_events now script.accepted (begun h)
+    ++ events_of_each (read_one now) (read_events now) 0 script.readings (after_accept now script h)
+    ++ line_events now line (after_reads now script h)
+    ++ scan_events now (after_line now line script h)
+    ++ events_of_each (offer_one now) (offer_events now) 0 script.offers (after_scan now line script h)
+
+-- ---- what they come to
+
+abbrev pub choices_of : List ChosenEvent → List (Option ℕ)
+choices_of [] = []
+choices_of (e ∷ es) = e.0 ∷ choices_of es
+
+abbrev pub all_at : ℕ → List ChosenEvent → List (ℕ × Event)
+all_at now [] = []
+all_at now (e ∷ es) = (now, e.1) ∷ all_at now es
+
+-- the answers to events, all at one moment, and the device after them
+abbrev pub done_at : ℕ → List ChosenEvent → State → Outcomes
+done_at now events s = outcomes (choices_of events) (all_at now events) s
+
+-- the commands of an answer; a refused event has none
+abbrev pub commands_in : Result Step StepFault → List Command
+commands_in (Err fault) = []
+commands_in (Ok step) = step.commands
+
+abbrev pub commands_of : List (Result Step StepFault) → List Command
+commands_of [] = []
+commands_of (answer ∷ answers) = commands_in answer ++ commands_of answers
+
+-- what the line of a turn tells of has no octets of a client
+abbrev pub HasNoOctets : Option NamedData → Type 0
+HasNoOctets line = IfSome line (λ named. AreOctets named [])
+
+-- The device after a turn is that of the turn's events, and the commands that are told are those of their answers.
+pub record IsItsEvents (now : ℕ) (line : Option NamedData) (script : Script) (h : Held) : Type 0 where
+  pub device : (turned now line script h).server.device ≡ (done_at now (turn_events now line script h) h.device).after
+  pub commands : HasNoOctets line → (turned now line script h).noted.commands ≡ commands_of (done_at now (turn_events now line script h) h.device).answers

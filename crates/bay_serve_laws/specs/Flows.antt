@@ -1,0 +1,82 @@
+-- The octets of one association through a turn.
+use Rattle.std.specs.Prelude.{◌≡◌, ℕ, ◌+◌, ◌<◌, ◌≤◌, ◌==◌, Bool, false, if◌then◌else◌, List, [], ◌∷◌, ◌++◌, length, take, Option, Some, None, IfSome, Result, Ok, Err, ◌⊎◌}
+use Rattle.bay_device.specs.Outcomes.{last_moment}
+use Rattle.bay_device.specs.declared.event.Sent.{Sent}
+use Rattle.bay_device.specs.declared.event.Step.{Step}
+use Rattle.bay_device.specs.declared.fault.StepFault.{StepFault}
+use Rattle.bay_trace.specs.Trace.{NamedData, process_event}
+use Rattle.bay_serve.specs.Calls.{Call, Accepts, Reads, Writes, Closes}
+use Rattle.bay_serve.specs.Turns.{Held, Script, is_up_in, queue_at, turn_calls, turned}
+use Rattle.bay_serve_laws.specs.Events.{done_at, turn_events}
+
+-- ---- what the link takes
+
+-- the octets that a call took of an association
+abbrev pub taken_by : ℕ → Call → List ℕ
+taken_by a (Accepts b taken) = []
+taken_by a (Reads b room what) = []
+taken_by a (Writes b octets None) = []
+taken_by a (Writes b octets (Some n)) = if b == a then take n octets else []
+taken_by a (Closes b) = []
+
+-- the octets that the link took of an association
+abbrev pub taken_of : ℕ → List Call → List ℕ
+taken_of a [] = []
+taken_of a (call ∷ calls) = taken_by a call ++ taken_of a calls
+
+-- ---- what the device sends
+
+abbrev pub octets_to : ℕ → Sent → List ℕ
+octets_to a sent = if sent.association == a then sent.octets else []
+
+abbrev pub all_to : ℕ → List Sent → List ℕ
+all_to a [] = []
+all_to a (sent ∷ more) = octets_to a sent ++ all_to a more
+
+abbrev pub end_to : ℕ → Option Sent → List ℕ
+end_to a None = []
+end_to a (Some sent) = octets_to a sent
+
+-- what an answer sends to an association: what tells of an end comes first
+abbrev pub answer_to : ℕ → Result Step StepFault → List ℕ
+answer_to a (Err fault) = []
+answer_to a (Ok step) = end_to a step.ended ++ all_to a step.sent
+
+-- what is sent to it by answers, in their order
+abbrev pub sent_to : ℕ → List (Result Step StepFault) → List ℕ
+sent_to a [] = []
+sent_to a (answer ∷ answers) = answer_to a answer ++ sent_to a answers
+
+-- ---- the law
+
+-- There is a queue for each association, and that of one that is not open is empty.
+pub record IsTidy (h : Held) : Type 0 where
+  pub sized : length h.queues ≡ 8
+  pub empty : (place : ℕ) → place < 8 → is_up_in place h ≡ false → queue_at place h ≡ []
+
+-- what the line of a turn tells of happens to a switch, an input or a meter
+abbrev pub IsOfProcess : Option NamedData → Type 0
+IsOfProcess line = IfSome line (λ named. process_event named ≡ Some named)
+
+-- the moment is one that the device does not refuse
+pub record IsInTime (now : ℕ) (h : Held) : Type 0 where
+  pub not_before : h.device.moment ≤ now
+  pub not_past : now ≤ last_moment
+
+-- What the link took, and then a rest, is what the queue held and then what was sent. The queue holds the rest; or the association is closed, and the
+-- queue is empty.
+pub record Flows (taken held sent holds : List ℕ) (up : Bool) : Type 0 where
+  pub rest : List ℕ
+  pub is : taken ++ rest ≡ held ++ sent
+  pub kept : (holds ≡ rest) ⊎ ((holds ≡ []) × (up ≡ false))
+
+abbrev pub FlowsAt : ℕ → Option NamedData → Script → Held → ℕ → Type 0
+FlowsAt now line script h place =
+    Flows (taken_of (place + 1) (turn_calls now line script h)) (queue_at place h)
+    (sent_to (place + 1) (done_at now (turn_events now line script h) h.device).answers)
+    (queue_at place (turned now line script h).server) (is_up_in place (turned now line script h).server)
+
+-- So it is for each association, and the server is tidy again.
+pub record LosesNothing (now : ℕ) (line : Option NamedData) (script : Script) (h : Held) : Type 0 where
+  pub flows : (place : ℕ) → place < 8 → FlowsAt now line script h place
+  pub tidy : IsTidy (turned now line script h).server
