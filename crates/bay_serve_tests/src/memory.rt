@@ -2,7 +2,6 @@ use crate::memory_link::MemoryLink;
 use crate::session::{
     CONFIRM, CONNECT, CONNECTED, IDENTIFY, IDENTITY, REQUEST, has_octets, octets_of, server,
 };
-use bay_serve::fault::ServeFault;
 use bay_serve::server::Server;
 use bay_serve::told::Closing;
 use bay_serve::turn::serve_turn;
@@ -22,14 +21,24 @@ fn turn(
     Ok(())
 }
 
-/// Serves clients for so many turns, each of which is a millisecond after the one before, and tells what was closed.
-fn serve(alloc: Global, link: &mut MemoryLink, turns: u64) -> Result<Vec<(u16, Closing)>, Fail> {
-    let mut server = server(alloc)?;
+/// So many turns of a server, each a millisecond after the one before, and what they tell of closings.
+fn turns_of(
+    alloc: Global,
+    server: &mut Server,
+    link: &mut MemoryLink,
+    turns: u64,
+) -> Result<Vec<(u16, Closing)>, Fail> {
     let mut closed = Vec::new(alloc);
     for now in 0..turns {
-        turn(alloc, &mut server, link, now, &mut closed)?;
+        turn(alloc, server, link, now, &mut closed)?;
     }
     Ok(closed)
+}
+
+/// Serves clients for so many turns, and tells what was closed.
+fn serve(alloc: Global, link: &mut MemoryLink, turns: u64) -> Result<Vec<(u16, Closing)>, Fail> {
+    let mut server = server(alloc)?;
+    turns_of(alloc, &mut server, link, turns)
 }
 
 /// So many clients with a whole session each.
@@ -73,24 +82,37 @@ fn nine_clients_are_served_one_after_the_other(rt: HostRuntime) -> Result<(), Fa
     Ok(())
 }
 
-/// A session of which the call with this number fails: what its client got, and what was told.
-fn failing(alloc: Global, fails_at: u64) -> Result<(MemoryLink, Vec<(u16, Closing)>), Fail> {
+/// A session of which the call with this number fails.
+fn failing(alloc: Global, fails_at: u64) -> Result<MemoryLink, Fail> {
     let mut link = sessions(alloc, 1)?;
     link.per_write = 50;
     link.fails_at = fails_at;
+    Ok(link)
+}
+
+/// Where this call fails, the client got all, or a front of it, and then it is told that its connection failed.
+fn is_told(alloc: Global, fails_at: u64) -> Result<bool, Fail> {
+    let mut link = failing(alloc, fails_at)?;
     let closed = serve(alloc, &mut link, 3)?;
-    Ok((link, closed))
+    let is_closed = closed.as_slice() == [(1, Closing::LinkFailed)].as_slice();
+    let is_whole = closed.is_empty() && link.taken(0).len() == 204;
+    let whole = octets_of(alloc, &ANSWERS)?;
+    let is_front = whole.as_slice().starts_with(link.taken(0));
+    Ok(link.failures == 1 && is_front && (is_closed || is_whole))
+}
+
+/// How many calls a session makes of which none fails.
+fn calls_of_all(alloc: Global) -> Result<u64, Fail> {
+    let mut link = failing(alloc, 0)?;
+    serve(alloc, &mut link, 3)?;
+    Ok(link.calls)
 }
 
 #[test]
 fn each_call_may_fail(rt: HostRuntime) -> Result<(), Fail> {
-    let (whole, _) = failing(rt.alloc(), 0)?;
-    for fails_at in 1..whole.calls {
-        let (link, closed) = failing(rt.alloc(), fails_at)?;
-        let is_front = whole.taken(0).starts_with(link.taken(0));
-        let is_closed = closed.as_slice() == [(1, Closing::LinkFailed)].as_slice();
-        let is_whole = closed.is_empty() && link.taken(0).len() == 204;
-        assert!(rt; link.failures == 1 && is_front && (is_closed || is_whole));
+    let calls = calls_of_all(rt.alloc())?;
+    for fails_at in 1..calls {
+        assert!(rt; is_told(rt.alloc(), fails_at)?);
     }
     Ok(())
 }
@@ -115,28 +137,50 @@ fn a_client_that_never_reads_is_closed(rt: HostRuntime) -> Result<(), Fail> {
     Ok(())
 }
 
+/// Tells a server a line, and answers what was refused of it.
+fn tell(alloc: Global, server: &mut Server, now: u64, line: &str) -> Result<Option<u8>, Fail> {
+    let mut link = sessions(alloc, 0)?;
+    let turn = serve_turn(alloc, server, &mut link, now, Some(line))?;
+    Ok(turn.refused)
+}
+
+/// A contact is taken at the clock's moment, and one of an unknown switch refused at the last.
+fn takes_lines(alloc: Global, server: &mut Server) -> Result<bool, Fail> {
+    let taken = tell(alloc, server, 1000, "1 contact QA1 1")?;
+    let unknown = tell(alloc, server, 999, "1 contact QA9 1")?;
+    let device = server.device();
+    let is_free = device.ena(1) == Some((true, true));
+    Ok(taken.is_none() && unknown == Some(113) && is_free && device.moment() == 1000)
+}
+
 #[test]
 fn a_line_tells_of_the_process(rt: HostRuntime) -> Result<(), Fail> {
-    let mut link = sessions(rt.alloc(), 0)?;
     let mut server = server(rt.alloc())?;
-    let alloc = rt.alloc();
-    let turn = serve_turn(alloc, &mut server, &mut link, 1000, Some("1 contact QA1 1"))?;
-    assert!(rt; turn.refused.is_none() && server.device().ena(1) == Some((true, true)));
-    let turn = serve_turn(alloc, &mut server, &mut link, 999, Some("1 contact QA9 1"))?;
-    assert!(rt; turn.refused == Some(113) && server.device().moment() == 1000);
+    assert!(rt; takes_lines(rt.alloc(), &mut server)?);
     Ok(())
+}
+
+/// The number of the fault for which a turn is not done.
+fn fault_of(
+    alloc: Global,
+    server: &mut Server,
+    now: u64,
+    line: Option<&str>,
+) -> Result<Option<u8>, Fail> {
+    let mut link = sessions(alloc, 0)?;
+    match serve_turn(alloc, server, &mut link, now, line) {
+        Ok(_) => Ok(None),
+        Err(fault) => Ok(fault.code()),
+    }
 }
 
 #[test]
 fn a_turn_is_refused(rt: HostRuntime) -> Result<(), Fail> {
-    let mut link = sessions(rt.alloc(), 0)?;
     let mut server = server(rt.alloc())?;
     for line in ["1 scan", "1 open 1", "", "contact QA1 1", "1 contact QA1 4"] {
-        let answer = serve_turn(rt.alloc(), &mut server, &mut link, 2000, Some(line));
-        assert!(rt; matches!(answer, Err(ServeFault::BadLine)));
+        assert!(rt; fault_of(rt.alloc(), &mut server, 2000, Some(line))? == Some(120));
     }
-    let late = serve_turn(rt.alloc(), &mut server, &mut link, 4_294_967_296_000, None);
-    assert!(rt; matches!(late, Err(ServeFault::MomentTooLarge)));
-    assert!(rt; server.device().moment() == 0);
+    let late = fault_of(rt.alloc(), &mut server, 4_294_967_296_000, None)?;
+    assert!(rt; late == Some(114) && server.device().moment() == 0);
     Ok(())
 }

@@ -1,4 +1,8 @@
 // What a client sends, and what it is answered: a request for a transport connection, one for an association, and an identify.
+ghost use Rattle.std.specs.Prelude.{◌≡◌, None, replicate};
+ghost use Rattle.bay_services.specs.Released.{AreTimed};
+
+use bay_device::device::Device;
 use bay_device::load::load;
 use bay_serve::server::Server;
 use std::alloc::Global;
@@ -41,11 +45,21 @@ pub fn has_octets(alloc: Global, octets: &[u8], texts: &[&str]) -> Result<bool, 
     Ok(octets == octets_of(alloc, texts)?.as_slice())
 }
 
-/// A server of the device of the two switches.
-pub fn server(alloc: Global) -> Result<Server, Fail> {
-    let device = load(alloc, BAY, LOGIC)?;
+/// A server of a device.
+fn server_of(alloc: Global, device: Device) -> Result<Server, Fail>
+    requires closed { device.connections ≡ replicate 8 None }
+    requires timed { AreTimed device.controls.controls }
+{
     match Server::new(alloc, device) {
         Ok(server) => Ok(server),
         Err(_) => Err(Fail::from("no memory")),
+    }
+}
+
+/// A server of the device of the two switches.
+pub fn server(alloc: Global) -> Result<Server, Fail> {
+    match load(alloc, BAY, LOGIC) {
+        Ok(device) => server_of(alloc, device),
+        Err(fault) => Err(Fail::from(fault)),
     }
 }
