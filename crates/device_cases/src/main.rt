@@ -5,7 +5,7 @@
 // with this status and this report. `fields`, `nodes` (names of logical nodes), `points` and `rows` are what is read of
 // the bay, and `names` those of a tree, which lists them in pages. Values are spelled as Rust's `{:?}` prints them. `note` is none.
 //
-// Of clients: `fronts` are messages, each
+// Of clients: `eight` is a talk that eight associations have at once, as one alone has it, whole and octet by octet (`eight` says how). `fronts` are messages, each
 // with what it comes to (`OCTETS -> sends:OCTETS ..` or `ends`): each front of them comes to just that of the messages that are complete. In `replaced` each octet of
 // `behind OCTETS`, behind those of `front OCTETS`, is replaced by each other value on association 1: that is answered, waited with, or ends it, and association 2, which
 // asks `asked OCTETS -> OCTETS` each time, is served. `changed-image` is an image, of which each octet is replaced by each other value: it is refused, or a scan ends
@@ -27,6 +27,7 @@ mod bay;
 mod commands;
 mod controls;
 mod device;
+mod eight;
 mod files;
 mod fronts;
 mod messages;
@@ -42,6 +43,7 @@ use bay_device::device::Device;
 use cases::told::Told;
 use cases::words::{first_word, is_case};
 use controls::Session;
+use eight::check_eight;
 use fronts::check_fronts;
 use names::check_names;
 use replaced::{Trial, check_images};
@@ -144,6 +146,7 @@ fn check_whole(alloc: Global, texts: &Texts, head: &str, body: &str) -> Result<(
     match kind {
         "report" => check_report(alloc, texts, status, body),
         "names" => check_names(alloc, body),
+        "eight" => check_eight(alloc, texts, body),
         "fronts" => check_fronts(alloc, &mut device_of(alloc, texts)?, body),
         "changed-image" => check_images(alloc, texts.bay, body),
         _ => check_bay(alloc, texts.bay, head, body),
