@@ -153,10 +153,15 @@ fn takes_lines(alloc: Global, server: &mut Server) -> Result<bool, Fail> {
     Ok(taken.is_none() && unknown == Some(113) && is_free && device.moment() == 1000)
 }
 
+/// The same of a server of its own.
+fn a_server_takes_lines(alloc: Global) -> Result<bool, Fail> {
+    let mut server = server(alloc)?;
+    takes_lines(alloc, &mut server)
+}
+
 #[test]
 fn a_line_tells_of_the_process(rt: HostRuntime) -> Result<(), Fail> {
-    let mut server = server(rt.alloc())?;
-    assert!(rt; takes_lines(rt.alloc(), &mut server)?);
+    assert!(rt; a_server_takes_lines(rt.alloc())?);
     Ok(())
 }
 
@@ -174,13 +179,25 @@ fn fault_of(
     }
 }
 
+/// Each of some lines is refused, and a moment that is too large.
+fn refuses_turns(alloc: Global, server: &mut Server) -> Result<bool, Fail> {
+    for line in ["1 scan", "1 open 1", "", "contact QA1 1", "1 contact QA1 4"] {
+        if fault_of(alloc, server, 2000, Some(line))? != Some(120) {
+            return Ok(false);
+        }
+    }
+    let late = fault_of(alloc, server, 4_294_967_296_000, None)?;
+    Ok(late == Some(114) && server.device().moment() == 0)
+}
+
+/// The same of a server of its own.
+fn a_server_refuses_turns(alloc: Global) -> Result<bool, Fail> {
+    let mut server = server(alloc)?;
+    refuses_turns(alloc, &mut server)
+}
+
 #[test]
 fn a_turn_is_refused(rt: HostRuntime) -> Result<(), Fail> {
-    let mut server = server(rt.alloc())?;
-    for line in ["1 scan", "1 open 1", "", "contact QA1 1", "1 contact QA1 4"] {
-        assert!(rt; fault_of(rt.alloc(), &mut server, 2000, Some(line))? == Some(120));
-    }
-    let late = fault_of(rt.alloc(), &mut server, 4_294_967_296_000, None)?;
-    assert!(rt; late == Some(114) && server.device().moment() == 0);
+    assert!(rt; a_server_refuses_turns(rt.alloc())?);
     Ok(())
 }

@@ -1,4 +1,6 @@
 // Clients in memory, of which one call fails, and which take so many octets at a write.
+ghost use Rattle.std.specs.Prelude.{◌≡◌};
+
 use bay_serve::link::{Got, Link, LinkFault};
 use std::alloc::Global;
 use std::test::Fail;
@@ -64,7 +66,9 @@ impl MemoryLink {
     }
 
     /// Counts a call, and says whether it is the one that fails.
-    fn is_failing(&mut self) -> bool {
+    fn is_failing(&mut self) -> bool
+        ensures { self.new.failures ≡ self.old.failures }
+    {
         self.calls = self.calls.saturating_add(1);
         self.calls == self.fails_at
     }

@@ -55,27 +55,40 @@ fn client_of<R: Net<Listener = TcpListener, Stream = TcpStream>>(
     Ok(stream)
 }
 
-/// A client connects, and asks the server three times.
+/// A client of the server asks three times.
+fn talk<R: Runtime<A = Global>>(
+    rt: &R,
+    server: &mut Server,
+    link: &mut TcpLink,
+    stream: &TcpStream,
+    taken: &mut Vec<u8>,
+) -> Result<(), Fail> {
+    for (question, count) in [(REQUEST, 22), (CONNECT, 161), (IDENTIFY, 204)] {
+        let octets = octets_of(rt.alloc(), &[question])?;
+        ask(rt, server, link, stream, octets.as_slice(), count, taken)?;
+    }
+    Ok(())
+}
+
+/// A client connects to a link, of which a server is made, and talks to it.
+fn serve_client<R: Runtime<A = Global>>(
+    rt: &R,
+    link: &mut TcpLink,
+    stream: &TcpStream,
+    taken: &mut Vec<u8>,
+) -> Result<(), Fail> {
+    let mut server = server(rt.alloc())?;
+    talk(rt, &mut server, link, stream, taken)
+}
+
+/// A client connects to a port of the system's choice, and talks to the server there.
 fn session<R: Runtime<A = Global> + Net<Listener = TcpListener, Stream = TcpStream>>(
     rt: &R,
     taken: &mut Vec<u8>,
 ) -> Result<(), Fail> {
     let mut link = TcpLink::bind(rt, 0)?;
-    let mut server = server(rt.alloc())?;
     let stream = client_of(rt, &link)?;
-    for (question, count) in [(REQUEST, 22), (CONNECT, 161), (IDENTIFY, 204)] {
-        let octets = octets_of(rt.alloc(), &[question])?;
-        ask(
-            rt,
-            &mut server,
-            &mut link,
-            &stream,
-            octets.as_slice(),
-            count,
-            taken,
-        )?;
-    }
-    Ok(())
+    serve_client(rt, &mut link, &stream, taken)
 }
 
 #[test]
