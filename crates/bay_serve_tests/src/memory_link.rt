@@ -1,5 +1,5 @@
 // Clients in memory, of which one call fails, and which take so many octets at a write.
-ghost use Rattle.std.specs.Prelude.{◌≡◌};
+ghost use Rattle.std.specs.Prelude.{◌≡◌, ◌≤◌, length};
 
 use bay_serve::link::{Got, Link, LinkFault};
 use std::alloc::Global;
@@ -74,20 +74,16 @@ impl MemoryLink {
     }
 }
 
-/// Octets of what a client sends that were not read.
-fn give(incoming: &[u8], given: &mut usize, room: &mut [u8], ends: bool) -> Got {
+/// Octets of what a client sends that were not read, as many as there is room for, and how many.
+fn give(incoming: &[u8], given: &mut usize, room: &mut [u8]) -> usize
+    ensures { result ≤ length room.new }
+{
     let from = *given;
     let rest = incoming.get(from..).unwrap_or(&[]);
     let count = room.len().min(rest.len());
     room[..count].copy_from_slice(&rest[..count]);
     *given = from.saturating_add(count);
-    if count > 0 {
-        Got::Bytes(count)
-    } else if ends {
-        Got::End
-    } else {
-        Got::Nothing
-    }
+    count
 }
 
 impl Link for MemoryLink {
@@ -116,7 +112,13 @@ impl Link for MemoryLink {
             && at < self.clients.len()
         {
             let incoming = self.incoming.as_slice();
-            return Ok(give(incoming, &mut self.clients[at].given, room, self.ends));
+            let count = give(incoming, &mut self.clients[at].given, room);
+            if count > 0 {
+                return Ok(Got::Bytes(count));
+            }
+        }
+        if self.ends {
+            return Ok(Got::End);
         }
         Ok(Got::Nothing)
     }
