@@ -5,12 +5,6 @@
 // with this status and this report. `fields`, `nodes` (names of logical nodes), `points` and `rows` are what is read of
 // the bay, and `names` those of a tree, which lists them in pages. Values are spelled as Rust's `{:?}` prints them. `note` is none.
 //
-// Of clients: `eight` is a talk that eight associations have at once, as one alone has it, whole and octet by octet (`eight` says how). `fronts` are messages, each
-// with what it comes to (`OCTETS -> sends:OCTETS ..` or `ends`): each front of them comes to just that of the messages that are complete. In `replaced` each octet of
-// `behind OCTETS`, behind those of `front OCTETS`, is replaced by each other value on association 1: that is answered, waited with, or ends it, and association 2, which
-// asks `asked OCTETS -> OCTETS` each time, is served. `changed-image` is an image, of which each octet is replaced by each other value: it is refused, or a scan ends
-// within its budget.
-//
 // In the other sections each line is a case. In `octets` it is `SCENARIO -> STATUS REPORT`, octet by octet. Else it is
 // `QUESTION -> ANSWER`: in `device` what a new device of these texts is asked or does, one line after the other; in
 // `bays` a part of the bay file that is replaced and what by, `OLD|NEW`, and what becomes of that file; in `many` how many
@@ -27,14 +21,10 @@ mod bay;
 mod commands;
 mod controls;
 mod device;
-mod eight;
 mod files;
-mod fronts;
 mod messages;
 mod names;
-mod replaced;
 mod scenario;
-mod talk;
 mod words;
 
 use anyhow::{Context, Result, bail};
@@ -43,10 +33,7 @@ use bay_device::device::Device;
 use cases::told::Told;
 use cases::words::{first_word, is_case};
 use controls::Session;
-use eight::check_eight;
-use fronts::check_fronts;
 use names::check_names;
-use replaced::{Trial, check_images};
 use scenario::{Texts, check_octets, check_report, device_of};
 use std::alloc::Global;
 use std::io::Read;
@@ -129,16 +116,6 @@ fn tell_controls(alloc: Global, told: &mut Told, body: &str) -> Result<()> {
     Ok(())
 }
 
-/// The lines of what is tried on a device of the texts.
-fn tell_trial(alloc: Global, told: &mut Told, texts: &Texts, body: &str) -> Result<()> {
-    let mut device = device_of(alloc, texts)?;
-    let mut trial = Trial::new(alloc, &mut device)?;
-    for line in body.lines() {
-        told.tell(line, trial.agrees(line))?;
-    }
-    Ok(())
-}
-
 /// The case that a whole section is.
 fn check_whole(alloc: Global, texts: &Texts, head: &str, body: &str) -> Result<()> {
     let (kind, rest) = first_word(head);
@@ -146,9 +123,6 @@ fn check_whole(alloc: Global, texts: &Texts, head: &str, body: &str) -> Result<(
     match kind {
         "report" => check_report(alloc, texts, status, body),
         "names" => check_names(alloc, body),
-        "eight" => check_eight(alloc, texts, body),
-        "fronts" => check_fronts(alloc, &mut device_of(alloc, texts)?, body),
-        "changed-image" => check_images(alloc, texts.bay, body),
         _ => check_bay(alloc, texts.bay, head, body),
     }
 }
@@ -166,16 +140,7 @@ fn tell_section(
         "note" => Ok(()),
         "device" => tell_device(alloc, told, texts, body),
         "controls" => tell_controls(alloc, told, body),
-        "replaced" => tell_trial(alloc, told, texts, body),
-        "eight"
-        | "fronts"
-        | "changed-image"
-        | "fields"
-        | "nodes"
-        | "points"
-        | "rows"
-        | "names"
-        | "report" => {
+        "fields" | "nodes" | "points" | "rows" | "names" | "report" => {
             let outcome = outcome_of(check_whole(alloc, texts, head, body));
             told.tell(head, outcome)
         }
