@@ -10,18 +10,18 @@ use Rattle.bay_main.specs.Commands.{CompilesDevice, WritesImage}
 use Rattle.bay_main.specs.Report.{MayTell, Prints}
 use Rattle.bay_main.specs.declared.files.FileFault.{FileFault}
 
-chosen : {A : Type 0} (B : Type 0) (b : Bool) → b ≡ true → A → MatchBool b A B
+pub chosen : {A : Type 0} (B : Type 0) (b : Bool) → b ≡ true → A → MatchBool b A B
 chosen B true e a = a
 chosen B false e a = absurd cc
 
-other : (A : Type 0) {B : Type 0} (b : Bool) → b ≡ false → B → MatchBool b A B
+pub other : (A : Type 0) {B : Type 0} (b : Bool) → b ≡ false → B → MatchBool b A B
 other A true e x = absurd cc
 other A false e x = x
 
-is-zero : (status : ℕ) → status ≡ 0 → (status == 0) ≡ true
+pub is-zero : (status : ℕ) → status ≡ 0 → (status == 0) ≡ true
 is-zero status e = grind (arith, nat_tests)
 
-is-not : (status : ℕ) → (status ≡ 0 → ⊥) → (status == 0) ≡ false
+pub is-not : (status : ℕ) → (status ≡ 0 → ⊥) → (status == 0) ≡ false
 is-not status isnt = grind (arith, nat_tests)
 
 module _ {F W : Type 0} (writes : F → List ℕ → List ℕ → Option FileFault → F → Type 0) (contents : W → Option (List ℕ)) (out : List ℕ) (s : State) (report : Report) (is : IsReport s.machine.image report) where

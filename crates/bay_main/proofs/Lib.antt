@@ -6,3 +6,5 @@ pub mod HexLemmas
 pub mod JobLemmas
 pub mod PieceLemmas
 pub mod ReportLemmas
+pub mod ServeLemmas
+pub mod TurnLemmas

@@ -17,18 +17,16 @@ use Rattle.bay_main.specs.declared.files.FileFault.TheVariants as unwritten
 use Rattle.bay_main.specs.declared.load.Form.{Form}
 use Rattle.bay_main.specs.declared.load.Form.TheVariants as form
 use Rattle.bay_main.specs.declared.words.Verb.{Verb}
-use Rattle.bay_main.specs.declared.words.Verb.TheVariants.{Check, Replay, Compile}
+use Rattle.bay_main.specs.declared.words.Verb.TheVariants.{Check, Replay, Serve, Compile}
 use Rattle.bay_main.specs.Jobs.{JobData, job_in}
 use Rattle.bay_main.specs.declared.ending.Ended.{Ended}
 use Rattle.bay_main.specs.declared.ending.Ended.TheVariants.{Status, WriteFailed, Refused}
 use Rattle.bay_main.specs.Load.{load_of}
 use Rattle.bay_main.specs.Report.{CheckReport, IsLast, IsReplay, MayRefuse, MayTell, Prints}
-
--- the text and the status where a file can't be read
-abbrev pub UnreadReport : ReadFault → List ℕ → ℕ → Type 0
-UnreadReport TooLong text status = IsLast (codes "fault 121\n") 3 text status
-UnreadReport Failed text status = IsLast (codes "fault 121\n") 3 text status
-UnreadReport OutOfMemory text status = IsLast (codes "fault memory\n") 3 text status
+use Rattle.bay_main.specs.Serve.{FileNames, ServesFiles, UnreadReport}
+use Rattle.bay_main.specs.declared.serve.Numbers.{Numbers}
+use Rattle.bay_main.specs.Host.{HostCall}
+use Rattle.bay_serve.specs.Calls.{Call}
 
 -- the text and the status of a check of what was read
 abbrev pub FilesReport : Form → Result FilesData ReadFault → List ℕ → ℕ → Type 0
@@ -101,15 +99,6 @@ abbrev pub ChecksNamed : {F W : Type 0} → (F → List ℕ → Result (List ℕ
 ChecksNamed reads contents bay (Some logic) image files old new answer = Checks reads contents form.Logic bay logic files old new answer
 ChecksNamed reads contents bay None image files old new answer = Given image (λ name. Checks reads contents form.Image bay name files old new answer)
 
--- a job with this verb is done: what is printed and answered, and what becomes of files. Only a replay reads what the reader has
-abbrev pub DoesVerb : {F R W : Type 0} → (F → List ℕ → Result (List ℕ) ReadFault → Type 0) → (F → List ℕ → List ℕ → Option FileFault → F → Type 0) → (F → List ℕ → List ℕ → Bool → Type 0) → (R → Option (List ℕ)) → (W → Option (List ℕ)) → Verb → JobData → F → F → Reading R → Reading R → Writing W → Writing W → Result ℕ WriteFault → Type 0
-DoesVerb reads writes same remaining contents Check job before after reader left old new answer =
-    Given job.bay (λ bay. ChecksNamed reads contents bay job.logic job.image before old new answer) × (after ≡ before) × (left ≡ reader)
-DoesVerb reads writes same remaining contents Compile job before after reader left old new answer =
-    Given job.bay (λ bay. Given job.logic (λ logic. Given job.out (λ out. Compiles reads writes same contents bay logic out before after old new answer))) × (left ≡ reader)
-DoesVerb reads writes same remaining contents Replay job before after reader left old new answer =
-    Prints contents (IsReplay (remaining reader.inner) left.has_failed) old new answer × (after ≡ before)
-
 -- how a command ends by what it answers
 abbrev pub Ends : Result ℕ WriteFault → Ended → Type 0
 Ends (Ok status) ended = ended ≡ Status status
@@ -121,32 +110,61 @@ IsRefused (Status status) = ⊥
 IsRefused WriteFailed = ⊥
 IsRefused (Refused text) = Unit {0}
 
--- The words ask for a job, and it is done.
-pub record Obeyed {F R W : Type 0} (reads : F → List ℕ → Result (List ℕ) ReadFault → Type 0) (writes : F → List ℕ → List ℕ → Option FileFault → F → Type 0) (same : F → List ℕ → List ℕ → Bool → Type 0) (remaining : R → Option (List ℕ)) (contents : W → Option (List ℕ)) (words : List (List ℕ)) (before after : F) (reader left : Reading R) (old new : Writing W) (ended : Ended) : Type 0 where
-  pub job : JobData
-  pub asked : job_in words ≡ Some job
-  pub answer : Result ℕ WriteFault
-  pub does : DoesVerb reads writes same remaining contents job.verb job before after reader left old new answer
-  pub ends : Ends answer ended
+-- the program or the image of a job, which of the two was named
+abbrev pub form_of : Option (List ℕ) → Form
+form_of (Some logic) = form.Logic
+form_of None = form.Image
 
--- The words ask for nothing that is done, and are refused: nothing is read, printed or touched.
-pub record Declined {F R W : Type 0} (words : List (List ℕ)) (before after : F) (reader left : Reading R) (old new : Writing W) (ended : Ended) : Type 0 where
-  pub none : job_in words ≡ None
-  pub refused : IsRefused ended
-  pub untouched : after ≡ before
-  pub unread : left ≡ reader
-  pub unwritten : new ≡ old
+abbrev pub program_of : Option (List ℕ) → Option (List ℕ) → Option (List ℕ)
+program_of (Some logic) image = Some logic
+program_of None image = image
 
--- There is no memory to read the words, which is told.
-pub record Unread {F R W : Type 0} (contents : W → Option (List ℕ)) (before after : F) (reader left : Reading R) (old new : Writing W) (ended : Ended) : Type 0 where
-  pub answer : Result ℕ WriteFault
-  pub told : Prints contents (IsLast (codes "fault memory\n") 3) old new answer
-  pub ends : Ends answer ended
-  pub untouched : after ≡ before
-  pub unread : left ≡ reader
+-- the files and the numbers of a job are served
+abbrev pub ServesNamed : {F L H W : Type 0} → (F → List ℕ → Result (List ℕ) ReadFault → Type 0) → (L → Call → L → Type 0) → (H → HostCall L → H → Type 0) → (W → Option (List ℕ)) → JobData → F → H → H → Writing W → Writing W → Result ℕ WriteFault → Type 0
+ServesNamed reads step acts contents job files before after old new answer =
+    Given job.bay (λ bay. Given (program_of job.logic job.image) (λ program. Given job.port (λ port. Given job.turns (λ turns.
+    ServesFiles step acts contents reads files (record { bay = bay; form = form_of job.logic; program = program; trace = job.trace }) (record { port = port; turns = turns }) before after old new answer))))
 
--- Words are obeyed: the job that they ask for is done; or they ask for none, and are refused; or there is no memory to read them.
-abbrev pub Obeys : {F R W : Type 0} → (F → List ℕ → Result (List ℕ) ReadFault → Type 0) → (F → List ℕ → List ℕ → Option FileFault → F → Type 0) → (F → List ℕ → List ℕ → Bool → Type 0) → (R → Option (List ℕ)) → (W → Option (List ℕ)) → List (List ℕ) → F → F → Reading R → Reading R → Writing W → Writing W → Ended → Type 0
-Obeys reads writes same remaining contents words before after reader left old new ended =
-    Obeyed reads writes same remaining contents words before after reader left old new ended
-    ⊎ (Declined words before after reader left old new ended ⊎ Unread contents before after reader left old new ended)
+-- what a command works on: files, ports and a clock, a reader, and a writer
+pub record Around (F H R W : Type 0) : Type 0 where
+  pub files : F
+  pub host : H
+  pub reader : Reading R
+  pub writer : Writing W
+
+module _ {F L H R W : Type 0} (reads : F → List ℕ → Result (List ℕ) ReadFault → Type 0) (writes : F → List ℕ → List ℕ → Option FileFault → F → Type 0) (same : F → List ℕ → List ℕ → Bool → Type 0)
+    (step : L → Call → L → Type 0) (acts : H → HostCall L → H → Type 0) (remaining : R → Option (List ℕ)) (contents : W → Option (List ℕ)) where
+  -- A job with this verb is done: what is printed and answered, and what becomes of files and ports. Only a replay reads what the reader has.
+  abbrev pub DoesVerb : Verb → JobData → Around F H R W → Around F H R W → Result ℕ WriteFault → Type 0
+  DoesVerb Check job old new answer =
+      Given job.bay (λ bay. ChecksNamed reads contents bay job.logic job.image old.files old.writer new.writer answer) × (new.files ≡ old.files) × (new.host ≡ old.host) × (new.reader ≡ old.reader)
+  DoesVerb Compile job old new answer =
+      Given job.bay (λ bay. Given job.logic (λ logic. Given job.out (λ out. Compiles reads writes same contents bay logic out old.files new.files old.writer new.writer answer))) × (new.host ≡ old.host) × (new.reader ≡ old.reader)
+  DoesVerb Replay job old new answer =
+      Prints contents (IsReplay (remaining old.reader.inner) new.reader.has_failed) old.writer new.writer answer × (new.files ≡ old.files) × (new.host ≡ old.host)
+  DoesVerb Serve job old new answer = ServesNamed reads step acts contents job old.files old.host new.host old.writer new.writer answer × (new.files ≡ old.files) × (new.reader ≡ old.reader)
+
+  -- The words ask for a job, and it is done.
+  pub record Obeyed (words : List (List ℕ)) (old new : Around F H R W) (ended : Ended) : Type 0 where
+    pub job : JobData
+    pub asked : job_in words ≡ Some job
+    pub answer : Result ℕ WriteFault
+    pub does : DoesVerb job.verb job old new answer
+    pub ends : Ends answer ended
+
+  -- The words ask for nothing that is done, and are refused: nothing is read, printed or touched.
+  pub record Declined (words : List (List ℕ)) (old new : Around F H R W) (ended : Ended) : Type 0 where
+    pub none : job_in words ≡ None
+    pub refused : IsRefused ended
+    pub untouched : new ≡ old
+
+  -- There is no memory to read the words, which is told.
+  pub record Unread (old new : Around F H R W) (ended : Ended) : Type 0 where
+    pub answer : Result ℕ WriteFault
+    pub told : Prints contents (IsLast (codes "fault memory\n") 3) old.writer new.writer answer
+    pub ends : Ends answer ended
+    pub untouched : (new.files ≡ old.files) × (new.host ≡ old.host) × (new.reader ≡ old.reader)
+
+  -- Words are obeyed: the job that they ask for is done; or they ask for none, and are refused; or there is no memory to read them.
+  abbrev pub Obeys : List (List ℕ) → Around F H R W → Around F H R W → Ended → Type 0
+  Obeys words old new ended = Obeyed words old new ended ⊎ (Declined words old new ended ⊎ Unread old new ended)

@@ -10,4 +10,7 @@ job_view job = record {
   logic = option_map string_bytes job.logic;
   image = option_map string_bytes job.image;
   out = option_map string_bytes job.out;
+  trace = option_map string_bytes job.trace;
+  port = job.port;
+  turns = job.turns;
 }

@@ -1,4 +1,7 @@
--- What public clauses cite of the crate below.
+-- What public clauses cite of the crates below.
+pub use Rattle.bay_serve.specs.Calls
+pub use Rattle.bay_serve.specs.Served
+pub use Rattle.bay_serve.specs.Turns
 pub use Rattle.bay_trace.specs.Placing
 pub use Rattle.bay_trace.specs.Trace
 -- Its own definitions.
@@ -6,6 +9,7 @@ pub mod Answering
 pub mod Commands
 pub mod Ending
 pub mod Files
+pub mod Host
 pub mod Jobs
 pub mod JobView
 pub mod LineAnswers
@@ -13,3 +17,7 @@ pub mod Load
 pub mod Report
 pub mod Scenario
 pub mod ScenarioView
+pub mod Serve
+pub mod ServeReport
+pub mod Serving
+pub mod TurnLines

@@ -105,9 +105,9 @@ closed_text now (Some closed) = closing_text now closed.0 closed.1
 
 -- ---- events
 
--- the line of a refused event
-abbrev pub refused_text : ℕ → StepFault → List ℕ
-refused_text now fault = (decimal now ++ codes " refused ") ++ (decimal (step_code_of fault) ++ codes "\n")
+-- the line of a refusal with this number
+abbrev pub refusal_line : ℕ → ℕ → List ℕ
+refusal_line now code = (decimal now ++ codes " refused ") ++ (decimal code ++ codes "\n")
 
 -- what is printed for an event that was done, by its answer and the device after it: what tells of an end, what is sent, the commands,
 -- the scan, and the association that was closed
@@ -118,7 +118,7 @@ done_text now step s =
 
 -- what is printed for an event
 abbrev pub step_text : ℕ → Result Step StepFault → State → List ℕ
-step_text now (Err fault) s = refused_text now fault
+step_text now (Err fault) s = refusal_line now (step_code_of fault)
 step_text now (Ok step) s = done_text now step s
 
 -- ---- lines

@@ -18,7 +18,7 @@ use std::io::Write;
 
 /// Writes the line that says which line can't be read.
 #[cold]
-fn put_unreadable<W: Write>(
+pub fn put_unreadable<W: Write>(
     outbox: &mut Outbox,
     writer: &mut WatchedWriter<W>,
     number: usize,

@@ -1,7 +1,8 @@
 // What a command does, over files by their names, a reader and a writer.
-ghost use Rattle.std.specs.Prelude.{◌≡◌, true, map, Result, Ok};
-ghost use Rattle.bay_main.specs.Commands.{Checks, ChecksNamed, Compiles, CompilesDevice, CompilesRead, DoesVerb, Given, Obeys, UnreadReport, WritesImage};
-ghost use Rattle.bay_main.specs.declared.words.Verb.TheVariants.{Check};
+ghost use Rattle.std.specs.Prelude.{◌≡◌, true, map, option_map, IfSome, Result, Ok};
+ghost use Rattle.bay_serve.specs.Calls.{Called};
+ghost use Rattle.bay_main.specs.Commands.{Checks, ChecksNamed, Compiles, CompilesDevice, CompilesRead, DoesVerb, Given, Obeys, ServesNamed, WritesImage, form_of, program_of};
+ghost use Rattle.bay_main.specs.declared.words.Verb.TheVariants.{Check, Compile, Serve};
 ghost use Rattle.bay_main.specs.Jobs.{has_files, is_whole};
 ghost use Rattle.bay_main.specs.JobView.{job_view};
 ghost use Rattle.bay_main.specs.Report.{Prints};
@@ -9,31 +10,19 @@ ghost use Rattle.bay_main.specs.Report.{Prints};
 use crate::check::check_run;
 use crate::ending::Ended;
 use crate::files::{BothFiles, FileFault, FileSystem, read_both};
+use crate::host::Host;
 use crate::load::{Form, load_octets};
-use crate::output::{CLEAN, FAULT, write_refusal, write_report, write_text};
+use crate::output::{CLEAN, FAULT, NO_MEMORY, write_refusal, write_report, write_text};
 use crate::replay::replay_watched;
+use crate::serve::{Named, Numbers, serve, write_unread};
 use crate::words::{Job, Verb, WordsFault, job_of};
 use bay_device::device::Device;
-use bay_io::input::ReadFault;
 use bay_io::outbox::WriteFault;
 use bay_io::reader::WatchedReader;
 use bay_io::writer::WatchedWriter;
+use bay_serve::link::Link;
 use std::alloc::Global;
 use std::io::{Read, Write};
-
-/// What is told where there is no memory.
-const NO_MEMORY: &[u8] = b"fault memory\n";
-
-/// Writes why a file could not be read.
-fn write_unread<W: Write>(fault: ReadFault, writer: &mut WatchedWriter<W>) -> Result<u8, WriteFault>
-    ensures { Prints W.contents (UnreadReport fault) writer.old writer.new result }
-{
-    match fault {
-        ReadFault::OutOfMemory => write_text(writer, NO_MEMORY, FAULT),
-        ReadFault::TooLong => write_text(writer, b"fault 121\n", FAULT),
-        ReadFault::Failed => write_text(writer, b"fault 121\n", FAULT),
-    }
-}
 
 /// Checks a bay file and a program or an image, by their names.
 fn check<F: FileSystem, W: Write>(
@@ -163,49 +152,114 @@ fn check_job<F: FileSystem, W: Write>(
     }
 }
 
-/// Does a job.
-fn do_job<F: FileSystem, R: Read, W: Write>(
+/// Compiles the files of a job.
+fn compile_job<F: FileSystem, W: Write>(
     alloc: Global,
     job: &Job,
     files: &mut F,
+    writer: &mut WatchedWriter<W>,
+) -> Result<u8, WriteFault>
+    requires { has_files Compile (job_view job.now) ≡ true }
+    ensures { Given (job_view job.now).bay (λ bay. Given (job_view job.now).logic (λ logic. Given (job_view job.now).out (λ out. Compiles F.reads F.writes F.same W.contents bay logic out files.old files.new writer.old writer.new result))) }
+{
+    let (Some(bay), Some(logic), Some(out)) = (&job.bay, &job.logic, &job.out) else {
+        unreachable!()
+    };
+    compile(
+        alloc,
+        bay.as_str(),
+        logic.as_str(),
+        out.as_str(),
+        files,
+        writer,
+    )
+}
+
+/// The program or the image of a job, and which of the two it is.
+fn program_of(job: &Job) -> Option<(Form, &str)>
+    ensures form { IfSome result (λ p. p.0 ≡ form_of (job_view job.now).logic) }
+    ensures name { option_map (λ p. p.1.now) result ≡ program_of (job_view job.now).logic (job_view job.now).image }
+{
+    match (&job.logic, &job.image) {
+        (Some(logic), _) => Some((Form::Logic, logic.as_str())),
+        (None, Some(image)) => Some((Form::Image, image.as_str())),
+        (None, None) => None,
+    }
+}
+
+/// Serves the files of a job.
+fn serve_job<F: FileSystem, L: Link + Drop, H: Host<L>, W: Write>(
+    alloc: Global,
+    job: &Job,
+    files: &F,
+    host: &mut H,
+    writer: &mut WatchedWriter<W>,
+) -> Result<u8, WriteFault>
+    requires { has_files Serve (job_view job.now) ≡ true }
+    ensures { ServesNamed F.reads (Called L.does L.failures) H.does W.contents (job_view job.now) files.now host.old host.new writer.old writer.new result }
+{
+    let (Some(bay), Some((form, program))) = (&job.bay, program_of(job)) else {
+        unreachable!()
+    };
+    let (Some(port), Some(turns)) = (job.port, job.turns) else {
+        unreachable!()
+    };
+    let trace = job.trace.as_ref().map(|trace| trace.as_str());
+    let named = Named {
+        bay: bay.as_str(),
+        form,
+        program,
+        trace,
+    };
+    serve(
+        alloc,
+        named,
+        files,
+        host,
+        Numbers { port, turns },
+        writer,
+    )
+}
+
+/// Does a job.
+fn do_job<F: FileSystem, L: Link + Drop, H: Host<L>, R: Read, W: Write>(
+    alloc: Global,
+    job: &Job,
+    files: &mut F,
+    host: &mut H,
     reader: &mut WatchedReader<R>,
     writer: &mut WatchedWriter<W>,
 ) -> Result<u8, WriteFault>
     requires { is_whole (job_view job.now) ≡ true }
-    ensures { DoesVerb F.reads F.writes F.same R.remaining W.contents job.now.verb (job_view job.now) files.old files.new reader.old reader.new writer.old writer.new result }
+    ensures { DoesVerb F.reads F.writes F.same (Called L.does L.failures) H.does R.remaining W.contents job.now.verb (job_view job.now)
+        (record { files = files.old; host = host.old; reader = reader.old; writer = writer.old })
+        (record { files = files.new; host = host.new; reader = reader.new; writer = writer.new }) result }
 {
     match job.verb {
         Verb::Check => check_job(alloc, job, files, writer),
-        Verb::Compile => match (&job.bay, &job.logic, &job.out) {
-            (Some(bay), Some(logic), Some(out)) => {
-                compile(
-                    alloc,
-                    bay.as_str(),
-                    logic.as_str(),
-                    out.as_str(),
-                    files,
-                    writer,
-                )
-            }
-            _ => unreachable!(),
-        },
+        Verb::Compile => compile_job(alloc, job, files, writer),
         Verb::Replay => replay_watched(alloc, reader, writer),
+        Verb::Serve => serve_job(alloc, job, files, host, writer),
     }
 }
 
 /// Does what the words after the program's name ask for. A check and a compilation read files by their names, a replay what the
-/// reader has, and a compilation writes a file; what is printed goes to the writer.
-pub fn obey<F: FileSystem, R: Read, W: Write>(
+/// reader has, and a compilation writes a file; serving reads files, and asks the host for a port and the time. What is printed goes to
+/// the writer.
+pub fn obey<F: FileSystem, L: Link + Drop, H: Host<L>, R: Read, W: Write>(
     alloc: Global,
     words: &[&str],
     files: &mut F,
+    host: &mut H,
     reader: &mut WatchedReader<R>,
     writer: &mut WatchedWriter<W>,
 ) -> Ended
-    ensures { Obeys F.reads F.writes F.same R.remaining W.contents (map (λ w. w.now) words.now) files.old files.new reader.old reader.new writer.old writer.new result }
+    ensures { Obeys F.reads F.writes F.same (Called L.does L.failures) H.does R.remaining W.contents (map (λ w. w.now) words.now)
+        (record { files = files.old; host = host.old; reader = reader.old; writer = writer.old })
+        (record { files = files.new; host = host.new; reader = reader.new; writer = writer.new }) result }
 {
     match job_of(alloc, words) {
-        Ok(job) => Ended::of(do_job(alloc, &job, files, reader, writer)),
+        Ok(job) => Ended::of(do_job(alloc, &job, files, host, reader, writer)),
         Err(WordsFault::OutOfMemory) => Ended::of(write_text(writer, NO_MEMORY, FAULT)),
         Err(WordsFault::Refused(text)) => Ended::Refused(text),
     }

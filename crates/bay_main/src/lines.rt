@@ -3,7 +3,7 @@ ghost use Rattle.std.specs.Prelude.{◌≡◌, ◌≤◌, ◌*◌, ◌∷◌, []
 ghost use Rattle.std.specs.Fmt.{decimal};
 ghost use Rattle.hex.specs.Hex.{encode_lower};
 ghost use Rattle.bay_io.specs.Sent.{Puts};
-ghost use Rattle.bay_main.specs.LineAnswers.{digit_of, enabled_text, switch_text, switch_part, switches_text, steps_text, scan_text, ran_text, octets_text, send_text, sends_text, ended_text, order_text, command_line, command_text, commands_text, why_text, closing_text, closed_text, refused_text, done_text, step_text};
+ghost use Rattle.bay_main.specs.LineAnswers.{digit_of, enabled_text, switch_text, switch_part, switches_text, steps_text, scan_text, ran_text, octets_text, send_text, sends_text, ended_text, order_text, command_line, command_text, commands_text, why_text, closing_text, closed_text, refusal_line, done_text, step_text};
 
 use bay_device::device::Device;
 use bay_device::event::{Sent, Step, Why};
@@ -176,19 +176,19 @@ pub fn put_last_number<W: Write>(
     outbox.put(writer, b"\n")
 }
 
-/// Writes the line of a refused event.
+/// Writes the line of a refusal with this number.
 #[cold]
-fn put_refused<W: Write>(
+pub fn put_refusal<W: Write>(
     outbox: &mut Outbox,
     writer: &mut WatchedWriter<W>,
     moment: u64,
-    fault: StepFault,
+    code: u8,
 ) -> Result<(), WriteFault>
     requires { writer.old.has_failed ≡ false }
-    ensures { Puts W.contents outbox.old writer.old (refused_text moment fault) outbox.new writer.new result }
+    ensures { Puts W.contents outbox.old writer.old (refusal_line moment code) outbox.new writer.new result }
 {
     put_numbered(outbox, writer, moment, b" refused ")?;
-    put_last_number(outbox, writer, u64::from(fault.code()))
+    put_last_number(outbox, writer, u64::from(code))
 }
 
 /// Writes the line of a scan, if there was one.
@@ -371,7 +371,7 @@ fn put_command<W: Write>(
 }
 
 /// Writes the lines of all commands.
-fn put_commands<W: Write>(
+pub fn put_commands<W: Write>(
     outbox: &mut Outbox,
     writer: &mut WatchedWriter<W>,
     device: &Device,
@@ -419,7 +419,7 @@ fn put_closing<W: Write>(
 
 /// Writes the line of an association that was closed.
 #[cold]
-fn put_closing_line<W: Write>(
+pub fn put_closing_line<W: Write>(
     outbox: &mut Outbox,
     writer: &mut WatchedWriter<W>,
     moment: u64,
@@ -521,7 +521,7 @@ pub fn put_step<W: Write>(
     ensures { Puts W.contents outbox.old writer.old (step_text moment answer.now device.now) outbox.new writer.new result }
 {
     match answer {
-        Err(fault) => put_refused(outbox, writer, moment, *fault),
+        Err(fault) => put_refusal(outbox, writer, moment, fault.code()),
         Ok(step) => put_done(outbox, writer, device, moment, step),
     }
 }

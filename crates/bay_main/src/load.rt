@@ -2,7 +2,9 @@
 ghost use Rattle.std.specs.Prelude.{◌≡◌, ◌≢◌, Ok, Err, IfOk, IfErr};
 ghost use Rattle.bay_base.specs.Exact.{Gives};
 ghost use Rattle.bay_config.specs.Bay.{bay_of};
+ghost use Rattle.bay_services.specs.Released.{AreTimed};
 ghost use Rattle.il_image.specs.Decoding.{decoded};
+ghost use Rattle.bay_device.specs.Entries.{IsIdle};
 ghost use Rattle.bay_device.specs.Load.{of_bay, Loads};
 ghost use Rattle.bay_device.specs.declared.fault.LoadFault.TheVariants.{OutOfMemory};
 ghost use Rattle.bay_main.specs.Load.{file_of, text_of, load_of, LoadsTo};
@@ -27,7 +29,10 @@ pub enum Form {
 
 /// The refusal of a bay file, or else of a program that is not in UTF-8: a bad token at its first line.
 fn refuse_logic(alloc: Global, bay: &str) -> Result<Device, LoadFault>
-    ensures { Gives LoadFault.OutOfMemory (λ device. device) result (of_bay (bay_of bay.now) (Err (BadToken 1))) }
+    ensures device { Gives LoadFault.OutOfMemory (λ device. device) result (of_bay (bay_of bay.now) (Err (BadToken 1))) }
+    // Nothing is selected, and no association is open; each switch that can be operated takes some time.
+    ensures idle { IfOk result IsIdle }
+    ensures timed { IfOk result (λ device. AreTimed device.controls.controls) }
 {
     let _bay = read_bay(alloc, bay)?;
     Err(LoadFault::from(TextFault::BadToken { line: 1 }))
@@ -35,7 +40,10 @@ fn refuse_logic(alloc: Global, bay: &str) -> Result<Device, LoadFault>
 
 /// The device of the text of a bay file and the octets of a program.
 fn load_logic(alloc: Global, bay: &str, logic: &[u8]) -> Result<Device, LoadFault>
-    ensures { Gives LoadFault.OutOfMemory (λ device. device) result (of_bay (bay_of bay.now) (text_of logic.now)) }
+    ensures device { Gives LoadFault.OutOfMemory (λ device. device) result (of_bay (bay_of bay.now) (text_of logic.now)) }
+    // Nothing is selected, and no association is open; each switch that can be operated takes some time.
+    ensures idle { IfOk result IsIdle }
+    ensures timed { IfOk result (λ device. AreTimed device.controls.controls) }
 {
     match std::str::from_utf8(logic) {
         Ok(logic) => load(alloc, bay, logic),
@@ -45,7 +53,10 @@ fn load_logic(alloc: Global, bay: &str, logic: &[u8]) -> Result<Device, LoadFaul
 
 /// The device of the octets of a bay file and of a program. A bay file that is not in UTF-8 is no TOML.
 pub fn load_octets(alloc: Global, bay: &[u8], logic: &[u8]) -> Result<Device, LoadFault>
-    ensures { Gives LoadFault.OutOfMemory (λ device. device) result (load_of bay.now logic.now) }
+    ensures device { Gives LoadFault.OutOfMemory (λ device. device) result (load_of bay.now logic.now) }
+    // Nothing is selected, and no association is open; each switch that can be operated takes some time.
+    ensures idle { IfOk result IsIdle }
+    ensures timed { IfOk result (λ device. AreTimed device.controls.controls) }
 {
     match std::str::from_utf8(bay) {
         Ok(bay) => load_logic(alloc, bay, logic),
@@ -57,6 +68,9 @@ pub fn load_octets(alloc: Global, bay: &[u8], logic: &[u8]) -> Result<Device, Lo
 fn load_image_octets(alloc: Global, bay: &[u8], image: &[u8]) -> Result<Device, LoadFault>
     ensures ok { IfOk result (λ device. Loads (file_of bay.now) (decoded image.now) (Ok device)) }
     ensures refused { IfErr result (λ e. e ≢ OutOfMemory → Loads (file_of bay.now) (decoded image.now) (Err e)) }
+    // Nothing is selected, and no association is open; each switch that can be operated takes some time.
+    ensures idle { IfOk result IsIdle }
+    ensures timed { IfOk result (λ device. AreTimed device.controls.controls) }
 {
     match std::str::from_utf8(bay) {
         Ok(bay) => load_image(alloc, bay, image),
@@ -73,6 +87,9 @@ pub fn load_program(
 ) -> Result<Device, LoadFault>
     ensures ok { IfOk result (λ device. LoadsTo bay.now form program.now (Ok device)) }
     ensures refused { IfErr result (λ e. e ≢ OutOfMemory → LoadsTo bay.now form program.now (Err e)) }
+    // Nothing is selected, and no association is open; each switch that can be operated takes some time.
+    ensures idle { IfOk result IsIdle }
+    ensures timed { IfOk result (λ device. AreTimed device.controls.controls) }
 {
     match form {
         Form::Logic => load_octets(alloc, bay, program),

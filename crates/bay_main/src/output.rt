@@ -19,6 +19,9 @@ pub const REFUSED: u8 = 1;
 /// The line of a load that wants memory.
 pub const OUT_OF_MEMORY: &[u8] = b"load refused memory\n";
 
+/// What is told where there is no memory after a load.
+pub const NO_MEMORY: &[u8] = b"fault memory\n";
+
 /// The status of a fault in a trace, in reading or in writing, and of want of memory after a load.
 pub const FAULT: u8 = 3;
 

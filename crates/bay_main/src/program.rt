@@ -2,11 +2,13 @@
 use crate::commands::obey;
 use crate::ending::Ended;
 use crate::files::SystemFiles;
+use crate::host::SystemHost;
 use crate::output::{FAULT, write_text};
 use bay_io::reader::WatchedReader;
 use bay_io::writer::WatchedWriter;
 use std::alloc::{AllocError, Global};
 use std::io::ErrorKind;
+use std::net::{Net, TcpListener, TcpStream};
 use std::process::ExitCode;
 use std::rt::Runtime;
 use std::{env, io};
@@ -42,7 +44,10 @@ fn words_of<R: Runtime<A = Global>>(rt: &R) -> Result<Vec<String>, Unheard> {
 }
 
 /// Does what words ask for.
-fn obey_words<R: Runtime<A = Global>>(rt: &R, words: &[String]) -> Result<Ended, Unheard> {
+fn obey_words<R: Runtime<A = Global> + Net<Listener = TcpListener, Stream = TcpStream>>(
+    rt: &R,
+    words: &[String],
+) -> Result<Ended, Unheard> {
     let mut texts = Vec::new(rt.alloc());
     for word in words {
         if texts.push(word.as_str()).is_err() {
@@ -52,17 +57,21 @@ fn obey_words<R: Runtime<A = Global>>(rt: &R, words: &[String]) -> Result<Ended,
     let mut reader = WatchedReader::new(rt.reader());
     let mut writer = WatchedWriter::new(io::writer(rt));
     let mut files = SystemFiles::new(rt);
+    let mut host = SystemHost::new(rt);
     Ok(obey(
         rt.alloc(),
         texts.as_slice(),
         &mut files,
+        &mut host,
         &mut reader,
         &mut writer,
     ))
 }
 
 /// Does what the program's words ask for, and says how that ended.
-fn obey_program<R: Runtime<A = Global>>(rt: &R) -> Result<Ended, Unheard> {
+fn obey_program<R: Runtime<A = Global> + Net<Listener = TcpListener, Stream = TcpStream>>(
+    rt: &R,
+) -> Result<Ended, Unheard> {
     let words = words_of(rt)?;
     obey_words(rt, words.as_slice())
 }
@@ -83,7 +92,9 @@ fn end_unheard<R: Runtime<A = Global>>(rt: &R, why: Unheard) -> Ended {
 
 /// Does what the program's words ask for: reads files or standard input, writes a report to standard output, and ends with its
 /// status. What `clap` says of wrong words goes to standard error with the status 2, and so does `fault 122` of a failed write, with 3.
-pub fn run<R: Runtime<A = Global>>(rt: &R) -> ExitCode {
+pub fn run<R: Runtime<A = Global> + Net<Listener = TcpListener, Stream = TcpStream>>(
+    rt: &R,
+) -> ExitCode {
     let ended = match obey_program(rt) {
         Ok(ended) => ended,
         Err(why) => end_unheard(rt, why),

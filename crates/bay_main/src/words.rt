@@ -2,9 +2,10 @@
 ghost use Rattle.std.specs.Prelude.{◌≡◌, ◌⊎◌, map, true, false, Some, None, IfOk, IfErr, IfSome, option_map, string_bytes};
 ghost use Rattle.clap.specs.Words.{app_of, first_of, rows_of, found_of, with_rule, kind_of, subcommand_rows_of};
 ghost use Rattle.clap.specs.declared.builder.command.Command.TheViews.{out-Command as fields_of};
-ghost use Rattle.bay_main.specs.Jobs.{file_rule, needed_rule, check_app, replay_app, compile_app, program_app, job_app, is_either, has_files, is_whole, whole_job, verb_of, with_options, named_job, entered_job, job_in};
+ghost use Rattle.bay_main.specs.Jobs.{file_rule, needed_rule, number_rule, with_program, check_app, replay_app, serve_app, compile_app, program_app, job_app, has_program, has_files, is_either, is_whole, whole_job, verb_of, number_of, with_options, named_job, entered_job, job_in};
 ghost use Rattle.bay_main.specs.JobView.{job_view};
 
+use clap::builder::ValueParser;
 use clap::error::ErrorKind;
 use clap::{Arg, ArgAction, ArgMatches, Command, Error};
 use std::alloc::{AllocError, Global};
@@ -17,11 +18,13 @@ pub enum Verb {
     Check,
     /// Replays a scenario.
     Replay,
+    /// Serves clients.
+    Serve,
     /// Compiles a program to an image.
     Compile,
 }
 
-/// What a command line asks for: what is to be done, and the names of the files that were given.
+/// What a command line asks for: what is to be done, the names of the files that were given, and the numbers.
 #[derive(Debug, Drop)]
 pub struct Job {
     pub verb: Verb,
@@ -33,6 +36,12 @@ pub struct Job {
     pub image: Option<String>,
     /// Where the compiled program is written.
     pub out: Option<String>,
+    /// The trace of the process that is served, line by line.
+    pub trace: Option<String>,
+    /// The port of 127.0.0.1 on which clients are served, from 1 on.
+    pub port: Option<u16>,
+    /// How many turns are served.
+    pub turns: Option<u32>,
 }
 
 /// Why words ask for nothing that is done.
@@ -84,6 +93,41 @@ fn with_needed_file<'a>(
     Ok(command)
 }
 
+/// The command with one more option, `--ID N`, which has to be there, and whose value is a number from the least to the greatest.
+fn with_number<'a>(
+    alloc: Global,
+    command: Command<'a>,
+    id: &'a str,
+    least: u64,
+    greatest: u64,
+    help: &'a str,
+) -> Result<Command<'a>, AllocError>
+    ensures app { IfOk result (λ c. app_of c ≡ with_rule (app_of command.entry) (number_rule id.entry.now least greatest)) }
+    ensures globals { IfOk result (λ c. (fields_of c).has_globals ≡ (fields_of command.entry).has_globals) }
+{
+    let number = Arg::new(alloc, id)
+        .long(id)
+        .value_name("N")
+        .help(help)
+        .required(true)
+        .value_parser(ValueParser::unsigned(least, greatest))
+        .action(ArgAction::Set);
+    let command = command.arg(number)?;
+    Ok(command)
+}
+
+/// The command with the options of a program, of which one has to be there, and not both.
+fn with_program<'a>(alloc: Global, command: Command<'a>) -> Result<Command<'a>, AllocError>
+    ensures app { IfOk result (λ c. app_of c ≡ with_program (app_of command.entry)) }
+    ensures globals { IfOk result (λ c. (fields_of c).has_globals ≡ (fields_of command.entry).has_globals) }
+{
+    let command = command.after_help("Exactly one of --logic and --image is wanted.");
+    let command = with_file(alloc, command, "logic", "The program in Instruction List")?;
+    let image = "The compiled program, in place of --logic";
+    let command = with_file(alloc, command, "image", image)?;
+    Ok(command)
+}
+
 fn check_command<'a>(alloc: Global) -> Result<Command<'a>, AllocError>
     ensures app { IfOk result (λ c. app_of c ≡ check_app) }
     ensures local { IfOk result (λ c. (fields_of c).has_globals ≡ false) }
@@ -91,9 +135,24 @@ fn check_command<'a>(alloc: Global) -> Result<Command<'a>, AllocError>
     let about = "Loads a bay with a program, and tells what came of it";
     let command = Command::new(alloc, "check").about(about);
     let command = with_needed_file(alloc, command, "bay", "The bay file")?;
-    let command = with_file(alloc, command, "logic", "The program in Instruction List")?;
-    let image = "The compiled program, in place of --logic";
-    let command = with_file(alloc, command, "image", image)?;
+    let command = with_program(alloc, command)?;
+    Ok(command)
+}
+
+fn serve_command<'a>(alloc: Global) -> Result<Command<'a>, AllocError>
+    ensures app { IfOk result (λ c. app_of c ≡ serve_app) }
+    ensures local { IfOk result (λ c. (fields_of c).has_globals ≡ false) }
+{
+    let about = "Serves clients on 127.0.0.1";
+    let command = Command::new(alloc, "serve").about(about);
+    let command = with_needed_file(alloc, command, "bay", "The bay file")?;
+    let command = with_program(alloc, command)?;
+    let port = "The port on which clients are served";
+    let command = with_number(alloc, command, "port", 1, 65_535, port)?;
+    let turns = "How many turns are served";
+    let command = with_number(alloc, command, "turns", 0, 4_294_967_295, turns)?;
+    let trace = "What happens to the process, a line each turn";
+    let command = with_file(alloc, command, "trace", trace)?;
     Ok(command)
 }
 
@@ -132,10 +191,12 @@ fn job_command<'a>(alloc: Global) -> Result<Command<'a>, AllocError>
     ensures { IfOk result (λ c. app_of c ≡ job_app) }
 {
     let check = check_command(alloc)?;
+    let serve = serve_command(alloc)?;
     let compile = compile_command(alloc)?;
     let command = program_command(alloc)?
         .subcommand(check)?
         .subcommand(replay_command(alloc))?
+        .subcommand(serve)?
         .subcommand(compile)?;
     Ok(command)
 }
@@ -147,6 +208,7 @@ fn verb_of(name: &str) -> Option<Verb>
     match name {
         "check" => Some(Verb::Check),
         "replay" => Some(Verb::Replay),
+        "serve" => Some(Verb::Serve),
         "compile" => Some(Verb::Compile),
         _ => None,
     }
@@ -172,6 +234,21 @@ fn option_of(alloc: Global, found: &ArgMatches<'_>, id: &str) -> Result<Option<S
     }
 }
 
+/// The port that a value stands for: a number from 1 to 65,535.
+fn port_of(value: &str) -> Option<u16>
+    ensures { result ≡ number_of 1 65535 value.now }
+{
+    let port = value.parse::<u16>().ok()?;
+    if port == 0 { None } else { Some(port) }
+}
+
+/// The number of turns that a value stands for: one from 0 to 4,294,967,295.
+fn turns_of(value: &str) -> Option<u32>
+    ensures { result ≡ number_of 0 4294967295 value.now }
+{
+    value.parse::<u32>().ok()
+}
+
 /// A verb with the values of its options.
 fn with_options(alloc: Global, found: &ArgMatches<'_>, verb: Verb) -> Result<Job, AllocError>
     ensures { IfOk result (λ j. job_view j ≡ with_options (rows_of (found_of found.now)) verb) }
@@ -180,22 +257,36 @@ fn with_options(alloc: Global, found: &ArgMatches<'_>, verb: Verb) -> Result<Job
     let logic = option_of(alloc, found, "logic")?;
     let image = option_of(alloc, found, "image")?;
     let out = option_of(alloc, found, "out")?;
+    let trace = option_of(alloc, found, "trace")?;
+    let port = value_of(found, "port").and_then(port_of);
+    let turns = value_of(found, "turns").and_then(turns_of);
     Ok(Job {
         verb,
         bay,
         logic,
         image,
         out,
+        trace,
+        port,
+        turns,
     })
 }
 
-/// Whether the files that the verb wants were named.
+/// Whether a bay was named, and either a program or an image, and not both.
+fn has_program(job: &Job) -> bool
+    ensures { result ≡ has_program (job_view job.now) }
+{
+    job.bay.is_some() && job.logic.is_some() != job.image.is_some()
+}
+
+/// Whether what the verb wants was given.
 fn is_whole(job: &Job) -> bool
     ensures { result ≡ is_whole (job_view job.now) }
 {
     match job.verb {
-        Verb::Check => job.bay.is_some() && job.logic.is_some() != job.image.is_some(),
+        Verb::Check => has_program(job),
         Verb::Replay => true,
+        Verb::Serve => has_program(job) && job.port.is_some() && job.turns.is_some(),
         Verb::Compile => job.bay.is_some() && job.logic.is_some() && job.out.is_some(),
     }
 }
@@ -227,11 +318,21 @@ fn job_from(alloc: Global, matches: &ArgMatches<'_>) -> Result<Option<Job>, Allo
     }
 }
 
-/// The refusal of a check of both or neither of a program and an image.
-fn refused_files(alloc: Global) -> WordsFault {
-    let text =
-        "error: exactly one of --logic and --image is wanted\n\nUsage: bayctl check --bay <F> <--logic <F>|--image <F>>\n\nFor more information, try '--help'.\n";
-    match String::from_str(alloc, text) {
+/// How a command is used that wants either a program or an image.
+fn usage_of(name: Option<&str>) -> &'static str {
+    match name {
+        Some("serve") => {
+            "bayctl serve --bay <F> <--logic <F>|--image <F>> --port <N> --turns <N> [--trace <F>]"
+        }
+        _ => "bayctl check --bay <F> <--logic <F>|--image <F>>",
+    }
+}
+
+/// The refusal of a command with both or neither of a program and an image.
+fn refused_files(alloc: Global, name: Option<&str>) -> WordsFault {
+    let usage = usage_of(name);
+    match format!(in alloc; "error: exactly one of --logic and --image is wanted\n\nUsage: {usage}\n\nFor more information, try '--help'.\n")
+    {
         Ok(text) => WordsFault::Refused(text),
         Err(_) => WordsFault::OutOfMemory,
     }
@@ -250,8 +351,9 @@ fn refused_by(alloc: Global, error: &Error) -> WordsFault
     }
 }
 
-/// What the words after the program's name ask for: `check` of a bay file and either a program or an image, `replay`, or
-/// `compile` of a bay file and a program to an image. Words that ask for help are refused with it.
+/// What the words after the program's name ask for: `check` of a bay file and either a program or an image, `replay`, `serve` of the
+/// same as a check on a port for a number of turns, which may have a trace, or `compile` of a bay file and a program to an image. Words
+/// that ask for help are refused with it.
 pub fn job_of<'a>(alloc: Global, words: &'a [&'a str]) -> Result<Job, WordsFault>
     ensures ok { IfOk result (λ j. job_in (map (λ w. w.now) words.entry.now) ≡ Some (job_view j)) }
     ensures whole { IfOk result (λ j. is_whole (job_view j) ≡ true) }
@@ -264,7 +366,7 @@ pub fn job_of<'a>(alloc: Global, words: &'a [&'a str]) -> Result<Job, WordsFault
     match command.try_get_matches_from(words) {
         Ok(matches) => match job_from(alloc, &matches) {
             Ok(Some(job)) => Ok(job),
-            Ok(None) => Err(refused_files(alloc)),
+            Ok(None) => Err(refused_files(alloc, matches.subcommand_name())),
             Err(_) => Err(WordsFault::OutOfMemory),
         },
         Err(error) => Err(refused_by(alloc, &error)),

@@ -7,6 +7,7 @@
 // - `image`: values, timers, instructions and images.
 // - `verify`: refused images, handed back.
 // - `replay`: readers and writers that go by a few octets at a time, and that fail.
+// - `serve`: serving over a link and a host in memory, and over those of the system.
 #![tactic(auto)]
 
 #[cfg(test)]
@@ -17,5 +18,7 @@ mod check;
 mod image;
 #[cfg(test)]
 mod replay;
+#[cfg(test)]
+mod serve;
 #[cfg(test)]
 mod verify;

@@ -13,13 +13,15 @@ use bay_io::writer::WatchedWriter;
 use bay_main::commands::obey;
 use bay_main::ending::Ended;
 use bay_main::files::SystemFiles;
+use bay_main::host::SystemHost;
 use cases::octets::{is_spelled, octets_of};
 use cases::told::Told;
 use cases::words::first_word;
 use std::alloc::Global;
 use std::fs;
 use std::io::Read;
-use std::rt::Files;
+use std::net::{Net, TcpListener, TcpStream};
+use std::rt::{Files, Runtime};
 
 /// What the next commands read, and what the last one complained of.
 #[derive(Drop)]
@@ -30,7 +32,7 @@ struct Before<'a> {
 }
 
 /// Does a command, and puts what it prints behind the octets.
-fn ended<R: Files>(
+fn ended<R: Runtime<A = Global> + Net<Listener = TcpListener, Stream = TcpStream>>(
     rt: &R,
     alloc: Global,
     words: &[&str],
@@ -38,9 +40,17 @@ fn ended<R: Files>(
     printed: &mut Vec<u8>,
 ) -> Ended {
     let mut files = SystemFiles::new(rt);
+    let mut host = SystemHost::new(rt);
     let mut reader = WatchedReader::new(input);
     let mut writer = WatchedWriter::new(printed);
-    obey(alloc, words, &mut files, &mut reader, &mut writer)
+    obey(
+        alloc,
+        words,
+        &mut files,
+        &mut host,
+        &mut reader,
+        &mut writer,
+    )
 }
 
 /// The words of a command line.
@@ -66,7 +76,13 @@ fn check_printed(alloc: Global, printed: &[u8], wanted: &str) -> Result<()> {
 
 impl<'a> Before<'a> {
     /// Whether a command ends with this status, and prints this text.
-    fn runs<R: Files>(&mut self, rt: &R, status: &str, line: &str, wanted: &str) -> Result<bool> {
+    fn runs<R: Runtime<A = Global> + Net<Listener = TcpListener, Stream = TcpStream>>(
+        &mut self,
+        rt: &R,
+        status: &str,
+        line: &str,
+        wanted: &str,
+    ) -> Result<bool> {
         let words = words_of(self.alloc, line)?;
         let input = format!(in self.alloc; "{}\n", self.input)?;
         let mut printed = Vec::new(self.alloc);
@@ -102,7 +118,12 @@ impl<'a> Before<'a> {
     }
 
     /// The case of a section.
-    fn agrees<R: Files>(&mut self, rt: &R, head: &str, body: &str) -> Result<bool> {
+    fn agrees<R: Runtime<A = Global> + Net<Listener = TcpListener, Stream = TcpStream>>(
+        &mut self,
+        rt: &R,
+        head: &str,
+        body: &str,
+    ) -> Result<bool> {
         let (kind, rest) = first_word(head);
         match kind {
             "run" => {
@@ -128,7 +149,11 @@ fn make_file<R: Files>(rt: &R, alloc: Global, kind: &str, name: &str, body: &str
 }
 
 /// What is told of the cases of all sections.
-fn run<R: Files>(rt: &R, alloc: Global, text: &str) -> Result<String> {
+fn run<R: Runtime<A = Global> + Net<Listener = TcpListener, Stream = TcpStream>>(
+    rt: &R,
+    alloc: Global,
+    text: &str,
+) -> Result<String> {
     let text = text.strip_prefix("== ").context("no section")?;
     let text = text.strip_suffix("\n").unwrap_or(text);
     let mut before = Before {

@@ -1,7 +1,8 @@
 use Rattle.std.proofs.Common.{Ok, Err}
-use Rattle.bay_main.specs.Commands.{FilesReport, UnreadReport}
+use Rattle.bay_main.specs.Commands.{FilesReport}
 use Rattle.bay_main.specs.Files.{FilesData}
 use Rattle.bay_main.specs.Report.{CheckReport}
+use Rattle.bay_main.specs.Serve.{UnreadReport}
 use Rattle.bay_main.proofs.ReportLemmas.{Prints-weaker}
 use Rattle.bay_main.proofs.commands.check.Goals as goal
 

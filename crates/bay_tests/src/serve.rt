@@ -1,0 +1,201 @@
+// Serving over a link and a host in memory, and over those of the system.
+use bay_io::input::ReadFault;
+use bay_io::reader::WatchedReader;
+use bay_io::writer::WatchedWriter;
+use bay_main::commands::obey;
+use bay_main::files::{FileFault, FileSystem};
+use bay_main::host::{Host, SystemHost};
+use bay_serve::link::{Got, Link, LinkFault};
+use bay_serve::tcp::TcpLink;
+use std::alloc::Global;
+use std::test::Fail;
+
+/// A bay file, a program and a trace, each under a name of its own.
+#[derive(Drop)]
+struct Texts<'a> {
+    trace: &'a str,
+}
+
+const BAY: &str = "bay = { domain = \"B\", vendor = \"V\", model = \"M\", revision = \"1\", scan_max_age_ms = 0 }
+switch = [{ id = \"Q\", kind = \"breaker\", control = \"status\" }]
+";
+
+const LOGIC: &str = "PROGRAM P
+END_PROGRAM
+";
+
+impl FileSystem for Texts<'_> {
+    fn read(&self, alloc: Global, name: &str) -> Result<Vec<u8>, ReadFault> {
+        let text = match name {
+            "bay" => BAY,
+            "logic" => LOGIC,
+            "trace" => self.trace,
+            _ => return Err(ReadFault::Failed),
+        };
+        match Vec::from_slice(alloc, text.as_bytes()) {
+            Ok(octets) => Ok(octets),
+            Err(_) => Err(ReadFault::OutOfMemory),
+        }
+    }
+
+    fn write(&mut self, _alloc: Global, _name: &str, _octets: &[u8]) -> Result<(), FileFault> {
+        Err(FileFault::Failed)
+    }
+
+    fn is_same(&self, _alloc: Global, name: &str, other: &str) -> bool {
+        name == other
+    }
+}
+
+/// A link with one client, which hangs up at once.
+#[derive(Drop)]
+struct Hasty {
+    waits: bool,
+}
+
+impl Link for Hasty {
+    ghost failures = { λ _. 0 };
+
+    fn accept(&mut self, _a: u16) -> Result<bool, LinkFault> {
+        let waits = self.waits;
+        self.waits = false;
+        Ok(waits)
+    }
+
+    fn read(&mut self, _a: u16, _room: &mut [u8]) -> Result<Got, LinkFault> {
+        Ok(Got::End)
+    }
+
+    fn write(&mut self, _a: u16, _octets: &[u8]) -> Result<usize, LinkFault> {
+        Ok(0)
+    }
+
+    fn close(&mut self, _a: u16) {}
+}
+
+/// A host with one port, whose clock goes by a second at each look, and that counts its pauses.
+#[derive(Drop)]
+struct Still {
+    has_port: bool,
+    now: u64,
+    pauses: u32,
+}
+
+impl Host<Hasty> for Still {
+    fn bind(&mut self, _port: u16) -> Option<Hasty> {
+        if self.has_port {
+            Some(Hasty { waits: true })
+        } else {
+            None
+        }
+    }
+
+    fn now(&mut self) -> u64 {
+        self.now = self.now.saturating_add(1000);
+        self.now
+    }
+
+    fn pause(&mut self) {
+        self.pauses = self.pauses.saturating_add(1);
+    }
+}
+
+/// What is printed where the words ask to serve a trace, and how it ends.
+fn served<L: Link + Drop, H: Host<L>>(
+    alloc: Global,
+    host: &mut H,
+    trace: &str,
+    words: &[&str],
+) -> (Vec<u8>, u8) {
+    let mut files = Texts { trace };
+    let mut printed = Vec::new(alloc);
+    let mut reader = WatchedReader::new(b"".as_slice());
+    let mut writer = WatchedWriter::new(&mut printed);
+    let ended = obey(
+        alloc,
+        words,
+        &mut files,
+        host,
+        &mut reader,
+        &mut writer,
+    );
+    let status = ended.status();
+    (printed, status)
+}
+
+/// A host whose port can be had.
+fn still() -> Still {
+    Still {
+        has_port: true,
+        now: 0,
+        pauses: 0,
+    }
+}
+
+#[test]
+fn turns_and_their_lines(rt: HostRuntime) -> Result<(), Fail> {
+    let mut host = still();
+    let trace = "\n9 contact X 1\r\n\n9 contact Q 1\n";
+    let words = "serve --bay bay --logic logic --port 7 --turns 4 --trace trace";
+    let words: Vec<&str> = words.split(" ").collect(rt.alloc())?;
+    let (printed, status) = served(rt.alloc(), &mut host, trace, words.as_slice());
+    let wanted = b"instructions=2 depth=1 budget=2\n1000 refused 113\n1000 closed 1 0\n".as_slice();
+    assert!(rt; printed.as_slice() == wanted && status == 0);
+    assert_eq!(rt; host.pauses, 2);
+    Ok(())
+}
+
+#[test]
+fn lines_that_tell_of_no_process(rt: HostRuntime) -> Result<(), Fail> {
+    let words = "serve --bay bay --logic logic --port 7 --turns 4 --trace trace";
+    let words: Vec<&str> = words.split(" ").collect(rt.alloc())?;
+    for trace in ["9 contact Q 1\n\n9 scan\n", "9 contact Q 1\n\n9 open 1\n"] {
+        let (printed, status) = served(rt.alloc(), &mut still(), trace, words.as_slice());
+        let wanted =
+            b"instructions=2 depth=1 budget=2\n1000 closed 1 0\nfault 120 line 3\n".as_slice();
+        assert!(rt; printed.as_slice() == wanted && status == 3);
+    }
+    Ok(())
+}
+
+#[test]
+fn moments_past_the_last(rt: HostRuntime) -> Result<(), Fail> {
+    let mut host = still();
+    host.now = 4_294_967_295_000;
+    let words = ["serve", "--bay", "bay", "--logic", "logic", "--port", "7", "--turns", "4"];
+    let (printed, status) = served(rt.alloc(), &mut host, "", words.as_slice());
+    let wanted = b"instructions=2 depth=1 budget=2\nfault 114\n".as_slice();
+    assert!(rt; printed.as_slice() == wanted && status == 3);
+    Ok(())
+}
+
+#[test]
+fn files_and_ports_that_cannot_be_had(rt: HostRuntime) -> Result<(), Fail> {
+    let words = ["serve", "--bay", "bay", "--logic", "logic", "--port", "7", "--turns", "4"];
+    let mut host = still();
+    host.has_port = false;
+    let (printed, status) = served(rt.alloc(), &mut host, "", words.as_slice());
+    let wanted = b"instructions=2 depth=1 budget=2\nfault 121\n".as_slice();
+    assert!(rt; printed.as_slice() == wanted && status == 3);
+    let words = "serve --bay bay --logic logic --port 7 --turns 4 --trace none";
+    let words: Vec<&str> = words.split(" ").collect(rt.alloc())?;
+    let (printed, status) = served(rt.alloc(), &mut host, "", words.as_slice());
+    assert!(rt; printed.as_slice() == b"fault 121\n".as_slice() && status == 3);
+    Ok(())
+}
+
+#[test]
+fn ports_of_the_system(rt: HostRuntime) -> Result<(), Fail> {
+    let link = TcpLink::bind(&rt, 0)?;
+    let port = format!(in rt.alloc(); "{}", link.port()?)?;
+    let words = ["serve", "--bay", "bay", "--logic", "logic", "--port", port.as_str(), "--turns", "3"];
+    let mut host = SystemHost::new(&rt);
+    let (printed, status) = served::<TcpLink, _>(rt.alloc(), &mut host, "", words.as_slice());
+    let taken = b"instructions=2 depth=1 budget=2\nfault 121\n".as_slice();
+    assert!(rt; printed.as_slice() == taken && status == 3);
+    drop(link);
+    let (printed, status) = served::<TcpLink, _>(rt.alloc(), &mut host, "", words.as_slice());
+    let served = b"instructions=2 depth=1 budget=2\n".as_slice();
+    assert!(rt; printed.as_slice() == served && status == 0);
+    Ok(())
+}
