@@ -12,6 +12,7 @@ TIMES = ['sbo_timeout_ms', 'travel_ms']
 SECTIONS = {'bay': (1, 1), 'switch': (1, 32), 'input': (0, 64), 'meter': (0, 8)}
 ENTRIES = {'switch': ('switch', 'switches'), 'input': ('input', 'inputs'), 'meter': ('meter', 'meters')}
 NUMBERS = {'scan_max_age_ms': (0, 600_000), 'sbo_timeout_ms': (1, 600_000), 'travel_ms': (1, 600_000)}
+LONGEST = 262_144
 TYPES = {str: 'a text', bool: 'a truth value', int: 'a number', float: 'a number with a fraction', list: 'a list', dict: 'a table'}
 POINTS = {'switch': {'_POS': 'INT', '_OPEN': 'BOOL', '_CLOSED': 'BOOL', '_ENA_OPN': 'BOOL', '_ENA_CLS': 'BOOL'}, 'input': {'': 'BOOL'},
           'meter': dict.fromkeys(('_TOTW', '_TOTVAR', '_HZ', '_AA', '_AB', '_AC'), 'DINT')}
@@ -27,6 +28,8 @@ class Refused(Exception):
 
 def text_of(octets):
     """The text of a bay file, without a byte order mark at its start."""
+    if len(octets) > LONGEST:
+        raise Refused(50, Place(f'it has {len(octets):,} octets, and {LONGEST:,} are the most'))
     try:
         return octets.decode('utf-8').removeprefix('\ufeff')
     except UnicodeDecodeError as error:

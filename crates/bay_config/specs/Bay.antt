@@ -1,5 +1,5 @@
 -- The bay of a table: the sections of a bay file, its first refusal, and what it describes.
-use Rattle.std.specs.Prelude.{ℕ, List, [], ◌∷◌, ◌++◌, map, codes, Option, None, Some, option_and_then, unwrap_or, Result, Err}
+use Rattle.std.specs.Prelude.{ℕ, nat_le, List, [], ◌∷◌, ◌++◌, length, map, codes, Option, None, Some, option_and_then, unwrap_or, Result, Err, if◌then◌else◌}
 use Rattle.toml.specs.Data.{Members, no_members, get_member, as_table}
 use Rattle.toml.specs.Parse.{parse_document}
 use Rattle.bay_config.specs.declared.bay.Bay.{Bay}
@@ -110,6 +110,10 @@ abbrev pub bay_of_document : Option Members → Result Bay BayFault
 bay_of_document None = Err BadToml
 bay_of_document (Some file) = bay_of_table file
 
+-- the table of a text of at most 262,144 octets
+unfoldable pub document_of : List ℕ → Option Members
+document_of text = if nat_le (length text) 262144 then parse_document text else None
+
 -- the bay of a text, or its first refusal
 abbrev pub bay_of : List ℕ → Result Bay BayFault
-bay_of text = bay_of_document (parse_document text)
+bay_of text = bay_of_document (document_of text)

@@ -9,8 +9,8 @@ use thiserror::Error;
 /// The first fault of a bay file. Nothing is left of a refused file.
 #[derive(Clone, Copy, Debug, PartialEq, Eq, Error)]
 pub enum BayFault {
-    /// The text is no TOML document.
-    #[error("the text is not a TOML document")]
+    /// The text is no TOML document, or has more than 262,144 octets.
+    #[error("the text is not a TOML document, or is too long")]
     BadToml,
     /// A section or a key that has to be there is missing.
     #[error("a section or a key is missing")]

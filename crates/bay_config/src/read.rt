@@ -1,8 +1,9 @@
 // Reads a bay.
 ghost use Rattle.std.specs.Prelude.{◌≡◌, ◌∷◌, map, IfOk};
+ghost use Rattle.std.specs.Option.{ok_or};
 ghost use Rattle.toml.specs.View.{table_view};
-ghost use Rattle.bay_config.specs.Bay.{bay_table, bay_of_table, bay_of, nameplate_in, names_in, sections, switches_in};
-ghost use Rattle.bay_config.specs.declared.fault.BayFault.TheVariants.{OutOfMemory};
+ghost use Rattle.bay_config.specs.Bay.{bay_table, bay_of_table, bay_of, document_of, nameplate_in, names_in, sections, switches_in};
+ghost use Rattle.bay_config.specs.declared.fault.BayFault.TheVariants.{BadToml, OutOfMemory};
 ghost use Rattle.bay_config.specs.declared.names.NameSection.TheVariants.{Input, Meter};
 ghost use Rattle.bay_base.specs.Exact.{Gives, judged};
 ghost use Rattle.bay_config.specs.Key.{first_of, unknown_refusal};
@@ -119,14 +120,19 @@ fn bay_from(alloc: Global, file: &Table) -> Result<Bay, BayFault>
     Ok(bay_with(sections, lists))
 }
 
-/// Reads a bay from the text of its file, or says why the text is none.
-pub fn read_bay(alloc: Global, text: &str) -> Result<Bay, BayFault>
-    // The bay that the text describes, or its first refusal, unless memory ran out.
-    ensures read { Gives OutOfMemory (λ x. x) result (bay_of text.now) }
-    ensures sound { IfOk result IsBay }
+/// The most octets of a bay file.
+const MAX_OCTETS: usize = 262_144;
+
+/// The table of a bay file. A text that is too long is not parsed.
+#[tactic(auto, unfolding(crate::specs::Bay::document_of))]
+fn document_at(alloc: Global, text: &str) -> Result<Table, BayFault>
+    ensures { Gives OutOfMemory table_view result (ok_or (document_of text.now) BadToml) }
 {
+    if text.len() > MAX_OCTETS {
+        return Err(BayFault::BadToml);
+    }
     match toml::table_from_str(alloc, text) {
-        Ok(file) => bay_from(alloc, &file),
+        Ok(file) => Ok(file),
         Err(error) => {
             if error.is_memory() {
                 Err(BayFault::OutOfMemory)
@@ -135,4 +141,16 @@ pub fn read_bay(alloc: Global, text: &str) -> Result<Bay, BayFault>
             }
         }
     }
+}
+
+/// Reads a bay from the text of its file, or says why the text is none.
+pub fn read_bay(alloc: Global, text: &str) -> Result<Bay, BayFault>
+    // The bay that the text describes, or its first refusal, unless memory ran out. A text of more than
+    // 262,144 octets is refused, whatever it says.
+    ensures read { Gives OutOfMemory (λ x. x) result (bay_of text.now) }
+    ensures sound { IfOk result IsBay }
+{
+    let file = document_at(alloc, text)?;
+    let bay = bay_from(alloc, &file)?;
+    Ok(bay)
 }

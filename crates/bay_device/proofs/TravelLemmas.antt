@@ -2,10 +2,9 @@
 use Rattle.std.proofs.Common.{◌≡◌, ◌≤◌, ℕ, ℤ, pos, negsuc, zero, suc, Bool, true, false, cond, nat_le, List, [], ◌∷◌, ◌++◌, map, codes, option_map, option_and_then, unwrap_or, Option, Some, None, Ok, refl, subst, sym}
 use Rattle.std.proofs.lemmas.Bool.{and_parts, leb-true}
 use Rattle.toml.specs.Data.{Data, Items, no_items, Members, get_member, as_integer}
-use Rattle.toml.specs.Parse.{parse_document}
 use Rattle.bay_nodes.specs.declared.switch.Control.{Control}
 use Rattle.bay_nodes.specs.declared.switch.Control.TheVariants.{Status, Direct, Sbo, SboEnhanced}
-use Rattle.bay_config.specs.Bay.{bay_in, bay_of, bay_of_document, bay_section, file_refusal, name_section, names_in, sections, switch_section, switches_in}
+use Rattle.bay_config.specs.Bay.{bay_in, bay_of, bay_of_document, document_of, bay_section, file_refusal, name_section, names_in, sections, switch_section, switches_in}
 use Rattle.bay_config.specs.Key.{Key, entry_refusal, first_of, held_refusal, is_within, key_refusal, natural, number, number_in, passes, unknown_refusal}
 use Rattle.bay_config.specs.Point.{names_refusal, points_of_all}
 use Rattle.bay_config.specs.Section.{items_at, items_refusal, list_checks, list_refusal, section_refusal, tables_of}
@@ -101,4 +100,4 @@ document-travels (Some file) bay is =
 
 -- a switch of a bay file that can be operated takes some time
 pub bay-travels : (text : List ℕ) (bay : Bay) → bay_of text ≡ Ok bay → AreTimed (controls_of bay.switches)
-bay-travels text bay is = document-travels (parse_document text) bay is
+bay-travels text bay is = document-travels (document_of text) bay is

@@ -2,6 +2,7 @@
 // back, and a replay with readers and writers that fail. They use public calls alone, and stand in a crate of their own, since a
 // crate with tests is proved a second time for them.
 //
+// - `bay`: the longest bay file.
 // - `by_hand`: programs that no text gives.
 // - `check`: what is left of a checked program, and what faults say.
 // - `image`: values, timers, instructions and images.
@@ -10,6 +11,8 @@
 // - `serve`: serving over a link and a host in memory, and over those of the system.
 #![tactic(auto)]
 
+#[cfg(test)]
+mod bay;
 #[cfg(test)]
 mod by_hand;
 #[cfg(test)]

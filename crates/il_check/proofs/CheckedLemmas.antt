@@ -38,7 +38,7 @@ pub record IsRead (points : List Point) (program : text.PlainProgram) (d : Decla
   pub labels : StandsAs (labels_from 0 program.items) l
   pub meanings : names.meanings ≡ d.meanings
   pub numbers : names.labels ≡ l.numbers
-  pub items_read : items ≡ items_left (names_of names) program.items (first l.arrivals.items)
+  pub items_read : answer ≡ None → items ≡ items_left (names_of names) program.items (first l.arrivals.items)
   pub found : answer ≡ noted d.found (items_faults (names_of names) program.items (first l.arrivals.items))
 
 module _ (points : List Point) (program : text.PlainProgram) (d : Declarations) (l : Labels) (names : code.Names) (items : List Item) (answer : Option CheckFault)
@@ -73,9 +73,9 @@ module _ (points : List Point) (program : text.PlainProgram) (d : Declarations) 
   pub refused : (f : CheckFault) → answer ≡ Some f → checked_of points program ≡ Err f
   refused f is = ap (λ (o : Option CheckFault). judged o (checked_program points program)) (sym found-is ∙ is)
 
-  items_same : items ≡ items_left (names_in points program) program.items (first (map (λ x. unreached) (labels_from 0 program.items)))
-  items_same =
-      read.items_read
+  items_same : answer ≡ None → items ≡ items_left (names_in points program) program.items (first (map (λ x. unreached) (labels_from 0 program.items)))
+  items_same none =
+      read.items_read none
       ∙ ap (λ (n : Names). items_left n program.items (first l.arrivals.items)) names_same
       ∙ ap (λ (s : Standing). items_left (names_in points program) program.items s) started
 
@@ -94,7 +94,7 @@ module _ (points : List Point) (program : text.PlainProgram) (d : Declarations) 
       (ap (λ (es : List External). with_all es (variables_of program.declarations) (timers_of program.declarations) left) (sym read.stands.externals)
       ∙ ap (λ (vs : List Variable). with_all d.externals.items vs (timers_of program.declarations) left) (sym read.stands.variables)
       ∙ ap (λ (ts : List Timer). with_all d.externals.items d.variables.items ts left) (sym read.stands.timers)
-      ∙ ap (λ (is : List Item). with_all d.externals.items d.variables.items d.timers.items is) (sym items_same))
+      ∙ ap (λ (is : List Item). with_all d.externals.items d.variables.items d.timers.items is) (sym (items_same none)))
 
   -- without a fault, the names of the slots differ
   pub apart_names : answer ≡ None → AreApart (map (λ e. e.name) d.externals.items ++ map (λ v. v.name) d.variables.items)
@@ -107,7 +107,7 @@ pub is_read : (points : List Point) (p : program.Program) (declarations : List D
     → declarations ≡ p.declarations.items → first_items ≡ p.items.items → items ≡ p.items.items
     → StandsFor points (map declared_of declarations) d → d.found ≡ least_fault (declarations_faults points [] (map declared_of declarations))
     → StandsAs (labels_from 0 (map entry_of first_items)) l
-    → left ≡ items_left (names_of (record { meanings = d.meanings; labels = l.numbers })) (map entry_of items) (first l.arrivals.items)
+    → (answer ≡ None → left ≡ items_left (names_of (record { meanings = d.meanings; labels = l.numbers })) (map entry_of items) (first l.arrivals.items))
     → answer ≡ noted d.found (items_faults (names_of (record { meanings = d.meanings; labels = l.numbers })) (map entry_of items) (first l.arrivals.items))
     → IsRead points (plain_program p) d l (record { meanings = d.meanings; labels = l.numbers }) left answer
 is_read points p declarations first_items items d l left answer these those them stands declared labels read found = record {
@@ -116,6 +116,6 @@ is_read points p declarations first_items items d l left answer these those them
   labels = subst (λ (is : List source.Item). StandsAs (labels_from 0 (map entry_of is)) l) those labels;
   meanings = refl;
   numbers = refl;
-  items_read = read ∙ ap (λ (is : List source.Item). items_left (names_of (record { meanings = d.meanings; labels = l.numbers })) (map entry_of is) (first l.arrivals.items)) them;
+  items_read = λ (none : answer ≡ None). read none ∙ ap (λ (is : List source.Item). items_left (names_of (record { meanings = d.meanings; labels = l.numbers })) (map entry_of is) (first l.arrivals.items)) them;
   found = found ∙ ap (λ (is : List source.Item). noted d.found (items_faults (names_of (record { meanings = d.meanings; labels = l.numbers })) (map entry_of is) (first l.arrivals.items))) them;
 }

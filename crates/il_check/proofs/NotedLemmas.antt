@@ -16,6 +16,11 @@ pub noted-nil : (found : Option CheckFault) → noted found [] ≡ found
 noted-nil (Some f) = refl
 noted-nil None = refl
 
+-- where none is answered, none was found before
+pub noted-none : (found : Option CheckFault) (faults : List CheckFault) → noted found faults ≡ None → found ≡ None
+noted-none None faults none = refl
+noted-none (Some f) faults none = absurd (cc)
+
 -- tests one after another
 pub noted_two : (found : Option CheckFault) (a b : List CheckFault) → noted found (a ++ b) ≡ noted (noted found a) b
 noted_two = noted-append

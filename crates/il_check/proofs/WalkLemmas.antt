@@ -20,7 +20,7 @@ use Rattle.il_check.specs.declared.walk.Passed.{Passed}
 use Rattle.il_check.specs.declared.typed.TypedEntry.{TypedEntry}
 use Rattle.il_check.specs.declared.fault.CheckFault.{CheckFault}
 use Rattle.il_check.specs.declared.fault.CheckFault.TheVariants.{TooMany}
-use Rattle.il_check.proofs.NotedLemmas.{noted-append, noted-nil}
+use Rattle.il_check.proofs.NotedLemmas.{noted-append, noted-nil, noted-none}
 
 pub nothing_left : {X : Type 0} → (xs : List X) (i : ℕ) → length xs ≤ i → drop i xs ≡ []
 nothing_left xs i h = grind (arith, common_steps)
@@ -130,15 +130,15 @@ module _ (names : Names) (room : ℕ) (is_reached : Bool) (passed : ℕ) (all : 
       ∙ known.found
 
 module _ (names : Names) (all : List Item) (begun : Option CheckFault) (start : Standing) where
-  -- what is known after so many items
+  -- what is known after so many items; what is left of them is, as long as no fault is found
   pub record ItemsSoFar (i : ℕ) (now : Option CheckFault) (w : Walk) : Type 0 where
-    pub left : map item_view w.items.items ++ items_left names (map entry_of (drop i all)) (standing_of w) ≡ items_left names (map entry_of all) start
+    pub left : now ≡ None → map item_view w.items.items ++ items_left names (map entry_of (drop i all)) (standing_of w) ≡ items_left names (map entry_of all) start
     pub found : noted now (items_faults names (map entry_of (drop i all)) (standing_of w)) ≡ noted begun (items_faults names (map entry_of all) start)
     pub few : w.passed ≤ i
 
   pub record ItemTaken (e : text.Entry) (old new : Option CheckFault) (v w : Walk) : Type 0 where
     pub standing : standing_of w ≡ behind names e (standing_of v)
-    pub left : map item_view w.items.items ≡ map item_view v.items.items ++ option_to_list (item_left names e (standing_of v))
+    pub left : new ≡ None → map item_view w.items.items ≡ map item_view v.items.items ++ option_to_list (item_left names e (standing_of v))
     pub found : new ≡ noted old (item_faults names e (standing_of v))
 
   few_more : (e : text.Entry) (s : Standing) → (behind names e s).passed ≤ s.passed + 1
@@ -153,12 +153,12 @@ module _ (names : Names) (all : List Item) (begun : Option CheckFault) (start : 
       let left : map entry_of (drop i all) ≡ entry_of x ∷ after = ap (map entry_of) (front_item all i x within is) in
       let s : Standing = behind names (entry_of x) (standing_of v) in
       record {
-        left =
+        left = λ (none : new ≡ None).
             ap (λ (t : Standing). map item_view w.items.items ++ items_left names after t) taken.standing
-            ∙ ap (λ (xs : List plain.Item). xs ++ items_left names after s) taken.left
+            ∙ ap (λ (xs : List plain.Item). xs ++ items_left names after s) (taken.left none)
             ∙ cons_after (map item_view v.items.items) (item_left names (entry_of x) (standing_of v)) (items_left names after s)
             ∙ ap (λ (es : List text.Entry). map item_view v.items.items ++ items_left names es (standing_of v)) (sym left)
-            ∙ known.left;
+            ∙ known.left (noted-none old (item_faults names (entry_of x) (standing_of v)) (sym taken.found ∙ none));
         found =
             ap (λ (t : Standing). noted new (items_faults names after t)) taken.standing
             ∙ ap (λ (o : Option CheckFault). noted o (items_faults names after s)) taken.found
@@ -172,11 +172,12 @@ module _ (names : Names) (all : List Item) (begun : Option CheckFault) (start : 
             omega arith;
       }
 
-  pub items-left : (i : ℕ) (found : Option CheckFault) (w : Walk) → length all ≤ i → ItemsSoFar i found w → map item_view w.items.items ≡ items_left names (map entry_of all) start
-  items-left i found w within known =
+  pub items-left : (i : ℕ) (found : Option CheckFault) (w : Walk) → length all ≤ i → ItemsSoFar i found w → found ≡ None
+      → map item_view w.items.items ≡ items_left names (map entry_of all) start
+  items-left i found w within known none =
       sym (append-nil (map item_view w.items.items))
       ∙ ap (λ (xs : List Item). map item_view w.items.items ++ items_left names (map entry_of xs) (standing_of w)) (sym (nothing_left all i within))
-      ∙ known.left
+      ∙ known.left none
 
   pub items-found : (i : ℕ) (found : Option CheckFault) (w : Walk) → length all ≤ i → ItemsSoFar i found w → found ≡ noted begun (items_faults names (map entry_of all) start)
   items-found i found w within known =

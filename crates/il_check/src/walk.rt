@@ -363,6 +363,16 @@ impl Walk {
         Ok(())
     }
 
+    /// Keeps what is left, unless a fault is found: nothing is left of a program with one.
+    fn keep(&mut self, found: Option<CheckFault>)
+        ensures items { found ≡ None → self.new.items ≡ self.old.items }
+        ensures standing { standing_of self.new ≡ standing_of self.old }
+    {
+        if found.is_some() {
+            self.items.clear();
+        }
+    }
+
     /// What is left of an instruction.
     fn add_instruction(&mut self, resolved: Resolved) -> Result<(), AllocError>
         ensures items { OnOk result (map item_view self.new.items.items
@@ -490,14 +500,15 @@ impl Judge {
         }
     }
 
-    /// All items of a program.
+    /// All items of a program, of which nothing is left where a fault is found.
     pub(crate) fn items(
         &mut self,
         names: &Names,
         items: &[Item<'_>],
         arrivals: Vec<Reach>,
     ) -> Result<Vec<TypedItem>, AllocError>
-        ensures left { IfOk result (λ left. map item_view left.items ≡ spec.items_left (names_of names.now) (map entry_of items.now) (spec.first arrivals.items)) }
+        ensures left { IfOk result (λ left. self.new.found ≡ None
+            → map item_view left.items ≡ spec.items_left (names_of names.now) (map entry_of items.now) (spec.first arrivals.items)) }
         ensures found { OnOk result (self.new.found
             ≡ noted self.old.found (spec.items_faults (names_of names.now) (map entry_of items.now) (spec.first arrivals.items))) }
         ensures memory { IfErr result (λ e. 0 < length items.now) }
@@ -513,6 +524,7 @@ impl Judge {
         };
         for item in items {
             self.item(names, item, &mut walk)?;
+            walk.keep(self.found);
         }
         let Walk { items, .. } = walk;
         Ok(items)

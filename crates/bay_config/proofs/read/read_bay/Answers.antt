@@ -1,0 +1,19 @@
+use Rattle.std.proofs.Common.{◌≡◌, Option, None, Some, Ok, rules}
+use Rattle.std.specs.Option.{ok_or}
+use Rattle.toml.specs.Data.{Members}
+use Rattle.toml.specs.View.{table_view}
+use Rattle.bay_config.specs.Bay.{document_of}
+use Rattle.bay_config.specs.declared.fault.BayFault.TheVariants.{BadToml}
+use Rattle.bay_config.proofs.read.read_bay.Goals as goal
+
+document-is : (o : Option Members) (m : Members) → ok_or o BadToml ≡ Ok m → o ≡ Some m
+document-is None m is = absurd cc
+document-is (Some n) m is = cc
+
+pub returns-in_err-bay-clause-read : goal.returns-in_err-bay-clause-read
+returns-in_err-bay-clause-read c =
+    rw (document-is (document_of c.args.text.now) (table_view c.in_ok-file.file) c.in_ok-file.ensures) (search rules)
+
+pub returns-clause-read : goal.returns-clause-read
+returns-clause-read c =
+    rw (document-is (document_of c.args.text.now) (table_view c.in_ok-file.file) c.in_ok-file.ensures) (search rules)
