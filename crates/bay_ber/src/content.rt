@@ -1,7 +1,8 @@
 // The contents of the simple types (X.690 8.2, 8.3 and 8.6), which other layers also spell under tags of their own.
 ghost use Rattle.std.specs.Prelude.{◌≡◌, ◌+◌, ◌*◌, ◌^◌, ◌<◌, ◌≤◌, ℕ, ℤ, Bool, List, pos, Ok, Err, length, IfOk, IfErr, IsOkAnd, option_map};
 ghost use Rattle.std.specs.Result.{result_ok};
-ghost use Rattle.bay_ber.specs.Content.{signed_of, IsInteger, HasBits, IsBits, IsTruth, BitString, bits_of, integer_in, bits_in, truth_in};
+ghost use Rattle.bay_ber.specs.Content.{IsInteger, HasBits, IsBits, IsTruth, BitString, integer_in, bits_in, truth_in};
+ghost use Rattle.bay_ber.specs.Content as spec;
 
 use crate::fault::BerFault;
 use crate::tlv::number_of;
@@ -28,7 +29,7 @@ fn span(count: usize) -> u128
 fn signed_of(octets: &[u8]) -> i128
     requires some { 0 < length octets.now }
     requires few { length octets.now ≤ 9 }
-    ensures { result ≡ signed_of octets.now }
+    ensures { result ≡ spec.signed_of octets.now }
 {
     let number = number_of(octets) as i128;
     if octets[0] < 0x80 {
@@ -80,9 +81,9 @@ fn bits_behind(unused: u8, octets: &[u8]) -> Result<Bits<'_>, BerFault>
 /// behind, or 2^61 octets or more.
 pub fn bits_of(content: &[u8]) -> Result<Bits<'_>, BerFault>
     ensures ok { IfOk result (λ bits. IsBits content.now bits.octets.now bits.count) }
-    ensures only { (b : BitString) → IsBits content.now b.octets b.count → IsOkAnd result (λ bits. bits_of bits ≡ b) }
+    ensures only { (b : BitString) → IsBits content.now b.octets b.count → IsOkAnd result (λ bits. spec.bits_of bits ≡ b) }
     ensures err { IfErr result (λ fault. (fault ≡ BerFault.BadContent) × ((octets : List ℕ) (count : ℕ) → IsBits content.now octets count → ⊥)) }
-    ensures exact { option_map bits_of (result_ok result) ≡ bits_in content.now }
+    ensures exact { option_map spec.bits_of (result_ok result) ≡ bits_in content.now }
 {
     match content {
         [unused, octets @ ..] => bits_behind(*unused, octets),

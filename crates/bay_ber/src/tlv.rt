@@ -1,7 +1,8 @@
 // One tag, length and content at the front of a list of octets.
 ghost use Rattle.std.specs.Prelude.{◌≡◌, ◌+◌, ◌*◌, ◌^◌, ◌<◌, ◌≤◌, ◌==◌, ◌↔◌, Ok, Err, length, IfOk, IsOkAnd};
-ghost use Rattle.bay_ber.specs.Octets.{number_of};
-ghost use Rattle.bay_ber.specs.Reading.{Gives, Reading, Begins, HasLargeTag, IsIndefinite, HasLongLength, IsTruncated, class_of, is_constructed, low_bits, tag_at, length_at, tlv_at, reading_of};
+ghost use Rattle.bay_ber.specs.Octets as spec_octets;
+ghost use Rattle.bay_ber.specs.Reading.{Gives, Reading, Begins, HasLargeTag, IsIndefinite, HasLongLength, IsTruncated, reading_of};
+ghost use Rattle.bay_ber.specs.Reading as spec;
 
 use crate::fault::BerFault;
 use crate::tag::{Class, Tag};
@@ -18,7 +19,7 @@ pub struct Tlv<'a> {
 }
 
 fn class_of(first: u8) -> Class
-    ensures { result ≡ class_of first }
+    ensures { result ≡ spec.class_of first }
 {
     match first {
         0x00..=0x3F => Class::Universal,
@@ -29,20 +30,20 @@ fn class_of(first: u8) -> Class
 }
 
 fn is_constructed(first: u8) -> bool
-    ensures { result ≡ is_constructed first }
+    ensures { result ≡ spec.is_constructed first }
 {
     (first >> 5) & 1 == 1
 }
 
 fn low_bits(first: u8) -> u8
-    ensures { result ≡ low_bits first }
+    ensures { result ≡ spec.low_bits first }
 {
     first & 0x1F
 }
 
 #[tactic(auto, unfolding(crate::specs::Reading::tag_at))]
 fn tag_at(octets: &[u8]) -> Result<(Tag, &[u8]), BerFault>
-    ensures { Gives (λ x. (x.0, x.1.now)) result (tag_at octets.now) }
+    ensures { Gives (λ x. (x.0, x.1.now)) result (spec.tag_at octets.now) }
 {
     let (first, rest) = match octets {
         [] => return Err(BerFault::Truncated),
@@ -78,7 +79,7 @@ fn tag_at(octets: &[u8]) -> Result<(Tag, &[u8]), BerFault>
 /// The number whose octets these are, the highest first.
 pub(crate) fn number_of(octets: &[u8]) -> u128
     requires { length octets.now ≤ 9 }
-    ensures value { result ≡ number_of octets.now }
+    ensures value { result ≡ spec_octets.number_of octets.now }
     ensures below { result < 256 ^ length octets.now }
 {
     let mut number = 0;
@@ -90,7 +91,7 @@ pub(crate) fn number_of(octets: &[u8]) -> u128
 
 #[tactic(auto, unfolding(crate::specs::Reading::length_at))]
 fn length_at(octets: &[u8]) -> Result<(usize, &[u8]), BerFault>
-    ensures { Gives (λ x. (x.0, x.1.now)) result (length_at octets.now) }
+    ensures { Gives (λ x. (x.0, x.1.now)) result (spec.length_at octets.now) }
 {
     let (first, rest) = match octets {
         [] => return Err(BerFault::Truncated),
@@ -115,7 +116,7 @@ fn length_at(octets: &[u8]) -> Result<(usize, &[u8]), BerFault>
 
 #[tactic(auto, unfolding(crate::specs::Reading::tlv_at))]
 fn tlv_at(octets: &[u8]) -> Result<Tlv<'_>, BerFault>
-    ensures { Gives reading_of result (tlv_at octets.now) }
+    ensures { Gives reading_of result (spec.tlv_at octets.now) }
 {
     let (tag, rest) = tag_at(octets)?;
     let (length, rest) = length_at(rest)?;
@@ -141,7 +142,7 @@ pub fn read_tlv(octets: &[u8]) -> Result<Tlv<'_>, BerFault>
     ensures long_length { (result ≡ Err BerFault.LengthTooLong) ↔ HasLongLength octets.now }
     ensures truncated { (result ≡ Err BerFault.Truncated) ↔ IsTruncated octets.now }
     // The same answer, read from the left.
-    ensures exact { Gives reading_of result (tlv_at octets.now) }
+    ensures exact { Gives reading_of result (spec.tlv_at octets.now) }
 {
     tlv_at(octets)
 }

@@ -1,7 +1,8 @@
 // Values one after another, and octets that are one value.
 ghost use Rattle.std.specs.Prelude.{◌≡◌, ◌+◌, ◌≤◌, [], ◌∷◌, ◌++◌, length, map, List, ℕ, IfSome, IfOk, IsSomeAnd, OnSome, IfNone, option_map};
 ghost use Rattle.bay_ber.specs.Spelling.{Spells};
-ghost use Rattle.bay_ber.specs.Values.{Part, part_of, Next, NextIn, under, value_in, few_in};
+ghost use Rattle.bay_ber.specs.Values.{Part, part_of, Next, NextIn, value_in, few_in};
+ghost use Rattle.bay_ber.specs.Values as spec;
 ghost use Rattle.bay_ber.specs.declared.tag.Tag.{Tag};
 
 use crate::fault::BerFault;
@@ -21,7 +22,7 @@ pub struct Value<'a> {
 impl<'a> Value<'a> {
     /// The content, where the value has this tag.
     pub fn under(&self, tag: Tag) -> Option<&'a [u8]>
-        ensures { option_map (λ content. content.now) result ≡ under tag (part_of self.now) }
+        ensures { option_map (λ content. content.now) result ≡ spec.under tag (part_of self.now) }
     {
         if self.tag.is(tag) {
             Some(self.content)

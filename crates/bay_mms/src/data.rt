@@ -2,7 +2,7 @@
 ghost use Rattle.std.specs.Prelude.{◌≡◌, [], ◌∷◌, ◌++◌, IfOk, OnOk};
 ghost use Rattle.bay_tree.specs.Rows.{IsHandle};
 ghost use Rattle.bay_mms.specs.Data.{leaf_datum};
-ghost use Rattle.bay_mms.specs.Types.{leaf_type};
+ghost use Rattle.bay_mms.specs.Types as spec;
 ghost use Rattle.bay_mms.specs.Nodes.{data_at, type_at};
 ghost use Rattle.bay_mms.specs.Views.{datum_of, data_in, type_of, components_in};
 
@@ -95,7 +95,7 @@ pub enum TypeSpec<'a> {
 }
 
 fn leaf_type(leaf: &Leaf) -> TypeSpec<'_>
-    ensures { type_of result ≡ leaf_type leaf.now }
+    ensures { type_of result ≡ spec.leaf_type leaf.now }
 {
     match leaf {
         Leaf::Truth(_) => TypeSpec::Plain(3),

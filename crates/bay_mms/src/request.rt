@@ -5,7 +5,8 @@ ghost use Rattle.bay_ber.specs.Reading.{tlv_at};
 ghost use Rattle.bay_ber.specs.Values.{part_of, value_in};
 ghost use Rattle.bay_mms.specs.Answers.{IsAnswer, has_list, lists_of, lists_as, lists_at};
 ghost use Rattle.bay_mms.specs.Requests as asked;
-ghost use Rattle.bay_mms.specs.Grammar.{or_bad, front_of, proposal_in, initiate_in, service_as, nothing, id_of, id_as, fault_of, with_id, confirmed_of, message_as, id_in, answer_to};
+ghost use Rattle.bay_mms.specs.Grammar.{or_bad, initiate_in, nothing};
+ghost use Rattle.bay_mms.specs.Grammar as spec;
 ghost use Rattle.bay_mms.specs.RequestViews.{asking, message};
 
 use crate::data::Data;
@@ -86,7 +87,7 @@ pub enum Request<'a> {
 }
 
 fn id_of(number: i64) -> Option<u32>
-    ensures { result ≡ id_of number }
+    ensures { result ≡ spec.id_of number }
 {
     u32::try_from(number).ok()
 }
@@ -94,7 +95,7 @@ fn id_of(number: i64) -> Option<u32>
 // The invoke id that a value is.
 #[tactic(auto, unfolding(crate::specs::Grammar::id_as))]
 fn id_as(value: &Value<'_>) -> Option<u32>
-    ensures { result ≡ id_as (part_of value.now) }
+    ensures { result ≡ spec.id_as (part_of value.now) }
 {
     let number = int_of(value.under(Tag::universal(2))?).ok()?;
     id_of(number)
@@ -102,7 +103,7 @@ fn id_as(value: &Value<'_>) -> Option<u32>
 
 // The value at the front of octets.
 fn front_of(octets: &[u8]) -> Option<Value<'_>>
-    ensures { option_map part_of result ≡ front_of (tlv_at octets.now) }
+    ensures { option_map part_of result ≡ spec.front_of (tlv_at octets.now) }
 {
     let tlv = read_tlv(octets).ok()?;
     Some(Value {
@@ -114,7 +115,7 @@ fn front_of(octets: &[u8]) -> Option<Value<'_>>
 // The invoke id, where one can be read.
 #[tactic(auto, unfolding(crate::specs::Grammar::id_in))]
 fn id_in(octets: &[u8]) -> Option<u32>
-    ensures { result ≡ id_in octets.now }
+    ensures { result ≡ spec.id_in octets.now }
 {
     let pdu = front_of(octets)?;
     let id = front_of(pdu.under(Tag::context_constructed(0))?)?;
@@ -122,7 +123,7 @@ fn id_in(octets: &[u8]) -> Option<u32>
 }
 
 fn fault_of(known: Option<u32>, id: u32, refusal: Refusal) -> MmsFault
-    ensures { result ≡ fault_of known id refusal }
+    ensures { result ≡ spec.fault_of known id refusal }
 {
     match refusal {
         Refusal::Bad => MmsFault::BadPdu(known),
@@ -139,7 +140,7 @@ fn with_id<'a>(
     id: u32,
     service: &Value<'a>,
 ) -> Result<Request<'a>, MmsFault>
-    ensures asked { Gives MmsFault.OutOfMemory message result (with_id known id (service_as (part_of service.now))) }
+    ensures asked { Gives MmsFault.OutOfMemory message result (spec.with_id known id (spec.service_as (part_of service.now))) }
     ensures memory { IsErrOf result MmsFault.OutOfMemory → IsTrue (has_list (part_of service.now)) }
 {
     match service_as(alloc, service) {
@@ -154,7 +155,7 @@ fn confirmed_of<'a>(
     known: Option<u32>,
     parts: &[Value<'a>],
 ) -> Result<Request<'a>, MmsFault>
-    ensures asked { Gives MmsFault.OutOfMemory message result (confirmed_of known (map part_of parts.now)) }
+    ensures asked { Gives MmsFault.OutOfMemory message result (spec.confirmed_of known (map part_of parts.now)) }
     ensures memory { IsErrOf result MmsFault.OutOfMemory → IsTrue (lists_of (map part_of parts.now)) }
 {
     match parts {
@@ -167,7 +168,7 @@ fn confirmed_of<'a>(
 }
 
 fn proposal_in(content: &[u8]) -> Option<Proposal>
-    ensures { result ≡ proposal_in content.now }
+    ensures { result ≡ spec.proposal_in content.now }
 {
     let parts = few_values(content)?;
     initiate_of(parts.as_slice())
@@ -199,7 +200,7 @@ fn message_as<'a>(
     known: Option<u32>,
     value: &Value<'a>,
 ) -> Result<Request<'a>, MmsFault>
-    ensures asked { Gives MmsFault.OutOfMemory message result (message_as known (part_of value.now)) }
+    ensures asked { Gives MmsFault.OutOfMemory message result (spec.message_as known (part_of value.now)) }
     ensures memory { IsErrOf result MmsFault.OutOfMemory → IsTrue (lists_as (part_of value.now)) }
 {
     if value.tag.is(Tag::context_constructed(0)) {
@@ -220,7 +221,7 @@ fn message_as<'a>(
 // The request that octets are, as it is read.
 #[tactic(auto, unfolding(crate::specs::Grammar::answer_to))]
 fn answer_to<'a>(alloc: Global, octets: &'a [u8]) -> Result<Request<'a>, MmsFault>
-    ensures asked { Gives MmsFault.OutOfMemory message result (answer_to octets.now) }
+    ensures asked { Gives MmsFault.OutOfMemory message result (spec.answer_to octets.now) }
     ensures memory { IsErrOf result MmsFault.OutOfMemory → IsTrue (lists_at (value_in octets.now)) }
 {
     let known = id_in(octets);

@@ -1,7 +1,7 @@
 // Octets of a stream, assembled to frames, and the data of frames to TSDUs.
 ghost use Rattle.std.specs.Prelude.{◌≡◌, ◌+◌, ◌-◌, ◌<◌, ◌≤◌, Ok, Err, [], ◌∷◌, length, take, drop, ◌++◌, IfOk, IfErr, OnOk, IfSome, is_some};
 ghost use Rattle.bay_transport.specs.Frame.{wanted};
-ghost use Rattle.bay_transport.specs.Connect.{connect};
+ghost use Rattle.bay_transport.specs.Connect as spec;
 ghost use Rattle.bay_transport.specs.Doings.{Fails, Refuses, event_of, data_event, connected, alone, run};
 ghost use Rattle.bay_transport.specs.Assembly.{link_of, rest_of, left_of, body_of, IsSound, HoldsFrame, HasNoRoom, run_for, FailsWhere, Takes, Reaches};
 
@@ -77,8 +77,8 @@ impl Assembly {
         requires { HoldsFrame self.old }
         ensures sound { OnOk result (IsSound self.new) }
         ensures number { self.new.number ≡ self.old.number }
-        ensures ok { IfOk result (λ kind. alone (connected (connect self.old.number (is_some self.old.size) indicator (body_of self.old))) (link_of self.old) ≡ run_for kind self.new) }
-        ensures err { IfErr result (λ fault. FailsWhere fault (connect self.old.number (is_some self.old.size) indicator (body_of self.old) ≡ Err fault)) }
+        ensures ok { IfOk result (λ kind. alone (connected (spec.connect self.old.number (is_some self.old.size) indicator (body_of self.old))) (link_of self.old) ≡ run_for kind self.new) }
+        ensures err { IfErr result (λ fault. FailsWhere fault (spec.connect self.old.number (is_some self.old.size) indicator (body_of self.old) ≡ Err fault)) }
     {
         let body = &self.buffer[self.group + 6..];
         let size = answer(
