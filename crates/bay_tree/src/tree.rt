@@ -5,7 +5,8 @@ ghost use Rattle.bay_tree.specs.Names.{IsNamed, parent_of, word_of};
 ghost use Rattle.bay_tree.specs.Rows.{IsTree, IsHandle, place_of, name_at, leaf_at, leaf_of, kind_at, names_of, kinds_of, with_leaf, with_leaf_of, first_below_from, first_below, next_beside, places_below, places_behind, places_since};
 ghost use Rattle.bay_tree.specs.Kinds.{kind_of};
 ghost use Rattle.bay_tree.specs.Order.{place_if};
-ghost use Rattle.bay_tree.specs.Page.{page_after, start_after, IsUnknown};
+ghost use Rattle.bay_tree.specs.Page.{page_after, IsUnknown};
+ghost use Rattle.bay_tree.specs.Page as spec;
 
 use crate::fault::{NamesFault, TreeFault};
 use crate::index::{Index, index_of};
@@ -271,7 +272,7 @@ impl Tree {
 
     /// Where the rows after a name begin; without a name at the first.
     fn start_after(&self, after: Option<&str>) -> Option<usize>
-        ensures start { result ≡ start_after self.now (option_copied after.entry) }
+        ensures start { result ≡ spec.start_after self.now (option_copied after.entry) }
         ensures within { IfSome result (λ start. start ≤ length self.now) }
     {
         match after {
