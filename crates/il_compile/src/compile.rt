@@ -7,9 +7,10 @@ ghost use Rattle.il_check.specs.Program.{Checked};
 ghost use Rattle.il_check.specs.ProgramViews.{checked_view, item_view};
 ghost use Rattle.il_check.specs.TypedProgram.{HasName, IsTyped};
 ghost use Rattle.il_compile.specs.Code as spec;
-ghost use Rattle.il_compile.specs.Compiled.{compiled_of, image_of, image_size, point_of, points_octets};
+ghost use Rattle.il_compile.specs.Compiled.{compiled_of, image_of, image_size, points_octets};
+ghost use Rattle.il_compile.specs.Compiled as spec_compiled;
 ghost use Rattle.il_compile.specs.Correct.{DoesTheText};
-ghost use Rattle.il_compile.specs.Senses.{timer_of};
+ghost use Rattle.il_compile.specs.Senses as spec_senses;
 ghost use Rattle.il_compile.specs.declared.fault.CompileFault.TheVariants.{OutOfMemory};
 
 use crate::behind::{Behind, behind_all};
@@ -29,7 +30,7 @@ use std::alloc::{AllocError, Global};
 const MAX_OCTETS: usize = 65_535;
 
 fn point_of(alloc: Global, external: &External) -> Result<ImagePoint, AllocError>
-    ensures { IfOk result (λ point. point ≡ point_of external.now) }
+    ensures { IfOk result (λ point. point ≡ spec_compiled.point_of external.now) }
 {
     Ok(ImagePoint {
         name: Text::from_str(alloc, external.name.as_str())?,
@@ -39,7 +40,7 @@ fn point_of(alloc: Global, external: &External) -> Result<ImagePoint, AllocError
 }
 
 fn points_of(alloc: Global, externals: &[External]) -> Result<Vec<ImagePoint>, AllocError>
-    ensures { IfOk result (λ points. points.items ≡ map point_of externals.now) }
+    ensures { IfOk result (λ points. points.items ≡ map spec_compiled.point_of externals.now) }
 {
     let mut points = Vec::new(alloc);
     for external in externals {
@@ -59,7 +60,7 @@ fn values_of(alloc: Global, variables: &[Variable]) -> Result<Vec<Value>, AllocE
 }
 
 fn timer_of(kind: text::TimerKind) -> TimerKind
-    ensures { result ≡ timer_of kind }
+    ensures { result ≡ spec_senses.timer_of kind }
 {
     match kind {
         text::TimerKind::OnDelay => TimerKind::OnDelay,
@@ -68,7 +69,7 @@ fn timer_of(kind: text::TimerKind) -> TimerKind
 }
 
 fn kinds_of(alloc: Global, timers: &[Timer]) -> Result<Vec<TimerKind>, AllocError>
-    ensures { IfOk result (λ kinds. kinds.items ≡ map (λ t. timer_of t.kind) timers.now) }
+    ensures { IfOk result (λ kinds. kinds.items ≡ map (λ t. spec_senses.timer_of t.kind) timers.now) }
 {
     let mut kinds = Vec::new(alloc);
     for timer in timers {

@@ -1,6 +1,7 @@
 // Images written as octets.
 ghost use Rattle.std.specs.Prelude.{◌≡◌, ◌++◌, ◌≤◌, IfOk, OnOk, length};
-ghost use Rattle.il_image.specs.Images.{Each, HasName, counted, encoded, point_octets, timer_octets, type_octet, variable_octets};
+ghost use Rattle.il_image.specs.Images.{Each, HasName, counted, encoded, point_octets, timer_octets, variable_octets};
+ghost use Rattle.il_image.specs.Images as spec;
 
 use crate::image::{Image, ImagePoint};
 use crate::opcode::Version;
@@ -12,7 +13,7 @@ use std::alloc::{AllocError, Global};
 
 // The octet of a type.
 fn type_octet(elementary: ElementaryType) -> u8
-    ensures { result ≡ type_octet elementary }
+    ensures { result ≡ spec.type_octet elementary }
 {
     match elementary {
         ElementaryType::Bool => 0x01,

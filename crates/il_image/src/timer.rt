@@ -1,6 +1,7 @@
 // Timers (IEC 61131-3:2003, table 38): one call as a function of the timer, its inputs and the moment.
 ghost use Rattle.std.specs.Prelude.{◌≡◌};
-ghost use Rattle.il_image.specs.Timers.{called, elapsed_of, first_state, output_of, phase_after};
+ghost use Rattle.il_image.specs.Timers.{called, first_state, phase_after};
+ghost use Rattle.il_image.specs.Timers as spec;
 
 /// A kind of timer.
 #[derive(Clone, Copy, Debug, PartialEq, Eq)]
@@ -66,7 +67,7 @@ fn off_delay_phase(input: bool, phase: Phase, now: u64) -> Phase
 
 // Q.
 fn output_of(kind: TimerKind, preset: u32, phase: Phase, now: u64) -> bool
-    ensures { result ≡ output_of kind preset phase now }
+    ensures { result ≡ spec.output_of kind preset phase now }
 {
     match (kind, phase) {
         (_, Phase::Idle) => false,
@@ -82,7 +83,7 @@ fn output_of(kind: TimerKind, preset: u32, phase: Phase, now: u64) -> bool
 
 // ET.
 fn elapsed_of(preset: u32, phase: Phase, now: u64) -> u32
-    ensures { result ≡ elapsed_of preset phase now }
+    ensures { result ≡ spec.elapsed_of preset phase now }
 {
     match phase {
         Phase::Since(start) => now.saturating_sub(start).min(u64::from(preset)) as u32,

@@ -2,7 +2,7 @@
 ghost use Rattle.std.specs.Prelude.{◌≡◌, ◌≢◌, ◌<◌, ◌↔◌, IfErr, IfOk, IsTrue, length, max};
 ghost use Rattle.il_image.specs.Images.{IsImage};
 ghost use Rattle.il_verify.specs.Frames.{IsPlan};
-ghost use Rattle.il_verify.specs.Passing.{raised};
+ghost use Rattle.il_verify.specs.Passing as spec;
 ghost use Rattle.il_verify.specs.Refusals.{FailsAt};
 ghost use Rattle.il_verify.specs.Verdicts.{IsMeasured};
 
@@ -54,7 +54,7 @@ fn is_halt(instr: Instr) -> bool
 
 // The budget after a place, which may be a HALT.
 fn raised(halts: bool, longest: u32, budget: u32) -> u32
-    ensures { result ≡ raised halts longest budget }
+    ensures { result ≡ spec.raised halts longest budget }
 {
     if halts { longest.max(budget) } else { budget }
 }
