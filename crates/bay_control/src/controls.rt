@@ -1,7 +1,9 @@
 // The controls of one bay.
 ghost use Rattle.std.specs.Prelude.{◌≡◌, ◌≤◌, [], if◌then◌else◌, None, length};
-ghost use Rattle.bay_control.specs.Decisions.{advanced, answer_of, cancel_outcome, contacted, controls_of, dropped, execution_at, initial, is_done, operate_outcome, restored, rows_of_operate, run_out, select_outcome, select_rows, select_with_outcome, selected_switch, selection_at, standing_of};
-ghost use Rattle.bay_control.specs.Requests.{control_of, is_enhanced};
+ghost use Rattle.bay_control.specs.Decisions.{advanced, answer_of, cancel_outcome, contacted, dropped, execution_at, initial, operate_outcome, restored, rows_of_operate, run_out, select_outcome, select_rows, select_with_outcome, selected_switch, selection_at, standing_of};
+ghost use Rattle.bay_control.specs.Decisions as spec;
+ghost use Rattle.bay_control.specs.Requests.{control_of};
+ghost use Rattle.bay_control.specs.Requests as spec_requests;
 
 use crate::cause::AddCause;
 use crate::control::{SwitchControl, is_over};
@@ -39,7 +41,7 @@ impl Model for Controls {
 /// What the bay file says of each switch's control.
 fn controls_of(switches: &[Switch]) -> ArrayVec<SwitchControl, 32>
     requires { length switches.now ≤ 32 }
-    ensures { result.items ≡ controls_of switches.now }
+    ensures { result.items ≡ spec.controls_of switches.now }
 {
     let mut controls = ArrayVec::new();
     for switch in switches {
@@ -56,7 +58,7 @@ impl Controls {
     /// The controls of a bay's switches, of which there are at most 32. Nothing is selected, and nothing is operating.
     pub fn new(bay: &Bay) -> Self
         requires { length bay.now.switches ≤ 32 }
-        ensures { result ≡ initial (controls_of bay.now.switches) }
+        ensures { result ≡ initial (spec.controls_of bay.now.switches) }
     {
         Controls {
             controls: controls_of(bay.switches.as_slice()),
@@ -298,7 +300,7 @@ impl Controls {
 
     /// Takes the position of a switch, and tells whether it ends the switch's execution.
     pub fn contact(&mut self, switch: usize, position: Dbpos) -> bool
-        ensures ended { result ≡ is_done switch position self.old.execution }
+        ensures ended { result ≡ spec.is_done switch position self.old.execution }
         ensures after { self.new ≡ contacted switch position self.old }
     {
         let is_ended = is_done(self.execution, switch, position);
@@ -317,7 +319,7 @@ impl Controls {
 
     /// Whether a switch is selected with enhanced security, so that its client is told of what becomes of its requests.
     pub fn is_enhanced(&self, switch: usize) -> bool
-        ensures { result ≡ is_enhanced (control_of self.now.controls switch).model }
+        ensures { result ≡ spec_requests.is_enhanced (control_of self.now.controls switch).model }
     {
         matches!(self.control(switch).model, Control::SboEnhanced)
     }

@@ -13,7 +13,8 @@ ghost use Rattle.bay_device.specs.Device.{bay_of};
 ghost use Rattle.bay_device.specs.Entries.{IsIdle, Leading, entries_all};
 ghost use Rattle.bay_device.specs.LookUps.{switch_place, input_place, meter_place, enabled_of};
 ghost use Rattle.bay_device.specs.Meaning.{AllMean, Halting, HaltsAt, MeansAt, Runs, is_refused};
-ghost use Rattle.bay_device.specs.Outcomes.{closed, closed_by, connection_at, event_outcome, outcome, place_of, recv_after};
+ghost use Rattle.bay_device.specs.Outcomes.{closed, connection_at, event_outcome, outcome, recv_after};
+ghost use Rattle.bay_device.specs.Outcomes as spec;
 ghost use Rattle.bay_device.specs.Report.{IsReport};
 ghost use Rattle.bay_device.specs.StateView.{state_view};
 ghost use Rattle.bay_device.specs.Steps.{Gives, Hears, IsWithoutOctets, Receives, Steps};
@@ -60,7 +61,7 @@ impl Model for Device {
 
 // What the device tells of a closing.
 fn closed_by(association: u16, why: Option<Why>) -> Option<(u16, Why)>
-    ensures { result ≡ closed_by association why }
+    ensures { result ≡ spec.closed_by association why }
 {
     match why {
         Some(why) => Some((association, why)),
@@ -126,7 +127,7 @@ impl Device {
 
     // Closes an association, which ends its selection.
     fn drop_connection(&mut self, association: u16, place: usize)
-        requires { place_of association ≡ Some place }
+        requires { spec.place_of association ≡ Some place }
         ensures { self.new ≡ closed association self.old }
     {
         self.connections.put(place, None);
@@ -151,7 +152,7 @@ impl Device {
 
     // Puts the connection of an association back, or closes the association.
     fn finish(&mut self, association: u16, place: usize, connection: Connection, why: Option<Why>)
-        requires here { place_of association ≡ Some place }
+        requires here { spec.place_of association ≡ Some place }
         requires going { why ≡ None → IsGoing connection.talk.stream.left }
         ensures { self.new ≡ recv_after association connection.talk self.old why }
     {
@@ -170,7 +171,7 @@ impl Device {
         octets: &[u8],
         ended: Option<Sent>,
     ) -> Step
-        requires here { place_of association ≡ Some place }
+        requires here { spec.place_of association ≡ Some place }
         requires open { IsSome (connection_at (Some place) self.old) }
         requires some { 0 < length octets.now }
         ensures { Hears now association octets.now ended self.old result self.new }
@@ -369,7 +370,7 @@ impl Device {
 
     /// Whether the association with this number is open.
     pub fn is_open(&self, association: u16) -> bool
-        ensures { result ≡ is_some (connection_at (place_of association) self.now) }
+        ensures { result ≡ is_some (connection_at (spec.place_of association) self.now) }
     {
         match place_of(association) {
             Some(place) => self.connections.is_open(place),

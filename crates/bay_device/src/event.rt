@@ -1,6 +1,6 @@
 // What happens to a device, and what is answered.
 ghost use Rattle.std.specs.Prelude.{◌≡◌, ◌<◌, IfSome};
-ghost use Rattle.bay_device.specs.Outcomes.{place_of};
+ghost use Rattle.bay_device.specs.Outcomes as spec;
 
 use bay_base::listing::Listing;
 use bay_config::bay::MeterField;
@@ -49,7 +49,7 @@ pub enum Event<'a> {
 
 /// Where an association stands among the eight: none has another number than 1 to 8.
 pub fn place_of(association: u16) -> Option<usize>
-    ensures value { result ≡ place_of association }
+    ensures value { result ≡ spec.place_of association }
     ensures within { IfSome result (λ place. place < 8) }
 {
     if 0 < association && association < 9 {

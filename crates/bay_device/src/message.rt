@@ -6,7 +6,8 @@ ghost use Rattle.bay_control.specs.declared.selection.Standing.{Standing};
 ghost use Rattle.bay_services.specs.Answers.{answered};
 ghost use Rattle.bay_services.specs.Controls.{AreShort, IsShort};
 ghost use Rattle.bay_device.specs.Device.{bay_of};
-ghost use Rattle.bay_device.specs.Hearing.{answered_with, due_if, due_of, later_due, said, sending_if, sent_on};
+ghost use Rattle.bay_device.specs.Hearing.{answered_with, later_due, said, sending_if, sent_on};
+ghost use Rattle.bay_device.specs.Hearing as spec;
 ghost use Rattle.bay_device.specs.HearingViews.{done_of, put_back};
 ghost use Rattle.bay_device.specs.StateView.{state_view};
 
@@ -71,7 +72,7 @@ fn framed_report(
 fn due_of(connection: &Connection, association: u16, ending: &Ending) -> Result<Due, AllocError>
     requires open { IsSome (link_of connection.now.talk.phase) }
     requires short { AreShort ending.now }
-    ensures { IfOk result (λ due. due ≡ due_of association (terms_of connection.now.talk) ending.now) }
+    ensures { IfOk result (λ due. due ≡ spec.due_of association (terms_of connection.now.talk) ending.now) }
 {
     let positive = framed_report(connection, &ending.positive)?;
     let negative = framed_report(connection, &ending.negative)?;
@@ -90,7 +91,7 @@ fn due_if(
 ) -> Result<Option<Due>, AllocError>
     requires open { IsSome (link_of connection.now.talk.phase) }
     requires short { IsShort ending.now }
-    ensures { IfOk result (λ due. due ≡ due_if association (terms_of connection.now.talk) ending.now) }
+    ensures { IfOk result (λ due. due ≡ spec.due_if association (terms_of connection.now.talk) ending.now) }
 {
     match ending {
         Some(ending) => {
@@ -143,7 +144,7 @@ fn reply(
     requires open { IsSome (link_of connection.now.talk.phase) }
     requires short { All (λ pdu. length pdu ≤ 65_000) answer.now.sent.items }
     requires ending { IsShort answer.now.ending }
-    ensures due { IfOk result (λ due. due ≡ due_if association (terms_of connection.now.talk) answer.now.ending) }
+    ensures due { IfOk result (λ due. due ≡ spec.due_if association (terms_of connection.now.talk) answer.now.ending) }
     ensures sent { OnOk result (output.new.sent.items ≡ output.old.sent.items ++ map (λ pdu. sent_on association (sending (terms_of connection.now.talk) pdu)) answer.now.sent.items) }
     ensures commands { OnOk result (output.new.commands.items ≡ output.old.commands.items ++ answer.now.commands.items) }
     ensures sent_before { take (length output.old.sent.items) output.new.sent.items ≡ output.old.sent.items }

@@ -6,9 +6,11 @@ ghost use Rattle.bay_nodes.specs.declared.switch.Switch.{Switch};
 ghost use Rattle.bay_process.specs.Layout.{AreKinded, AreMeterKinded, layout_of, switches_of};
 ghost use Rattle.bay_process.specs.Scans.{bound_value};
 ghost use Rattle.bay_process.specs.Sources.{type_of_source};
-ghost use Rattle.bay_device.specs.Device.{advanced, contact_taken, ended_at, is_fresh, ran_at, reached_at, scanned};
+ghost use Rattle.bay_device.specs.Device.{advanced, contact_taken, ended_at, ran_at, reached_at, scanned};
+ghost use Rattle.bay_device.specs.Device as spec;
 ghost use Rattle.bay_device.specs.Meaning.{Halts};
-ghost use Rattle.bay_device.specs.Outcomes.{event_outcome, or_else, without_owner};
+ghost use Rattle.bay_device.specs.Outcomes.{event_outcome, without_owner};
+ghost use Rattle.bay_device.specs.Outcomes as spec_outcomes;
 ghost use Rattle.bay_device.specs.StateView.{state_view};
 ghost use Rattle.bay_device.specs.Steps.{IsQuiet};
 ghost use Rattle.bay_device.specs.declared.event.Event.TheVariants.{Contact, Input, Measure};
@@ -28,7 +30,7 @@ use il_scan::machine::Machine;
 
 /// The first of two.
 fn or_else(first: Option<Sent>, later: Option<Sent>) -> Option<Sent>
-    ensures { result ≡ or_else first later }
+    ensures { result ≡ spec_outcomes.or_else first later }
 {
     match first {
         Some(sent) => Some(sent),
@@ -63,7 +65,7 @@ fn run_program(
 impl DeviceState {
     /// Whether the last scan is fresh at a moment: nothing that it read has changed since, and it is not too old.
     pub fn is_fresh(&self, now: u64) -> bool
-        ensures { (connections : List (Option Talk)) → result ≡ is_fresh now (state_view connections self.now) }
+        ensures { (connections : List (Option Talk)) → result ≡ spec.is_fresh now (state_view connections self.now) }
     {
         let is_recent = match self.last_scan {
             Some(scan) => now.saturating_sub(scan) <= u64::from(self.scan_max_age_ms),

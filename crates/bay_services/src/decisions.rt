@@ -4,7 +4,8 @@ ghost use Rattle.bay_control.specs.Decisions.{advanced, cancel_outcome, dropped,
 ghost use Rattle.bay_control.specs.declared.selection.Standing.{Standing};
 ghost use Rattle.bay_process.specs.Controls.{AreAllControlRows};
 ghost use Rattle.bay_process.specs.Layout.{layout_of};
-ghost use Rattle.bay_services.specs.Bay.{is_selected, shown, standing_again, with_controls};
+ghost use Rattle.bay_services.specs.Bay.{shown, standing_again, with_controls};
+ghost use Rattle.bay_services.specs.Bay as spec;
 ghost use Rattle.bay_services.specs.Controls.{view_of};
 ghost use Rattle.bay_services.specs.Views.{bay_view};
 
@@ -22,7 +23,7 @@ use bay_tree::tree::Tree;
 
 // Whether a switch is the one that is selected.
 fn is_selected(selected: Option<usize>, switch: usize) -> bool
-    ensures { result ≡ is_selected switch selected }
+    ensures { result ≡ spec.is_selected switch selected }
 {
     selected.is_some_and(|s| s == switch)
 }

@@ -4,9 +4,11 @@ ghost use Rattle.bay_mms.specs.ControlViews.{cancelling, operating};
 ghost use Rattle.bay_mms.specs.Controls.{cancel_in, operate_in};
 ghost use Rattle.bay_tree.specs.Rows.{IsHandle, name_at};
 ghost use Rattle.bay_process.specs.Layout.{layout_of};
-ghost use Rattle.bay_services.specs.Controls.{ask_of, ending_of, endings, has_reports, object_of, refusal_reports};
+ghost use Rattle.bay_services.specs.Controls.{ending_of, endings, object_of, refusal_reports};
+ghost use Rattle.bay_services.specs.Controls as spec_controls;
 ghost use Rattle.bay_services.specs.Places.{IsFound};
-ghost use Rattle.bay_services.specs.Writes.{cancel_asked, commands_for, decision_result, later_ending, operate_asked, select_with_asked, write_all, write_one, write_row};
+ghost use Rattle.bay_services.specs.Writes.{cancel_asked, commands_for, decision_result, later_ending, operate_asked, select_with_asked};
+ghost use Rattle.bay_services.specs.Writes as spec;
 ghost use Rattle.bay_control.specs.declared.selection.Standing.{Standing};
 ghost use Rattle.bay_mms.specs.RequestViews.{naming};
 ghost use Rattle.bay_mms.specs.Responses.{failure_result, success_result};
@@ -82,7 +84,7 @@ fn fail(response: &mut WriteResponse, cause: u8) -> Result<(), AllocError>
 // What is asked of the controls.
 fn ask_of(operate: &Operate<'_>) -> Ask
     requires { length operate.now.origin.or_ident.now ≤ 64 }
-    ensures { result ≡ ask_of (operating operate.now) }
+    ensures { result ≡ spec_controls.ask_of (operating operate.now) }
 {
     let mut ident = ArrayVec::new();
     let _ = ident.try_extend_from_slice(operate.origin.or_ident);
@@ -122,7 +124,7 @@ impl ServedBay {
 
     // Whether clients are told of the end of what they ask of a switch.
     fn has_reports(&self, switch: usize) -> bool
-        ensures { result ≡ has_reports (bay_view self.now) switch }
+        ensures { result ≡ spec_controls.has_reports (bay_view self.now) switch }
     {
         self.controls.is_enhanced(switch)
     }
@@ -335,7 +337,7 @@ impl ServedBay {
         written: &mut Written,
     ) -> Result<(), AllocError>
         requires { IsFound self.old.tree row }
-        ensures ok { OnOk result (writing self.new written.new ≡ write_row client (datum_of given.now) (writing self.old written.old) (Some row)) }
+        ensures ok { OnOk result (writing self.new written.new ≡ spec.write_row client (datum_of given.now) (writing self.old written.old) (Some row)) }
         ensures back { (standing : Standing) → standing_again standing (bay_view self.new) ≡ standing_again standing (bay_view self.old) }
         ensures switches { self.new.switches ≡ self.old.switches }
         ensures layout { layout_of self.new.tree ≡ layout_of self.old.tree }
@@ -365,7 +367,7 @@ impl ServedBay {
         given: &Data<'_>,
         written: &mut Written,
     ) -> Result<(), AllocError>
-        ensures ok { OnOk result (writing self.new written.new ≡ write_one client (naming name.now) (datum_of given.now) (writing self.old written.old)) }
+        ensures ok { OnOk result (writing self.new written.new ≡ spec.write_one client (naming name.now) (datum_of given.now) (writing self.old written.old)) }
         ensures back { (standing : Standing) → standing_again standing (bay_view self.new) ≡ standing_again standing (bay_view self.old) }
         ensures switches { self.new.switches ≡ self.old.switches }
         ensures layout { layout_of self.new.tree ≡ layout_of self.old.tree }
@@ -385,7 +387,7 @@ impl ServedBay {
         values: &[Data<'_>],
         written: &mut Written,
     ) -> Result<(), AllocError>
-        ensures ok { OnOk result (writing self.new written.new ≡ write_all client (map naming names.now) (data_in values.now) (writing self.old written.old)) }
+        ensures ok { OnOk result (writing self.new written.new ≡ spec.write_all client (map naming names.now) (data_in values.now) (writing self.old written.old)) }
         ensures back { (standing : Standing) → standing_again standing (bay_view self.new) ≡ standing_again standing (bay_view self.old) }
         ensures switches { self.new.switches ≡ self.old.switches }
         ensures layout { layout_of self.new.tree ≡ layout_of self.old.tree }
