@@ -1,7 +1,8 @@
 // What a turn has to remember.
 ghost use Rattle.std.specs.Prelude.{◌≡◌, ◌+◌, ◌<◌, ◌++◌, ◌∷◌, [], Some, true, length, IfOk, IfSome};
 ghost use Rattle.bay_serve.specs.Standings.{filled, is_leaving};
-ghost use Rattle.bay_serve.specs.Turns.{first_full, goes, leaves, left_noted, nothing_noted, standing_in, stands};
+ghost use Rattle.bay_serve.specs.Turns.{goes, leaves, left_noted, nothing_noted, standing_in, stands};
+ghost use Rattle.bay_serve.specs.Turns as spec;
 ghost use Rattle.bay_serve.specs.declared.standing.Standing.TheVariants.{Gone};
 
 use crate::server::ASSOCIATIONS;
@@ -62,7 +63,7 @@ impl Notes {
 
     /// The place of the lowest association to which a reply did not fit.
     pub fn first_full(&self) -> Option<usize>
-        ensures lowest { result ≡ first_full self.now }
+        ensures lowest { result ≡ spec.first_full self.now }
         ensures within { IfSome result (λ place. place < 8) }
     {
         self.standings

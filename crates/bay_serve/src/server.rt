@@ -4,7 +4,8 @@ ghost use Rattle.bay_services.specs.Released.{AreTimed};
 ghost use Rattle.bay_device.specs.Commands.{IsSingle};
 ghost use Rattle.bay_device.specs.Outcomes.{outcome};
 ghost use Rattle.bay_device.specs.Steps.{Gives, IsWithoutOctets, Steps};
-ghost use Rattle.bay_serve.specs.Turns.{free_place, has_room, is_up_in, put_queue, queue_at};
+ghost use Rattle.bay_serve.specs.Turns.{has_room, is_up_in, put_queue, queue_at};
+ghost use Rattle.bay_serve.specs.Turns as spec;
 
 use crate::queue::Queue;
 use bay_device::device::Device;
@@ -81,7 +82,7 @@ impl Server {
 
     /// The place of the lowest association that is free.
     pub(crate) fn free_place(&self) -> Option<usize>
-        ensures lowest { result ≡ free_place self.now }
+        ensures lowest { result ≡ spec.free_place self.now }
         ensures within { IfSome result (λ place. place < 8) }
     {
         let association = self.device.free_association()?;

@@ -2,7 +2,8 @@
 ghost use Rattle.std.specs.Prelude.{◌≡◌, ◌∷◌, ◌≤◌, ◌^◌, ◌<◌, ℕ, length, option_map, IfSome, Some, codes, neg_ℤ, pos};
 ghost use Rattle.std.specs.List.{slice_split};
 ghost use Rattle.std.specs.Str.{IsUtf8};
-ghost use Rattle.bay_trace.specs.Trace.{association_of, is_space, received_of, rest_words, talk_in, with_digit, read_number, first_number, positive_of, negative_of, read_integer, position_of, truth_of, field_of, name_of, measure_of, event_of, words_line, trace_line_of, process_of};
+ghost use Rattle.bay_trace.specs.Trace.{association_of, is_space, received_of, rest_words, talk_in, read_number, first_number, positive_of, negative_of, read_integer, position_of, truth_of, field_of, name_of, measure_of, event_of, words_line, trace_line_of, process_of};
+ghost use Rattle.bay_trace.specs.Trace as spec;
 ghost use Rattle.bay_trace.specs.TraceView.{named_view, line_view};
 
 use crate::octets::Digits;
@@ -69,7 +70,7 @@ fn cut_word(text: &[u8]) -> (&[u8], Option<&[u8]>)
 
 /// A number with one more decimal digit behind its own, if the octet is a digit and it stays below 2^64.
 fn with_digit(number: u64, octet: u8) -> Option<u64>
-    ensures { result ≡ with_digit number octet }
+    ensures { result ≡ spec.with_digit number octet }
 {
     if !octet.is_ascii_digit() {
         return None;
