@@ -12,6 +12,7 @@ use bay_ber::values::{Value, few_values};
 // The application context of MMS, 1.0.9506.2.3.
 const MMS_APPLICATION: &[u8] = &[0x28, 0xCA, 0x22, 0x02, 0x03];
 
+// The application context that is named, where it is that of MMS.
 fn application_of(name: &[u8]) -> Option<&[u8]>
     ensures { option_map (λ o. o.now) result ≡ spec.application_of name.now }
 {
@@ -41,6 +42,8 @@ fn information_as<'a>(value: &Value<'a>) -> Option<Carried<'a>>
     carried_of(parts.as_slice())
 }
 
+// The user information of a request for an association, whose parts are its application context and
+// that.
 fn associate_of<'a>(parts: &[Value<'a>]) -> Option<Carried<'a>>
     ensures { option_map carried_view result ≡ spec.associate_of (map part_of parts.now) }
 {

@@ -63,6 +63,7 @@ pub enum Heard<'a> {
     Aborted,
 }
 
+// Whether a number that was read is the identifier of this presentation context.
 fn is_id(id: i64, context: u16) -> bool
     ensures { result ≡ spec.is_id id context }
 {

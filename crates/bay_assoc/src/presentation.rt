@@ -30,7 +30,8 @@ const CONTEXTS_MAX: usize = 16;
 
 const SELECTOR_MAX: usize = 16;
 
-/// A presentation context that is offered: its identifier, and whether it offers ACSE or MMS with the Basic Encoding Rules.
+/// A presentation context that is offered: its identifier, and whether it offers ACSE or MMS with
+/// the Basic Encoding Rules.
 #[derive(Clone, Copy)]
 pub struct Context {
     pub id: u16,
@@ -70,12 +71,14 @@ fn is_ber(value: &Value<'_>) -> Option<bool>
     Some(name == BER)
 }
 
+// `first && second` by a call, so that the proof of a caller has no case for each.
 fn both(first: bool, second: bool) -> bool
     ensures { result ≡ (first && second) }
 {
     first && second
 }
 
+// `first || second` likewise.
 fn either(first: bool, second: bool) -> bool
     ensures { result ≡ (first || second) }
 {
@@ -102,6 +105,7 @@ fn offers_ber(octets: &[u8]) -> Option<bool>
     }
 }
 
+// The identifier of a presentation context: 1 to 32,767.
 fn context_id(number: i64) -> Option<u16>
     ensures { result ≡ spec.context_id number }
 {
@@ -112,6 +116,7 @@ fn context_id(number: i64) -> Option<u16>
     }
 }
 
+// The context of an identifier, an abstract syntax and a list of transfer syntaxes.
 #[tactic(auto, unfolding(crate::specs::Presentation::context_with))]
 fn context_with(id: &Value<'_>, syntax: &Value<'_>, transfers: &Value<'_>) -> Option<Context>
     ensures { result ≡ spec.context_with (part_of id.now) (part_of syntax.now) (part_of transfers.now) }
@@ -127,6 +132,7 @@ fn context_with(id: &Value<'_>, syntax: &Value<'_>, transfers: &Value<'_>) -> Op
     })
 }
 
+// The context whose three parts these are.
 fn context_of(parts: &[Value<'_>]) -> Option<Context>
     ensures { result ≡ spec.context_of (map part_of parts.now) }
 {
@@ -165,6 +171,7 @@ fn read_contexts(alloc: Global, octets: &[u8]) -> Result<Vec<Context>, AssocFaul
     }
 }
 
+// Keeps one context more.
 fn push_context(contexts: &mut Vec<Context>, one: Context) -> Result<(), AllocError>
     ensures { OnOk result (contexts.new.items ≡ contexts.old.items ++ one ∷ []) }
 {
@@ -205,6 +212,7 @@ fn contexts_in(alloc: Global, octets: &[u8]) -> Result<Vec<Context>, AssocFault>
     Ok(contexts)
 }
 
+// The identifier of a context, and the value that is carried in it as a single ASN.1 type.
 #[tactic(auto, unfolding(crate::specs::Presentation::carried_as))]
 fn carried_as<'a>(id: &Value<'_>, value: &Value<'a>) -> Option<Carried<'a>>
     ensures { option_map carried_view result ≡ spec.carried_as (part_of id.now) (part_of value.now) }
@@ -234,6 +242,7 @@ fn carried_in(octets: &[u8]) -> Option<Carried<'_>>
     carried_of(parts.as_slice())
 }
 
+// The one value of user data under their tag.
 #[tactic(auto, unfolding(crate::specs::Presentation::carried_under))]
 fn carried_under<'a>(value: &Value<'a>) -> Option<Carried<'a>>
     ensures { option_map carried_view result ≡ spec.carried_under (part_of value.now) }
@@ -250,6 +259,7 @@ pub(crate) fn user_in(octets: &[u8]) -> Option<Carried<'_>>
     carried_under(&value)
 }
 
+// A selector of at most 16 octets.
 fn selector_of(octets: &[u8]) -> Option<&[u8]>
     ensures exact { option_map (λ o. o.now) result ≡ spec.selector_of octets.now }
     ensures short { IfSome result (λ o. length o.now ≤ 16) }
@@ -272,6 +282,7 @@ fn selector_as<'a>(value: Option<&Value<'a>>) -> Option<Option<&'a [u8]>>
     }
 }
 
+// What a request for a connection has: the selector of the one called, the contexts, and user data.
 #[tactic(auto, unfolding(crate::specs::Presentation::connect_with))]
 fn connect_with<'a>(
     alloc: Global,
@@ -294,6 +305,7 @@ fn connect_with<'a>(
     })
 }
 
+// The same by its parts; the selectors of the one who calls and of the one called may be missing.
 fn connect_of<'a>(alloc: Global, parts: &[Value<'a>]) -> Result<Connect<'a>, AssocFault>
     ensures { Gives AssocFault.OutOfMemory connect_view result (wanted BadPresentation (spec.connect_of (map part_of parts.now))) }
 {
@@ -324,6 +336,7 @@ fn normal_in(alloc: Global, octets: &[u8]) -> Result<Connect<'_>, AssocFault>
     connect_of(alloc, known.as_slice())
 }
 
+// The parameters of the normal mode under their tag.
 #[tactic(auto, unfolding(crate::specs::Presentation::normal_as))]
 fn normal_as<'a>(alloc: Global, value: &Value<'a>) -> Result<Connect<'a>, AssocFault>
     ensures { Gives AssocFault.OutOfMemory connect_view result (wanted BadPresentation (spec.normal_as (part_of value.now))) }
@@ -334,6 +347,7 @@ fn normal_as<'a>(alloc: Global, value: &Value<'a>) -> Result<Connect<'a>, AssocF
     normal_in(alloc, octets)
 }
 
+// The number of the normal mode, 1; no other mode is taken.
 fn mode_of(number: i64) -> Option<i64>
     ensures { result ≡ spec.mode_of number }
 {

@@ -1,4 +1,5 @@
-// Session protocol data units (X.225 8): an identifier, a length, and parameters, which are spelled likewise.
+// Session protocol data units (X.225 8): an identifier, a length, and parameters, which are spelled
+// likewise.
 ghost use Rattle.std.specs.Prelude.{◌≡◌, ◌+◌, ◌≤◌, length, option_map, IfSome};
 ghost use Rattle.bay_assoc.specs.Session as spec;
 ghost use Rattle.bay_assoc.specs.SessionReading.{NextUnit};
@@ -11,7 +12,8 @@ use std::marker::Model;
 // The code of a parameter that is user data.
 const USER_DATA: u8 = 0xC1;
 
-/// An identifier and the octets that the length behind it counts: an SPDU, a parameter or a group of parameters.
+/// An identifier and the octets that the length behind it counts: an SPDU, a parameter or a group
+/// of parameters.
 #[derive(Clone, Copy)]
 pub struct Unit<'a> {
     pub identifier: u8,
@@ -104,7 +106,8 @@ fn unit_at(octets: &[u8]) -> Option<(Unit<'_>, &[u8])>
     }
 }
 
-/// The units that stand one after another in octets, which contracts see as the octets that are left.
+/// The units that stand one after another in octets, which contracts see as the octets that are
+/// left.
 #[derive(Drop)]
 pub struct Units<'a> {
     rest: &'a [u8],
@@ -129,6 +132,7 @@ pub enum Next<'a> {
 }
 
 impl<'a> Units<'a> {
+    // The units of these octets, none read yet.
     fn new(octets: &'a [u8]) -> Units<'a>
         ensures { result ≡ octets.now }
     {
@@ -152,6 +156,7 @@ impl<'a> Units<'a> {
     }
 }
 
+// Whether a parameter is user data.
 fn is_user(unit: &Unit<'_>) -> bool
     ensures { result ≡ spec.is_user (unit_of unit.now) }
 {
@@ -186,6 +191,7 @@ fn users_in(octets: &[u8]) -> Option<UserData<'_>>
     }
 }
 
+// A CONNECT has user data once.
 fn connect_of(users: UserData<'_>) -> Option<Spdu<'_>>
     ensures { option_map spdu_view result ≡ spec.connect_of (users_of users.entry) }
 {
@@ -195,6 +201,7 @@ fn connect_of(users: UserData<'_>) -> Option<Spdu<'_>>
     }
 }
 
+// A FINISH has user data at most once.
 fn finish_of(users: UserData<'_>) -> Option<Spdu<'_>>
     ensures { option_map spdu_view result ≡ spec.finish_of (users_of users.entry) }
 {

@@ -110,6 +110,7 @@ const RESERVED_WORDS: [(&str, ReservedWord); 47] = [
     ("FALSE", ReservedWord::False),
 ];
 
+/// All reserved words with their spellings.
 fn reserved_words() -> &'static [(&'static str, ReservedWord)]
     ensures { map (λ entry. (entry.0.now, entry.1)) result.now ≡ spec.reserved_words }
 {
@@ -126,6 +127,7 @@ fn entry_of<'a>(
     entries.iter().find(|entry| same_name(text, entry.0))
 }
 
+/// The word of an entry.
 fn word_of(entry: Option<&(&'static str, ReservedWord)>) -> Option<ReservedWord>
     ensures { result ≡ option_map (λ one. one.1) (option_copied entry.entry) }
 {

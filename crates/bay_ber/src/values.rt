@@ -53,8 +53,8 @@ pub fn whole_value(octets: &[u8]) -> Option<Value<'_>>
     }
 }
 
-/// The values that stand one after another in octets (X.690 8.9.2, 8.10.2), which contracts see as the octets that are
-/// left.
+/// The values that stand one after another in octets (X.690 8.9.2, 8.10.2), which contracts see as
+/// the octets that are left.
 #[derive(Drop)]
 pub struct Values<'a> {
     rest: &'a [u8],
@@ -76,7 +76,8 @@ impl<'a> Values<'a> {
         Values { rest: octets }
     }
 
-    /// The next value; None where no octet is left. Where no value stands next, nothing is passed over.
+    /// The next value; None where no octet is left. Where no value stands next, nothing is passed
+    /// over.
     pub fn next_value(&mut self) -> Result<Option<Value<'a>>, BerFault>
         ensures next { Next self.old result self.new }
         ensures exact { NextIn self.old result self.new }
@@ -148,7 +149,8 @@ impl<'a> Few<'a> {
     }
 }
 
-/// The values that the octets are, one after another (X.690 8.9.2); None where they are no values, or more than five.
+/// The values that the octets are, one after another (X.690 8.9.2); None where they are no values,
+/// or more than five.
 pub fn few_values(octets: &[u8]) -> Option<Few<'_>>
     ensures { result ≡ few_in octets.now }
 {

@@ -39,7 +39,8 @@ fn append_length(out: &mut Vec<u8>, length: u32) -> Result<(), AllocError>
     Ok(())
 }
 
-// Appends a tag and the shortest spelling of a length. A refused call may leave some of its octets at the end.
+// Appends a tag and the shortest spelling of a length. A refused call may leave some of its octets
+// at the end.
 #[tactic(auto, unfolding(crate::specs::Writing::header))]
 fn append_header(out: &mut Vec<u8>, tag: Tag, count: u32) -> Result<(), AllocError>
     requires { tag.number < 31 }
@@ -84,7 +85,8 @@ fn append_value(out: &mut Vec<u8>, tag: Tag, content: &[u8]) -> Result<(), Alloc
     Ok(())
 }
 
-// Appends a value whose content has three parts. A refused call may leave some of its octets at the end.
+// Appends a value whose content has three parts. A refused call may leave some of its octets at the
+// end.
 fn append(
     out: &mut Vec<u8>,
     tag: Tag,
@@ -152,9 +154,9 @@ pub fn element_length(count: u32) -> u64
     u64::from(count) + header
 }
 
-/// A writer of values one after another, which contracts see as the octets written so far. Each value is written under
-/// a tag whose number is below 31, with the shortest length. Where memory is wanting
-/// nothing is appended.
+/// A writer of values one after another, which contracts see as the octets written so far. Each
+/// value is written under a tag whose number is below 31, with the shortest length. Where memory is
+/// wanting nothing is appended.
 #[derive(Drop)]
 pub struct Writer {
     octets: Vec<u8>,
@@ -195,7 +197,8 @@ impl Writer {
         self.value(tag, without_needless(&value.to_be_bytes()))
     }
 
-    /// Writes a bit string (X.690 8.6): its bits in the octets that they need, with 0 in the unused bits.
+    /// Writes a bit string (X.690 8.6): its bits in the octets that they need, with 0 in the unused
+    /// bits.
     pub fn bits(&mut self, tag: Tag, bits: Bits<'_>) -> Result<(), AllocError>
         requires tag { tag.number < 31 }
         requires held { bits.count ≤ 8 * length bits.octets.now }
@@ -254,7 +257,8 @@ impl Writer {
         self.value(tag, inner)
     }
 
-    /// Writes the head of a value, whose content of so many octets is to be written behind it (X.690 8.1.2, 8.1.3).
+    /// Writes the head of a value, whose content of so many octets is to be written behind it
+    /// (X.690 8.1.2, 8.1.3).
     pub fn head(&mut self, tag: Tag, count: u32) -> Result<(), AllocError>
         requires { tag.number < 31 }
         ensures ok { OnOk result (self.new ≡ self.old ++ header tag count) }
@@ -271,8 +275,8 @@ impl Writer {
         }
     }
 
-    /// Makes all that was written since a place the content of one value (X.690 8.9), in place. The place is what `len` was
-    /// there.
+    /// Makes all that was written since a place the content of one value (X.690 8.9), in place. The
+    /// place is what `len` was there.
     pub fn nest_from(&mut self, start: usize, tag: Tag) -> Result<(), AllocError>
         requires tag { tag.number < 31 }
         requires start { start ≤ length self.old }

@@ -1,4 +1,5 @@
--- The terms on which a PDU of a client is answered: a size of TPDUs is agreed, and one of PDUs, of at most 65,000 octets.
+-- The terms on which a PDU of a client is answered: a size of TPDUs is agreed, and one of PDUs, of
+-- at most 65,000 octets.
 use Rattle.std.proofs.Common.{◌≡◌, ◌≤◌, ℕ, ℤ, pos, negsuc, Bool, true, false, cond, nat_lt, min, List, [], ◌∷◌, ◌++◌, drop, Option, Some, None, Result, Ok, Err, IsSome, refl, arith, ◌==◌}
 use Rattle.bay_ber.specs.Options.{◌>>=◌}
 use Rattle.bay_mms.specs.declared.request.Proposal.{Proposal}

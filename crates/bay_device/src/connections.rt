@@ -9,8 +9,8 @@ use std::marker::Model;
 /// How many associations there are.
 const PLACES: usize = 8;
 
-/// The connections of the associations that are open, which contracts see as what the octets of each have left. Octets are taken of
-/// each.
+/// The connections of the associations that are open, which contracts see as what the octets of
+/// each have left. Octets are taken of each.
 #[derive(Drop)]
 pub struct Connections {
     places: [Option<Connection>; PLACES],

@@ -38,8 +38,9 @@ use il_image::encode::encode;
 use std::alloc::{AllocError, Global};
 use std::marker::Model;
 
-/// A device, which contracts see as its state: what the bay file says, the rows of its tree, the values of its inputs, the machine with
-/// its program, its controls, the moments of the last event and the last scan, and what the octets of its clients have left.
+/// A device, which contracts see as its state: what the bay file says, the rows of its tree, the
+/// values of its inputs, the machine with its program, its controls, the moments of the last event
+/// and the last scan, and what the octets of its clients have left.
 #[derive(Drop)]
 pub struct Device {
     alloc: Global,
@@ -301,19 +302,23 @@ impl Device {
         }
     }
 
-    /// Does one event, at a moment in milliseconds since 1970. A refused event changes nothing. Want of memory closes the association
-    /// whose octets came, and changes nothing else: the PDUs before it stand, and the one that it comes in does nothing.
+    /// Does one event, at a moment in milliseconds since 1970. A refused event changes nothing.
+    /// Want of memory closes the association whose octets came, and changes nothing else: the PDUs
+    /// before it stand, and the one that it comes in does nothing.
     ///
-    /// The first of these refuses: the moment is too large, 114; it is before the last event's, 110; the association's number is not 1
-    /// to 8, or it is not open, 111; it is open, 112; there is no such switch, input or meter, 113.
+    /// The first of these refuses: the moment is too large, 114; it is before the last event's,
+    /// 110; the association's number is not 1 to 8, or it is not open, 111; it is open, 112; there
+    /// is no such switch, input or meter, 113.
     pub fn step(&mut self, now: u64, event: Event<'_>) -> Result<Step, StepFault>
         // There is a choice with which the answer and the device are the outcome;
         ensures steps { Steps now event.entry self.old result self.new }
         // an event without octets has none, and takes no memory.
         ensures sure { IsWithoutOctets event.entry → Gives (outcome None now event.entry self.old) result self.new }
-        // Each command is one that the interlocking releases, on a fresh scan, while no switch is operating, and comes with its reply.
+        // Each command is one that the interlocking releases, on a fresh scan, while no switch is
+        // operating, and comes with its reply.
         ensures commanded { IfOk result (AreCommanded now self.old) }
-        // There is one at most, on a device whose switches take some time, as load makes it; and that stays.
+        // There is one at most, on a device whose switches take some time, as load makes it; and
+        // that stays.
         ensures single { AreTimed self.old.controls.controls → IsSingle result }
         ensures timed { AreTimed self.old.controls.controls → AreTimed self.new.controls.controls }
         // What is seen of the event leads its controls on, with such a choice.
@@ -329,25 +334,29 @@ impl Device {
         self.do_event(now, event)
     }
 
-    /// Does a list of events, one after the other, and keeps each answer. Where there is no room for
-    /// the answers, no event is done.
+    /// Does a list of events, one after the other, and keeps each answer. Where there is no room
+    /// for the answers, no event is done.
     pub fn run(
         &mut self,
         events: &[(u64, Event<'_>)],
     ) -> Result<Vec<Result<Step, StepFault>>, AllocError>
-        // There are choices with which the answers and the device are the outcome, and each scan halts without a trap within the budget;
+        // There are choices with which the answers and the device are the outcome, and each scan
+        // halts without a trap within the budget;
         ensures ok { IfOk result (λ answers. Halting events.now self.old answers.items self.new) }
         ensures err { OnErr result (self.new ≡ self.old) }
-        // each command is one that the interlocking releases, on a fresh scan, while no switch is operating, and comes with its reply,
-        // whatever the choices;
+        // each command is one that the interlocking releases, on a fresh scan, while no switch is
+        // operating, and comes with its reply, whatever the choices;
         ensures commanded { (choices : List (Option ℕ)) → AllCommanded choices events.now self.old }
-        // there is one at most for each event, on a device whose switches take some time, as load makes it;
+        // there is one at most for each event, on a device whose switches take some time, as load
+        // makes it;
         ensures single { IfOk result (λ answers. AreTimed self.old.controls.controls → All IsSingle answers.items) }
         ensures timed { AreTimed self.old.controls.controls → AreTimed self.new.controls.controls }
-        // and on a device that runs a text the tree then holds what the text means, whatever the choices.
+        // and on a device that runs a text the tree then holds what the text means, whatever the
+        // choices.
         ensures means { (c : Checked) → Runs c self.old → (choices : List (Option ℕ)) → AllMean c choices events.now self.old }
         ensures runs { (c : Checked) → Runs c self.old → Runs c self.new }
-        // From no selection on each accepted operate of an SBO switch is backed by a select, whatever the choices.
+        // From no selection on each accepted operate of an SBO switch is backed by a select,
+        // whatever the choices.
         ensures backed { self.old.controls.selection ≡ None → (choices : List (Option ℕ)) → AreBacked self.old.controls.controls (entries_all choices events.now self.old) }
         // On a device as load made it the octets of the events and of the answers tell so.
         ensures told { IfOk result (λ answers. IsIdle self.old → AreBacked self.old.controls.controls (told_all (bay_of self.old) self.old.connections events.now answers.items)) }
@@ -436,7 +445,8 @@ impl Device {
         self.state.id(switch)
     }
 
-    /// Whether the switch at a place may be opened, and whether it may be closed (IEC 61850-7-4, CILO).
+    /// Whether the switch at a place may be opened, and whether it may be closed (IEC 61850-7-4,
+    /// CILO).
     pub fn ena(&self, switch: usize) -> Option<(bool, bool)>
         ensures { result ≡ enabled_of self.now switch }
     {

@@ -1,4 +1,5 @@
-// What will tell a client of the end of what it operates with enhanced security (IEC 61850-7-2, CommandTermination).
+// What will tell a client of the end of what it operates with enhanced security (IEC 61850-7-2,
+// CommandTermination).
 ghost use Rattle.std.specs.Prelude.{◌≡◌, None};
 ghost use Rattle.bay_device.specs.Device as spec;
 ghost use Rattle.bay_device.specs.Outcomes.{due_without};
@@ -6,8 +7,8 @@ ghost use Rattle.bay_device.specs.Outcomes.{due_without};
 use crate::event::Sent;
 use bay_base::listing::Listing;
 
-/// The octets that tell the client of an association of the end of what is operating; each is left out where its PDU has more octets
-/// than are agreed.
+/// The octets that tell the client of an association of the end of what is operating; each is left
+/// out where its PDU has more octets than are agreed.
 #[derive(Debug, Drop)]
 pub struct Due {
     /// The number of the association that operates.

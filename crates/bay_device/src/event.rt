@@ -7,8 +7,8 @@ use bay_config::bay::MeterField;
 use bay_services::answer::Command;
 use bay_tree::leaf::Dbpos;
 
-/// The last moment that an event may have, in milliseconds since 1970: the end of the last second that
-/// a time stamp of 32 bits of seconds can tell (IEC 61850-8-1, UtcTime).
+/// The last moment that an event may have, in milliseconds since 1970: the end of the last second
+/// that a time stamp of 32 bits of seconds can tell (IEC 61850-8-1, UtcTime).
 pub(crate) const LAST_MOMENT: u64 = 4_294_967_295_999;
 
 /// What happens to a device at a moment. Associations have the numbers 1 to 8.
@@ -72,9 +72,11 @@ pub struct Sent {
 pub enum Why {
     /// Its client has ended or released it.
     Ended,
-    /// Its octets are refused, by the fault of this number: 10 to 13 of the transport, 20 to 25 of the association.
+    /// Its octets are refused, by the fault of this number: 10 to 13 of the transport, 20 to 25 of
+    /// the association.
     Fault(u8),
-    /// There was not enough memory. What its client asked for in the PDU for which there was none was not done.
+    /// There was not enough memory. What its client asked for in the PDU for which there was none
+    /// was not done.
     Memory,
 }
 

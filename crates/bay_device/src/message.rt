@@ -133,8 +133,8 @@ fn send_all(
     Ok(())
 }
 
-/// Makes of an answer what is to be sent and done, and gives what will tell of the end of what it operates. Where there is no memory,
-/// more may be made than before.
+/// Makes of an answer what is to be sent and done, and gives what will tell of the end of what it
+/// operates. Where there is no memory, more may be made than before.
 fn reply(
     connection: &Connection,
     association: u16,
@@ -163,8 +163,8 @@ fn reply(
     Ok(due)
 }
 
-/// Answers a PDU and does what it asks for; where there is no memory, the selection and the execution may be changed, and more be
-/// made than before.
+/// Answers a PDU and does what it asks for; where there is no memory, the selection and the
+/// execution may be changed, and more be made than before.
 fn answer(
     alloc: Global,
     state: &mut DeviceState,
@@ -188,7 +188,8 @@ fn answer(
     Ok(())
 }
 
-/// Answers a PDU of an association and does what it asks for. Where there is no memory it changes nothing.
+/// Answers a PDU of an association and does what it asks for. Where there is no memory it changes
+/// nothing.
 pub fn message(
     alloc: Global,
     now: u64,

@@ -73,7 +73,8 @@ fn hear(
     }
 }
 
-/// Takes octets up to the end of what they come to first and does it, or takes all of them, and says how many.
+/// Takes octets up to the end of what they come to first and does it, or takes all of them, and
+/// says how many.
 fn turn(
     alloc: Global,
     now: u64,

@@ -1,4 +1,5 @@
-// What an event of the process does to a device's state: a contact, an input, a measure, a scan, and time.
+// What an event of the process does to a device's state: a contact, an input, a measure, a scan,
+// and time.
 ghost use Rattle.std.specs.Prelude.{◌≡◌, ◌<◌, List, Option, Some, None, length, map, slice_get};
 ghost use Rattle.il_scan.specs.Scans.{Scans, outputs_of, read_only, type_of_point};
 ghost use Rattle.bay_connection.specs.Talk.{Talk};
@@ -38,7 +39,8 @@ fn or_else(first: Option<Sent>, later: Option<Sent>) -> Option<Sent>
     }
 }
 
-/// Runs the program once on the positions, the inputs and the measures as they stand, and counts its steps.
+/// Runs the program once on the positions, the inputs and the measures as they stand, and counts
+/// its steps.
 fn run_program(
     machine: &mut Machine,
     bay: &ServedBay,
@@ -63,7 +65,8 @@ fn run_program(
 }
 
 impl DeviceState {
-    /// Whether the last scan is fresh at a moment: nothing that it read has changed since, and it is not too old.
+    /// Whether the last scan is fresh at a moment: nothing that it read has changed since, and it
+    /// is not too old.
     pub fn is_fresh(&self, now: u64) -> bool
         ensures { (connections : List (Option Talk)) → result ≡ spec.is_fresh now (state_view connections self.now) }
     {
@@ -156,7 +159,8 @@ impl DeviceState {
         Ok(over)
     }
 
-    /// Runs the program once on the positions, the inputs and the measures as they stand, and counts its steps.
+    /// Runs the program once on the positions, the inputs and the measures as they stand, and
+    /// counts its steps.
     pub fn scan(&mut self, now: u64) -> u32
         ensures after { (connections : List (Option Talk)) → state_view connections self.new ≡ scanned now (state_view connections self.old) }
         ensures steps { (connections : List (Option Talk)) → result ≡ (ran_at now (state_view connections self.old)).steps }

@@ -59,7 +59,8 @@ fn key_of(name: &str) -> usize
     key
 }
 
-/// Whether a name is this name, whatever the case of its letters. Mostly it is spelled alike, which is seen at once.
+/// Whether a name is this name, whatever the case of its letters. Mostly it is spelled alike, which
+/// is seen at once.
 fn is_named(own: &str, name: &str) -> bool
     ensures { result ≡ same_name own.now name.now }
 {
@@ -118,7 +119,8 @@ pub struct NameTables {
     pub meters: NameTable,
 }
 
-/// The tables of the ids of these switches, of these names of inputs, and of the ids of these meters.
+/// The tables of the ids of these switches, of these names of inputs, and of the ids of these
+/// meters.
 pub fn tables_of(switches: &[BoundSwitch], inputs: &[Text], meters: &[BoundMeter]) -> NameTables
     ensures { AreTables switches.now inputs.now meters.now result }
 {

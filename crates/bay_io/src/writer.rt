@@ -9,8 +9,8 @@ use crate::calls::Sink;
 use std::io;
 use std::marker::Model;
 
-/// A writer that knows whether a write or a flush has failed, or a write took nothing of what it was given,
-/// and whether it was flushed since its last write.
+/// A writer that knows whether a write or a flush has failed, or a write took nothing of what it
+/// was given, and whether it was flushed since its last write.
 #[derive(Drop)]
 pub struct WatchedWriter<W> {
     inner: W,

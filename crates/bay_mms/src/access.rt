@@ -85,6 +85,7 @@ fn variable_of<'a>(parts: &[Value<'a>]) -> Option<Variable<'a>>
     Some(Variable { name, is_alternate })
 }
 
+// The variable of a list that a value is.
 #[tactic(auto, unfolding(crate::specs::Grammar::variable_as))]
 fn variable_as<'a>(value: &Value<'a>) -> Option<Variable<'a>>
     ensures { option_map variable result ≡ spec.variable_as (part_of value.now) }
@@ -93,6 +94,7 @@ fn variable_as<'a>(value: &Value<'a>) -> Option<Variable<'a>>
     variable_of(parts.as_slice())
 }
 
+// Keeps one variable more.
 fn push_variable<'a>(variables: &mut Vec<Variable<'a>>, one: Variable<'a>) -> Result<(), AllocError>
     ensures { OnOk result (map variable variables.new.items ≡ map variable variables.old.items ++ variable one.entry ∷ []) }
 {

@@ -20,6 +20,7 @@ pub(crate) fn integer_under(tag: Tag, value: &Value<'_>) -> Option<i64>
     int_of(content).ok()
 }
 
+// A number of at least 1.
 fn some_of(number: i64) -> Option<i64>
     ensures { result ≡ spec.some_of number }
 {
@@ -65,6 +66,7 @@ fn services_as<'a>(value: &Value<'a>) -> Option<Bits<'a>>
     bits_of(value.under(Tag::context(2))?).ok()
 }
 
+// The parameters of the three parts of an InitRequestDetail.
 fn detail_of(parts: &[Value<'_>]) -> Option<u8>
     ensures { result ≡ spec.detail_of (map part_of parts.now) }
 {
@@ -109,6 +111,8 @@ fn nesting_of(value: Option<&Value<'_>>) -> Option<Option<i64>>
     }
 }
 
+// What an initiate proposes, by its fields: a size, how many requests are outstanding either way, a
+// nesting, and the detail.
 #[tactic(auto, unfolding(crate::specs::Grammar::proposal_of))]
 fn proposal_of(
     size: Option<&Value<'_>>,

@@ -14,8 +14,9 @@ use bay_ber::tag::Tag;
 use bay_ber::writer::Writer;
 use bay_tree::leaf::{Dbpos, Leaf, Quality};
 
-/// A moment in milliseconds since 1970 as a utc-time (IEC 61850-8-1, the mapping of TimeStamp): four octets of seconds, three
-/// of the fraction of a second rounded down, and the quality 2A. Seconds past 2^32 are counted from 0 again.
+/// A moment in milliseconds since 1970 as a utc-time (IEC 61850-8-1, the mapping of TimeStamp):
+/// four octets of seconds, three of the fraction of a second rounded down, and the quality 2A.
+/// Seconds past 2^32 are counted from 0 again.
 pub(crate) fn utc_octets(ms: u64) -> [u8; 8]
     ensures { result ≡ spec.utc_octets ms }
 {

@@ -121,8 +121,9 @@ fn first_after(tree: &Tree, after: Option<&[u8]>) -> Result<Option<Handle>, Name
     }
 }
 
-/// The response, under an invoke id, that lists the names behind a name, or from the first on: as many as fit a PDU of this size,
-/// and at most 100; and whether more follow. NoSuchName where no row has the name. It has at most as many octets as its size says.
+/// The response, under an invoke id, that lists the names behind a name, or from the first on: as
+/// many as fit a PDU of this size, and at most 100; and whether more follow. NoSuchName where no
+/// row has the name. It has at most as many octets as its size says.
 pub fn write_page(
     alloc: Global,
     id: u32,

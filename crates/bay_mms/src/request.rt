@@ -86,6 +86,7 @@ pub enum Request<'a> {
     Confirmed { id: u32, call: Call<'a> },
 }
 
+// An invoke id: a number of 32 bits without a sign.
 fn id_of(number: i64) -> Option<u32>
     ensures { result ≡ spec.id_of number }
 {
@@ -122,6 +123,7 @@ fn id_in(octets: &[u8]) -> Option<u32>
     id_as(&id)
 }
 
+// Why a request is refused, with the invoke id that the answer is to have.
 fn fault_of(known: Option<u32>, id: u32, refusal: Refusal) -> MmsFault
     ensures { result ≡ spec.fault_of known id refusal }
 {
@@ -167,6 +169,7 @@ fn confirmed_of<'a>(
     }
 }
 
+// What the content of an initiate proposes.
 fn proposal_in(content: &[u8]) -> Option<Proposal>
     ensures { result ≡ spec.proposal_in content.now }
 {
@@ -174,7 +177,8 @@ fn proposal_in(content: &[u8]) -> Option<Proposal>
     initiate_of(parts.as_slice())
 }
 
-/// What an initiate that the octets are proposes (ISO 9506-2, InitiateRequestPDU); None where they are none. It takes no memory.
+/// What an initiate that the octets are proposes (ISO 9506-2, InitiateRequestPDU); None where they
+/// are none. It takes no memory.
 #[tactic(auto, unfolding(crate::specs::Grammar::initiate_in))]
 pub fn read_initiate(octets: &[u8]) -> Option<Proposal>
     ensures { result ≡ initiate_in octets.now }
@@ -183,6 +187,7 @@ pub fn read_initiate(octets: &[u8]) -> Option<Proposal>
     proposal_in(value.under(Tag::context_constructed(8))?)
 }
 
+// A conclude, which has no content.
 fn conclude(known: Option<u32>, content: &[u8]) -> Result<Request<'_>, MmsFault>
     ensures asked { Gives MmsFault.OutOfMemory message result (or_bad known (nothing content.now asked.conclude)) }
     ensures memory { IsErrOf result MmsFault.OutOfMemory → ⊥ }
@@ -194,6 +199,7 @@ fn conclude(known: Option<u32>, content: &[u8]) -> Result<Request<'_>, MmsFault>
     }
 }
 
+// The request that a PDU is, by its tag: confirmed, initiate or conclude.
 #[tactic(auto, unfolding(crate::specs::Grammar::message_as))]
 fn message_as<'a>(
     alloc: Global,
@@ -229,10 +235,11 @@ fn answer_to<'a>(alloc: Global, octets: &'a [u8]) -> Result<Request<'a>, MmsFaul
     message_as(alloc, known, &value)
 }
 
-/// The request that octets are (ISO 9506-2, in the profile of IEC 61850-8-1), whose names, texts and data are slices of the
-/// octets. BadPdu where they are spelled as none, with the invoke id where one stands at their front; UnknownService for a
-/// service that is not served, for alternate access and for a named list; TooMany for more than 32 variables in a request that
-/// is spelled in all else. Data nests at most 10 deep. Only a read or a write takes memory.
+/// The request that octets are (ISO 9506-2, in the profile of IEC 61850-8-1), whose names, texts
+/// and data are slices of the octets. BadPdu where they are spelled as none, with the invoke id
+/// where one stands at their front; UnknownService for a service that is not served, for alternate
+/// access and for a named list; TooMany for more than 32 variables in a request that is spelled in
+/// all else. Data nests at most 10 deep. Only a read or a write takes memory.
 pub fn read_request<'a>(alloc: Global, octets: &'a [u8]) -> Result<Request<'a>, MmsFault>
     ensures { IsAnswer octets.now result }
 {

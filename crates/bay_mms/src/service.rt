@@ -29,6 +29,7 @@ fn inner_value<'a>(tag: Tag, value: &Value<'a>) -> Option<Value<'a>>
     whole_value(value.under(tag)?)
 }
 
+// Where names are asked for, by its tag: of the device (VMD), of a domain, or of the association.
 #[tactic(auto, unfolding(crate::specs::Grammar::place_as))]
 fn place_as<'a>(value: &Value<'a>) -> Option<Scope<'a>>
     ensures { option_map place result ≡ spec.place_as (part_of value.now) }
@@ -52,6 +53,7 @@ fn place_as<'a>(value: &Value<'a>) -> Option<Scope<'a>>
     }
 }
 
+// The number of the class of objects whose names are asked for.
 #[tactic(auto, unfolding(crate::specs::Grammar::class_as, crate::specs::Grammar::integer_under))]
 fn class_as(value: &Value<'_>) -> Option<i64>
     ensures { result ≡ spec.class_as (part_of value.now) }
@@ -60,6 +62,7 @@ fn class_as(value: &Value<'_>) -> Option<i64>
     integer_under(Tag::context(0), &class)
 }
 
+// Where names are asked for, under its tag.
 #[tactic(auto, unfolding(crate::specs::Grammar::scope_as))]
 fn scope_as<'a>(value: &Value<'a>) -> Option<Scope<'a>>
     ensures { option_map place result ≡ spec.scope_as (part_of value.now) }
@@ -99,6 +102,7 @@ fn attributes_as<'a>(value: &Value<'a>) -> Result<Call<'a>, Refusal>
     }
 }
 
+// The variables that are read, by the specification of their access.
 #[tactic(auto, unfolding(crate::specs::Grammar::read_as))]
 fn read_as<'a>(alloc: Global, value: &Value<'a>) -> Result<Call<'a>, Refusal>
     ensures { Gives Refusal.OutOfMemory asking result (spec.read_as (part_of value.now)) }
@@ -120,6 +124,7 @@ fn read_of<'a>(alloc: Global, parts: &[Value<'a>]) -> Result<Call<'a>, Refusal>
     }
 }
 
+// The variables that are written, as many as there are data.
 #[tactic(auto, unfolding(crate::specs::Grammar::written_with))]
 fn written_with<'a>(
     alloc: Global,
@@ -155,6 +160,7 @@ fn write_of<'a>(alloc: Global, parts: &[Value<'a>]) -> Result<Call<'a>, Refusal>
     }
 }
 
+// Whether this is the tag of another service than those that are read here.
 fn is_unlisted(tag: Tag) -> bool
     ensures { result ≡ spec.is_unlisted tag }
 {
@@ -164,6 +170,7 @@ fn is_unlisted(tag: Tag) -> bool
     }
 }
 
+// A service that is not offered is unknown; anything else is no service.
 #[tactic(auto, unfolding(crate::specs::Grammar::other_as))]
 fn other_as<'a>(value: &Value<'a>) -> Result<Call<'a>, Refusal>
     ensures asked { Gives Refusal.OutOfMemory asking result (spec.other_as (part_of value.now)) }
@@ -176,6 +183,7 @@ fn other_as<'a>(value: &Value<'a>) -> Result<Call<'a>, Refusal>
     }
 }
 
+// An identify, which has no content.
 fn identify(content: &[u8]) -> Option<Call<'_>>
     ensures { option_map asking result ≡ nothing content.now asked.identify }
 {
@@ -186,6 +194,7 @@ fn identify(content: &[u8]) -> Option<Call<'_>>
     }
 }
 
+// A request for names by its content.
 fn listing(content: &[u8]) -> Option<Call<'_>>
     ensures { option_map asking result ≡ listing_in content.now }
 {

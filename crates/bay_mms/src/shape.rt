@@ -19,6 +19,8 @@ pub struct Shape<'a> {
     pub test: bool,
 }
 
+// The value of data, where they are a truth value; each of the next four takes data of one other
+// type.
 fn truth_as(given: &Data<'_>) -> Option<bool>
     ensures { result ≡ spec.truth_as (datum_of given.now) }
 {
@@ -87,6 +89,7 @@ fn check_as(given: &Data<'_>) -> Option<Dbpos>
     }
 }
 
+// The components of a structure.
 fn parts_as<'b, 'a>(given: &'b Data<'a>) -> Option<&'b [Data<'a>]>
     ensures { option_map (λ parts. data_in parts.now) result ≡ spec.parts_as (datum_of given.now) }
 {
@@ -96,6 +99,7 @@ fn parts_as<'b, 'a>(given: &'b Data<'a>) -> Option<&'b [Data<'a>]>
     }
 }
 
+// An originator: its category and its identity.
 fn origin_of<'a>(parts: &[Data<'a>]) -> Option<(i64, &'a [u8])>
     ensures { option_map (λ origin. record { or_cat = origin.0; or_ident = origin.1.now }) result ≡ spec.origin_of (data_in parts.now) }
 {
@@ -109,6 +113,7 @@ fn origin_of<'a>(parts: &[Data<'a>]) -> Option<(i64, &'a [u8])>
     }
 }
 
+// An originator, where data are a structure of the two.
 #[tactic(auto, unfolding(crate::specs::Controls::origin_as))]
 fn origin_as<'a>(given: &Data<'a>) -> Option<(i64, &'a [u8])>
     ensures { option_map (λ origin. record { or_cat = origin.0; or_ident = origin.1.now }) result ≡ spec.origin_as (datum_of given.now) }
@@ -142,6 +147,7 @@ fn control_of<'a>(
     })
 }
 
+// A Cancel has the five components of a control, in this order.
 fn cancel_of<'a>(parts: &[Data<'a>]) -> Option<Shape<'a>>
     ensures { option_map shaping result ≡ spec.cancel_of (data_in parts.now) }
 {
@@ -151,6 +157,7 @@ fn cancel_of<'a>(parts: &[Data<'a>]) -> Option<Shape<'a>>
     }
 }
 
+// An Oper has the five components of a control, and its checks behind them.
 fn operate_of<'a>(parts: &[Data<'a>]) -> Option<(Shape<'a>, Dbpos)>
     ensures { option_map (λ found. record { control = shaping found.0; check = found.1 }) result ≡ spec.operate_of (data_in parts.now) }
 {

@@ -327,8 +327,8 @@ fn push_meters(
     Ok(())
 }
 
-/// The rows of a bay's nodes with the values of the start: those of the device, the breakers, the other
-/// switches, the controls, the interlocking, and the meters.
+/// The rows of a bay's nodes with the values of the start: those of the device, the breakers, the
+/// other switches, the controls, the interlocking, and the meters.
 pub fn rows_of(
     alloc: Global,
     nameplate: &Nameplate,

@@ -32,7 +32,8 @@ fn source_of(bay: &[Point], point: &ImagePoint) -> Option<Source>
     Some(found.source)
 }
 
-/// What those of an image's points stand for that may be written, or those that may not, in their order.
+/// What those of an image's points stand for that may be written, or those that may not, in their
+/// order.
 pub fn sources_of(
     alloc: Global,
     writable: bool,
@@ -80,7 +81,8 @@ fn output_place(writes: &[Source], switch: usize, point: SwitchPoint) -> Option<
         .position(|source| is_point(*source, switch, point))
 }
 
-/// The places of the interlocking values of the switch at a place, among the points that may be written.
+/// The places of the interlocking values of the switch at a place, among the points that may be
+/// written.
 fn outputs_at(writes: &[Source], switch: usize) -> SwitchOutputs
     ensures { result ≡ spec_layout.outputs_at writes.now switch }
 {

@@ -52,7 +52,8 @@ fn tells(tree: &Tree, rows: StatusRows, position: Dbpos) -> bool
     is_same && has_same_quality
 }
 
-/// Writes a switch's new position, which its control repeats, and which is counted where it reaches an end.
+/// Writes a switch's new position, which its control repeats, and which is counted where it reaches
+/// an end.
 fn put_position(tree: &mut Tree, rows: &SwitchRows, position: Dbpos, now: u64)
     requires { AreSwitchRows (layout_of tree.old) rows.now }
     ensures rows { tree.new ≡ rows_after_change (switch_in (layout_of tree.old) rows.now) position now tree.old }

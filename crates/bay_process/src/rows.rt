@@ -83,6 +83,7 @@ pub fn position_at(tree: &Tree, handle: Handle) -> Dbpos
     }
 }
 
+// The quality that stands there.
 fn quality_at(tree: &Tree, handle: Handle) -> Quality
     requires { HasKind (layout_of tree.now) handle kind.Quality }
     ensures { leaf_of (name_in (layout_of tree.now) handle) tree.now ≡ Some (leaves.Quality result) }
@@ -93,6 +94,7 @@ fn quality_at(tree: &Tree, handle: Handle) -> Quality
     }
 }
 
+// The truth value that stands there.
 fn truth_at(tree: &Tree, handle: Handle) -> bool
     requires { HasKind (layout_of tree.now) handle kind.Truth }
     ensures { leaf_of (name_in (layout_of tree.now) handle) tree.now ≡ Some (leaves.Truth result) }

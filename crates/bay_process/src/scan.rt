@@ -199,7 +199,8 @@ fn change_enabled(tree: &mut Tree, rows: StatusRows, stood: bool, value: bool, n
     put_status(tree, rows, Leaf::Truth(value), Quality::Good, now)
 }
 
-/// Gives the interlocking values of the switch at a place new values, where the last scan wrote these.
+/// Gives the interlocking values of the switch at a place new values, where the last scan wrote
+/// these.
 fn change_output(
     tree: &mut Tree,
     _place: usize,
@@ -218,7 +219,8 @@ fn change_output(
     change_enabled(tree, rows.ena_cls, stood.may_close, enabled.may_close, now);
 }
 
-/// Gives the interlocking values of the switch at a place new values. What the last scan wrote is not read again.
+/// Gives the interlocking values of the switch at a place new values. What the last scan wrote is
+/// not read again.
 fn tell(
     tree: &mut Tree,
     told: &mut ToldValues,

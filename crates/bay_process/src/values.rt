@@ -51,7 +51,8 @@ impl Truths {
     }
 }
 
-/// The interlocking values of the switches as the last scan wrote them; nothing before the first scan.
+/// The interlocking values of the switches as the last scan wrote them; nothing before the first
+/// scan.
 #[derive(Drop)]
 pub struct ToldValues {
     values: Vec<Option<Enabled>>,

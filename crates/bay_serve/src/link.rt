@@ -21,10 +21,12 @@ pub enum Got {
     End,
 }
 
-/// The connections of up to eight clients, by the numbers of their associations, 1 to 8. No call waits.
+/// The connections of up to eight clients, by the numbers of their associations, 1 to 8. No call
+/// waits.
 ///
-/// Its meaning is `does old call new`: this call, with what it answered, may have led from the one state of the link to the other. A link
-/// in memory gives its own. Of a link over sockets nothing is known, and it keeps the default.
+/// Its meaning is `does old call new`: this call, with what it answered, may have led from the one
+/// state of the link to the other. A link in memory gives its own. Of a link over sockets nothing
+/// is known, and it keeps the default.
 pub trait Link {
     ghost does: { Self → Call → Self → Type 0 } = { λ _ _ _. Unit {0} };
 
@@ -44,7 +46,8 @@ pub trait Link {
         ensures call { Called does failures self.old (Reads a (length room.old) (heard result room.new)) self.new }
         ensures within { FitsIn room.new result };
 
-    /// Sends a front of the octets to a client, and answers how many; 0 where none can be taken now.
+    /// Sends a front of the octets to a client, and answers how many; 0 where none can be taken
+    /// now.
     fn write(&mut self, a: u16, octets: &[u8]) -> Result<usize, LinkFault>
         requires low { 0 < a }
         requires high { a ≤ 8 }

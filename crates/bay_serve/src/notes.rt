@@ -14,8 +14,8 @@ use bay_services::answer::Command;
 use std::alloc::{AllocError, Global};
 use std::marker::Model;
 
-/// How each association stands, and what the turn will tell. The room for that was taken at first: one entry for each association, and
-/// one command for each that is read.
+/// How each association stands, and what the turn will tell. The room for that was taken at first:
+/// one entry for each association, and one command for each that is read.
 #[derive(Drop)]
 pub struct Notes {
     standings: [Standing; ASSOCIATIONS],
@@ -79,7 +79,8 @@ impl Notes {
         self.standings[place] = self.standings[place].filled();
     }
 
-    /// The device has closed the association at a place, or its client has; its queue is to be offered once more.
+    /// The device has closed the association at a place, or its client has; its queue is to be
+    /// offered once more.
     pub fn leave(&mut self, place: usize, why: Why)
         requires { place < 8 }
         ensures { self.new ≡ leaves place why self.old }

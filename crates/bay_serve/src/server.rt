@@ -17,7 +17,8 @@ use std::marker::Model;
 /// How many associations there are.
 pub(crate) const ASSOCIATIONS: usize = 8;
 
-/// A device, and for each association at most 262,144 octets that are still to be sent to it. The room for them was taken at first.
+/// A device, and for each association at most 262,144 octets that are still to be sent to it. The
+/// room for them was taken at first.
 #[derive(Drop)]
 pub struct Server {
     device: Device,
@@ -51,8 +52,9 @@ fn make_queues(alloc: Global) -> Result<Vec<Queue>, AllocError>
 }
 
 impl Server {
-    /// A server of a device of which no association is open, and each switch that can be operated takes some time, as load makes it.
-    /// It takes the room of eight queues; where there is no memory for them, the device comes back.
+    /// A server of a device of which no association is open, and each switch that can be operated
+    /// takes some time, as load makes it. It takes the room of eight queues; where there is no
+    /// memory for them, the device comes back.
     pub fn new(alloc: Global, device: Device) -> Result<Self, Device>
         requires closed { device.connections ≡ replicate 8 None }
         requires timed { AreTimed device.controls.controls }

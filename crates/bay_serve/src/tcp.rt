@@ -20,10 +20,12 @@ fn would_wait(error: &io::Error) -> bool {
     error.kind() == ErrorKind::WouldBlock || error.kind() == ErrorKind::Interrupted
 }
 
+/// The error of a read or a write where no connection is open.
 fn not_connected() -> io::Error {
     io::Error::from(ErrorKind::NotConnected)
 }
 
+/// Reads from a connection, if it is open.
 fn read_some(stream: &Option<TcpStream>, room: &mut [u8]) -> io::Result<usize>
     ensures { ReadsAtMost result room.new }
 {
@@ -33,6 +35,7 @@ fn read_some(stream: &Option<TcpStream>, room: &mut [u8]) -> io::Result<usize>
     }
 }
 
+/// Writes to a connection, if it is open.
 fn write_some(stream: &Option<TcpStream>, octets: &[u8]) -> io::Result<usize>
     ensures { WritesAtMost result octets.now }
 {
@@ -42,7 +45,8 @@ fn write_some(stream: &Option<TcpStream>, octets: &[u8]) -> io::Result<usize>
     }
 }
 
-/// A connection that waits; neither its reads nor its writes do, and what is written goes out at once.
+/// A connection that waits; neither its reads nor its writes do, and what is written goes out at
+/// once.
 fn accept_one(listener: &TcpListener) -> io::Result<TcpStream> {
     let (stream, _) = listener.accept()?;
     stream.set_nonblocking(true)?;

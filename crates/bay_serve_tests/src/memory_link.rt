@@ -12,7 +12,8 @@ struct Client {
     taken: Vec<u8>,
 }
 
-/// Clients that connect one after the other. Each sends the same octets, as many at a time as they are read, and then nothing or its end.
+/// Clients that connect one after the other. Each sends the same octets, as many at a time as they
+/// are read, and then nothing or its end.
 #[derive(Drop)]
 pub struct MemoryLink {
     incoming: Vec<u8>,
@@ -40,6 +41,7 @@ fn clients_of(alloc: Global, count: usize) -> Result<Vec<Client>, Fail> {
 }
 
 impl MemoryLink {
+    /// A link of so many clients, each of which sends the same octets.
     pub fn new(alloc: Global, incoming: &[u8], count: usize) -> Result<MemoryLink, Fail> {
         let clients = clients_of(alloc, count)?;
         let incoming = incoming.to_vec(alloc)?;

@@ -23,7 +23,8 @@ use bay_mms::results::ReadResponse;
 use bay_tree::tree::Handle;
 use std::alloc::Global;
 
-// The number of the error that there is no such variable (ISO 9506-2, DataAccessError: object-non-existent).
+// The number of the error that there is no such variable (ISO 9506-2, DataAccessError:
+// object-non-existent).
 const NO_SUCH_OBJECT: u8 = 10;
 
 impl ServedBay {

@@ -98,6 +98,7 @@ fn responded(
 }
 
 impl ServedBay {
+    // Who made the device, its model and its revision.
     fn identify(&self, alloc: Global, client: Client, id: u32) -> Result<Answer, AllocError>
         ensures { IfOk result (λ answer. AnswersAs answer (bay_view self.now) (identified client id (bay_view self.now))) }
     {
@@ -150,6 +151,8 @@ impl ServedBay {
         response.finish(id)
     }
 
+    // The values of variables. Where they have more octets than are agreed, what the reads selected
+    // is undone, and the answer is an error.
     fn read(
         &mut self,
         alloc: Global,
@@ -173,6 +176,8 @@ impl ServedBay {
         }
     }
 
+    // Writes variables in their order. Where the response has more octets than are agreed, what
+    // they did to controls is undone, and the answer is an error.
     fn write(
         &mut self,
         alloc: Global,
@@ -272,8 +277,9 @@ impl ServedBay {
 
     /// Answers the octets that a client sent as a PDU of MMS, and does what they ask for.
     ///
-    /// Each PDU of the answer has at most 65,000 octets, and so have the reports of an end. A response of more octets than are agreed is an error of the class resource in
-    /// its place, and then nothing is done. Where there is no memory, nothing is done and nothing is to be sent.
+    /// Each PDU of the answer has at most 65,000 octets, and so have the reports of an end. A
+    /// response of more octets than are agreed is an error of the class resource in its place, and
+    /// then nothing is done. Where there is no memory, nothing is done and nothing is to be sent.
     pub fn answer(
         &mut self,
         alloc: Global,

@@ -35,7 +35,8 @@ use bay_mms::results::WriteResponse;
 use bay_tree::tree::Handle;
 use std::alloc::{AllocError, Global};
 
-// Errors by their numbers (ISO 9506-2, DataAccessError): no such variable, and a write that is denied.
+// Errors by their numbers (ISO 9506-2, DataAccessError): no such variable, and a write that is
+// denied.
 const NO_SUCH_OBJECT: u8 = 10;
 
 const DENIED: u8 = 3;

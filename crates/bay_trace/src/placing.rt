@@ -20,7 +20,8 @@ pub fn take_octets(octets: &mut LineOctets, event: &NamedEvent<'_>) -> Result<()
     }
 }
 
-/// The event by its place in the device; what has no place is told apart by a place at which there is nothing.
+/// The event by its place in the device; what has no place is told apart by a place at which there
+/// is nothing.
 pub fn placed_event<'a>(device: &Device, octets: &'a [u8], event: NamedEvent<'_>) -> Event<'a>
     requires { AreOctets (named_view event) octets.now }
     ensures { anywhere result ≡ spec.placed_event device.now (named_view event.entry) }

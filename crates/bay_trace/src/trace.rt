@@ -68,7 +68,8 @@ fn cut_word(text: &[u8]) -> (&[u8], Option<&[u8]>)
     }
 }
 
-/// A number with one more decimal digit behind its own, if the octet is a digit and it stays below 2^64.
+/// A number with one more decimal digit behind its own, if the octet is a digit and it stays below
+/// 2^64.
 fn with_digit(number: u64, octet: u8) -> Option<u64>
     ensures { result ≡ spec.with_digit number octet }
 {
@@ -82,7 +83,8 @@ fn with_digit(number: u64, octet: u8) -> Option<u64>
     number.checked_mul(10)?.checked_add(digit)
 }
 
-/// The number that decimal digits write, if it is below 2^64. There may be leading zeros, and no sign.
+/// The number that decimal digits write, if it is below 2^64. There may be leading zeros, and no
+/// sign.
 fn number(word: &[u8]) -> Option<u64>
     ensures { result ≡ read_number word.now }
 {
@@ -323,7 +325,8 @@ pub fn read_trace_line(line: &[u8]) -> Option<TraceLine<'_>>
     moment_line(line)
 }
 
-/// What a line tells of the process: of a contact, an input or a measure. None where it can't be read, or tells of something else.
+/// What a line tells of the process: of a contact, an input or a measure. None where it can't be
+/// read, or tells of something else.
 pub fn read_process_line(line: &[u8]) -> Option<NamedEvent<'_>>
     ensures { option_map named_view result ≡ process_of (trace_line_of line.now) }
 {

@@ -17,7 +17,8 @@ const DATA_AT: usize = 7;
 // The longest TSDU, in octets.
 const TSDU_MAX: usize = 70_000;
 
-/// The octets of an unfinished group of data TPDUs and of an unfinished frame, and what the last TPDU completed.
+/// The octets of an unfinished group of data TPDUs and of an unfinished frame, and what the last
+/// TPDU completed.
 #[derive(Drop)]
 pub struct Assembly {
     pub(crate) alloc: Global,
@@ -43,6 +44,7 @@ fn cut_out(octets: &mut Vec<u8>, at: usize, count: usize)
 }
 
 impl Assembly {
+    /// An assembly on which nothing has come.
     pub(crate) fn new(alloc: Global, number: u16) -> Assembly
         ensures sound { IsSound result }
         ensures number { result.number ≡ number }
@@ -176,7 +178,8 @@ impl Assembly {
         }
     }
 
-    /// Takes octets of the piece up to the end of the TPDU that completes something, or all of them.
+    /// Takes octets of the piece up to the end of the TPDU that completes something, or all of
+    /// them.
     pub(crate) fn advance(&mut self, piece: &[u8]) -> Result<(usize, Got), TransportFault>
         requires { IsSound self.old }
         ensures sound { OnOk result (IsSound self.new) }

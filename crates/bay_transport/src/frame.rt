@@ -77,8 +77,8 @@ pub(crate) fn front_of(octets: &[u8]) -> Front
     }
 }
 
-/// How many octets can follow the beginning of a frame before more has to be known: those up to the end of the length, or
-/// else those up to the end of the frame.
+/// How many octets can follow the beginning of a frame before more has to be known: those up to the
+/// end of the length, or else those up to the end of the frame.
 pub(crate) fn wanted(begun: &[u8]) -> usize
     requires { spec.front_of begun.now ≡ Front.Begun }
     ensures wanted { result ≡ spec.wanted begun.now }

@@ -28,6 +28,7 @@ pub struct Reader {
 }
 
 impl Reader {
+    /// A reader to which nothing has come.
     pub(crate) fn new(alloc: Global, number: u16) -> Reader
         ensures kept { IsKept result }
         ensures received { received_of result ≡ record { stream = record { number = number; left = start }; shown = [] } }
@@ -57,7 +58,8 @@ impl Reader {
         self.stop(Phase::Closed);
     }
 
-    /// Takes octets up to the end of the TPDU that completes something, or all, and says how many and what is completed.
+    /// Takes octets up to the end of the TPDU that completes something, or all, and says how many
+    /// and what is completed.
     pub(crate) fn feed(&mut self, piece: &[u8]) -> Result<Fed, TransportFault>
         requires { IsKept self.old }
         ensures kept { IsKept self.new }

@@ -198,8 +198,9 @@ fn respond(
     Ok(size)
 }
 
-/// Writes the answer to a request on the association of this number, and gives the size agreed in octets. The body stands
-/// behind the request's length indicator and code; `again` says that a request came before.
+/// Writes the answer to a request on the association of this number, and gives the size agreed in
+/// octets. The body stands behind the request's length indicator and code; `again` says that a
+/// request came before.
 pub(crate) fn answer(
     reply: &mut Vec<u8>,
     number: u16,

@@ -53,7 +53,8 @@ impl Model for Tree {
     ghost invariant = { λ t. IsArena t.nodes.items t.index };
 }
 
-/// Gives a place a value. A plain value that follows one of its own type is written over it, which saves the move of a whole leaf.
+/// Gives a place a value. A plain value that follows one of its own type is written over it, which
+/// saves the move of a whole leaf.
 #[inline(always)]
 fn put_leaf(place: &mut Option<Leaf>, leaf: Leaf)
     ensures { place.new ≡ Some leaf }
@@ -178,7 +179,8 @@ impl Tree {
         Some(Handle { index })
     }
 
-    /// The next row below the same parent; None for a row of one word, and after the parent's last row.
+    /// The next row below the same parent; None for a row of one word, and after the parent's last
+    /// row.
     pub fn beside(&self, handle: Handle) -> Option<Handle>
         requires { IsHandle self.now handle }
         ensures next { result ≡ next_beside self.now handle }
@@ -233,8 +235,8 @@ impl Tree {
         self.nodes[handle.index].name.word()
     }
 
-    /// The first names that follow a row's, or the first of all where no name is given, and whether there are
-    /// more. Want of memory changes nothing.
+    /// The first names that follow a row's, or the first of all where no name is given, and whether
+    /// there are more. Want of memory changes nothing.
     pub fn names_after(&self, after: Option<&str>, count: usize) -> Result<Names, NamesFault>
         ensures page { IfOk result (λ page. page ≡ page_after self.now (option_copied after.entry) count) }
         ensures unknown { (result ≡ Err NamesFault.NoSuchName) ↔ IsUnknown self.now (option_copied after.entry) }

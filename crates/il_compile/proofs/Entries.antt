@@ -144,7 +144,8 @@ module _ (c : Checked) (now : ℕ) where
 
   -- ---- operations
 
-  -- what code gives from cells and a memory: what is meant, with its result in one cell on those below
+  -- what code gives from cells and a memory: what is meant, with its result in one cell on those
+  -- below
   pub record Gives (code : List Instr) (from : Core) (below : List Value) (t : Option ElementaryType) (meant : Option State) : Type 0 where
     pub state : State
     pub is : meant ≡ Some state

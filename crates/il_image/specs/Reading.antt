@@ -1,4 +1,5 @@
--- Reading one item at the front of octets: the item and the octets behind it, or the first fault from the left.
+-- Reading one item at the front of octets: the item and the octets behind it, or the first fault
+-- from the left.
 use Rattle.std.specs.Prelude.{ℕ, ℤ, ◌≡◌, ◌+◌, ◌-◌, ◌≤◌, ◌++◌, List, [], ◌∷◌, length, drop, Option, Some, None, Result, Ok, Err, nat_lt, if◌then◌else◌}
 use Rattle.std.specs.Int.{w16, cast_signed, from_be_bytes}
 use Rattle.bay_base.specs.declared.types.ElementaryType.{ElementaryType}

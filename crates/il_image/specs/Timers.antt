@@ -73,14 +73,15 @@ pub record LastRun (input : Bool) (calls : List Call) (first : Call) : Type 0 wh
   pub later_have : AllHave input later
   pub begins : IsBroken input before
 
--- The last call has IN TRUE, and PT has passed by then since the first call of the unbroken run of IN TRUE.
+-- The last call has IN TRUE, and PT has passed by then since the first call of the unbroken run of
+-- IN TRUE.
 pub record HasPassed (last : Call) (earlier : List Call) : Type 0 where
   pub first : Call
   pub run : LastRun true (last ∷ earlier) first
   pub passed : last.preset ≤ last.moment - first.moment
 
--- An earlier call than the last has IN TRUE, and less than PT has passed by the last since the first call of the
--- unbroken run of IN FALSE.
+-- An earlier call than the last has IN TRUE, and less than PT has passed by the last since the
+-- first call of the unbroken run of IN FALSE.
 pub record HasNotPassed (last : Call) (earlier : List Call) : Type 0 where
   pub first : Call
   pub run : LastRun false (last ∷ earlier) first

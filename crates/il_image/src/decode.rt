@@ -31,6 +31,7 @@ fn behind_mark(octets: &[u8]) -> Result<&[u8], ImageFault>
     }
 }
 
+// The version of the format.
 fn version_at(octets: &[u8]) -> Result<(Version, &[u8]), ImageFault>
     ensures { Gives (λ r. (r.0, r.1.now)) result (spec.version_at octets.now) }
 {
@@ -56,6 +57,7 @@ fn type_of_octet(version: Version, octet: u8) -> Option<ElementaryType>
     }
 }
 
+// The type at the front of octets.
 fn type_at(version: Version, octets: &[u8]) -> Result<(ElementaryType, &[u8]), ImageFault>
     ensures { Gives (λ r. (r.0, r.1.now)) result (spec.type_at version octets.now) }
 {
@@ -78,6 +80,7 @@ fn access_at(octets: &[u8]) -> Result<(bool, &[u8]), ImageFault>
     }
 }
 
+// Whether an octet may stand in a name: a capital letter, a digit or `_`.
 fn is_name_octet(octet: u8) -> bool
     ensures { result ≡ spec_images.is_name_octet octet }
 {
@@ -119,6 +122,7 @@ fn name_of_length(count: usize, octets: &[u8]) -> Result<(&str, &[u8]), ImageFau
     Ok((text_of(name), rest))
 }
 
+// A name behind the octet of its length, which is 1 to 64.
 fn name_at(octets: &[u8]) -> Result<(&str, &[u8]), ImageFault>
     ensures { Gives (λ r. (r.0.now, r.1.now)) result (spec.name_at octets.now) }
 {
@@ -129,6 +133,7 @@ fn name_at(octets: &[u8]) -> Result<(&str, &[u8]), ImageFault>
     name_of_length(usize::from(count), rest)
 }
 
+// A point: its type, whether it may be written, and its name.
 #[tactic(auto, unfolding(crate::specs::Decoding::point_at))]
 fn point_at(
     alloc: Global,
@@ -161,6 +166,7 @@ fn value_size(version: Version) -> Size
     }
 }
 
+// A variable: its type and its initial value.
 #[tactic(auto, unfolding(crate::specs::Decoding::variable_at))]
 fn variable_at(version: Version, octets: &[u8]) -> Result<(Value, &[u8]), ImageFault>
     ensures { Gives (λ r. (r.0, r.1.now)) result (spec.variable_at version octets.now) }
@@ -169,6 +175,7 @@ fn variable_at(version: Version, octets: &[u8]) -> Result<(Value, &[u8]), ImageF
     value_at(value_size(version), elementary, rest)
 }
 
+// A timer's kind. Version 1 has no octet for it, and only timers on delay.
 #[tactic(auto, unfolding(crate::specs::Decoding::timer_at))]
 fn timer_at(version: Version, octets: &[u8]) -> Result<(TimerKind, &[u8]), ImageFault>
     ensures { Gives (λ r. (r.0, r.1.now)) result (spec.timer_at version octets.now) }
@@ -184,6 +191,7 @@ fn timer_at(version: Version, octets: &[u8]) -> Result<(TimerKind, &[u8]), Image
     }
 }
 
+// The points behind their count.
 fn points_at(
     alloc: Global,
     version: Version,
@@ -202,6 +210,7 @@ fn points_at(
     Ok((Listing::new(points), rest))
 }
 
+// The variables behind their count.
 fn variables_at(
     alloc: Global,
     version: Version,
@@ -219,6 +228,7 @@ fn variables_at(
     Ok((Listing::new(variables), rest))
 }
 
+// The timers behind their count.
 fn timers_at(
     alloc: Global,
     version: Version,
@@ -263,9 +273,10 @@ fn code_at(alloc: Global, version: Version, octets: &[u8]) -> Result<Listing<u8>
     Err(ImageFault::Truncated)
 }
 
-/// The image that octets spell, in version 1 or 2 of the format, or their first fault from the left. Memory can be wanting only where the
-/// octets begin with the mark, a version and the number of points; what is taken is a few times the octets', and one octet for each timer
-/// of version 1, of which there are at most 65,535.
+/// The image that octets spell, in version 1 or 2 of the format, or their first fault from the
+/// left. Memory can be wanting only where the octets begin with the mark, a version and the number
+/// of points; what is taken is a few times the octets', and one octet for each timer of version 1,
+/// of which there are at most 65,535.
 #[tactic(auto, unfolding(crate::specs::Decoding::decoded))]
 pub fn decode(alloc: Global, octets: &[u8]) -> Result<Image, ImageFault>
     ensures image { GivesButMemory ImageFault.OutOfMemory (λ i. i) result (decoded octets.now) }

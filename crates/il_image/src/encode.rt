@@ -24,6 +24,8 @@ fn type_octet(elementary: ElementaryType) -> u8
     }
 }
 
+// Appends a point as an image has it: its type, whether it may be written, and its name behind its
+// length.
 fn push_point(octets: &mut Vec<u8>, point: &ImagePoint) -> Result<(), AllocError>
     requires { HasName point.now }
     ensures { OnOk result (octets.new.items ≡ octets.old.items ++ point_octets point.now) }
@@ -35,6 +37,7 @@ fn push_point(octets: &mut Vec<u8>, point: &ImagePoint) -> Result<(), AllocError
     octets.extend_from_slice(name)
 }
 
+// Appends the points behind their count.
 fn push_points(octets: &mut Vec<u8>, points: &[ImagePoint]) -> Result<(), AllocError>
     requires few { length points.now ≤ 65_535 }
     requires names { Each HasName points.now }
@@ -47,6 +50,7 @@ fn push_points(octets: &mut Vec<u8>, points: &[ImagePoint]) -> Result<(), AllocE
     Ok(())
 }
 
+// Appends a variable: its type and its initial value.
 fn push_variable(octets: &mut Vec<u8>, value: Value) -> Result<(), AllocError>
     ensures { OnOk result (octets.new.items ≡ octets.old.items ++ variable_octets Version.Two value) }
 {
@@ -54,6 +58,7 @@ fn push_variable(octets: &mut Vec<u8>, value: Value) -> Result<(), AllocError>
     push_signed(octets, Size::Eight, value.number())
 }
 
+// Appends the variables behind their count.
 fn push_variables(octets: &mut Vec<u8>, values: &[Value]) -> Result<(), AllocError>
     requires { length values.now ≤ 65_535 }
     ensures { OnOk result (octets.new.items ≡ octets.old.items ++ counted (variable_octets Version.Two) values.now) }
@@ -65,6 +70,7 @@ fn push_variables(octets: &mut Vec<u8>, values: &[Value]) -> Result<(), AllocErr
     Ok(())
 }
 
+// Appends a timer's kind.
 fn push_timer(octets: &mut Vec<u8>, kind: TimerKind) -> Result<(), AllocError>
     ensures { OnOk result (octets.new.items ≡ octets.old.items ++ timer_octets Version.Two kind) }
 {
@@ -74,6 +80,7 @@ fn push_timer(octets: &mut Vec<u8>, kind: TimerKind) -> Result<(), AllocError>
     }
 }
 
+// Appends the timers behind their count.
 fn push_timers(octets: &mut Vec<u8>, kinds: &[TimerKind]) -> Result<(), AllocError>
     requires { length kinds.now ≤ 65_535 }
     ensures { OnOk result (octets.new.items ≡ octets.old.items ++ counted (timer_octets Version.Two) kinds.now) }

@@ -5,8 +5,8 @@ ghost use Rattle.il_image.specs.Kinds as spec;
 use crate::arithmetic::Width;
 use bay_base::types::ElementaryType;
 
-/// What is known of a value on the operand stack. That a number is not zero says more than its type, and a type more than
-/// nothing.
+/// What is known of a value on the operand stack. That a number is not zero says more than its
+/// type, and a type more than nothing.
 #[derive(Clone, Copy, PartialEq, Eq)]
 pub enum Kind {
     /// Some value.

@@ -66,7 +66,8 @@ pub enum TimerUse {
     LoadElapsed,
 }
 
-/// The first octet of an instruction. What the instruction needs besides stands in the octets behind it.
+/// The first octet of an instruction. What the instruction needs besides stands in the octets
+/// behind it.
 #[derive(Clone, Copy)]
 pub enum Opcode {
     Halt,

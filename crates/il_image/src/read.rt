@@ -1,5 +1,5 @@
-// Readers of one item at the front of octets. Each answers the item and the octets behind it, or the first fault from the
-// left, and takes no memory.
+// Readers of one item at the front of octets. Each answers the item and the octets behind it, or
+// the first fault from the left, and takes no memory.
 ghost use Rattle.std.specs.Prelude.{◌≡◌, ◌+◌, ◌<◌, ◌≤◌, IfOk, IfSome, length};
 ghost use Rattle.il_image.specs.Reading.{Gives, placed};
 ghost use Rattle.il_image.specs.Reading as spec;
@@ -125,7 +125,8 @@ pub(crate) fn instr_from(version: Version, octets: &[u8]) -> Result<(Instr, &[u8
     }
 }
 
-// The instruction that stands first in the last octets of code of this length, and the place behind it.
+// The instruction that stands first in the last octets of code of this length, and the place behind
+// it.
 fn first_of(size: usize, octets: &[u8]) -> Option<(Instr, usize)>
     requires { length octets.now ≤ size }
     ensures { result ≡ placed size (spec.instr_from Version.Two octets.now) }

@@ -1,4 +1,5 @@
-// Timers (IEC 61131-3:2003, table 38): one call as a function of the timer, its inputs and the moment.
+// Timers (IEC 61131-3:2003, table 38): one call as a function of the timer, its inputs and the
+// moment.
 ghost use Rattle.std.specs.Prelude.{◌≡◌};
 ghost use Rattle.il_image.specs.Timers.{called, first_state, phase_after};
 ghost use Rattle.il_image.specs.Timers as spec;
@@ -15,7 +16,8 @@ pub enum TimerKind {
 /// Where a timer stands in its delay.
 #[derive(Clone, Copy)]
 pub enum Phase {
-    /// No delay runs, and the timer has nothing to delay: IN of a TON is FALSE, or IN of a TOF was never TRUE.
+    /// No delay runs, and the timer has nothing to delay: IN of a TON is FALSE, or IN of a TOF was
+    /// never TRUE.
     Idle,
     /// IN of a TOF is TRUE.
     Held,

@@ -1,5 +1,5 @@
--- An instruction that is allowed on the kinds before it does to words what the machine of typed values does to the values that they
--- stand for.
+-- An instruction that is allowed on the kinds before it does to words what the machine of typed
+-- values does to the values that they stand for.
 use Rattle.std.proofs.Common.{◌≡◌, ℕ, zero, suc, ◌+◌, ◌<◌, ◌≤◌, ℤ, pos, Bool, true, false, not, cond, ◌&&◌, ◌||◌, List, [], ◌∷◌, length, refl, sym, ap, subst, ◌∙◌, arith, Option, Some, None}
 use Rattle.std.specs.Prelude.{slice_get, slice_set, nat_lt}
 use Rattle.std.specs.Ordering.{int_eq}
@@ -139,7 +139,8 @@ state place cells slots timers = record { place = place; cells = cells; slots = 
 abbrev pub words_for : List Value → List Value → List TimerState → Words
 words_for cells slots timers = words (words_of cells) (words_of slots) timers
 
--- It needs no more than the words have, goes on at a place, and the words then stand for the values then, which fit the kinds.
+-- It needs no more than the words have, goes on at a place, and the words then stand for the values
+-- then, which fit the kinds.
 pub record Does (types : List ElementaryType) (count now : ℕ) (i : Instr) (next place : ℕ) (cells slots : List Value) (timers : List TimerState) (kinds : List Kind) : Type 0 where
   pub ready : IsReady i (words_for cells slots timers)
   pub to : ℕ

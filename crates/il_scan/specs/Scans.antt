@@ -13,7 +13,8 @@ use Rattle.il_image.specs.Timers.{first_state}
 use Rattle.il_verify.specs.Verdicts.{IsBudget, IsDepth}
 use Rattle.il_scan.specs.Words.{AreTyped, values_of}
 
--- what callers see of a machine: its verified image, and what its slots and its timers hold between scans
+-- what callers see of a machine: its verified image, and what its slots and its timers hold between
+-- scans
 pub record Held : Type 0 where
   pub image : Image
   pub slots : List Value
@@ -54,7 +55,8 @@ read_only points = filter (λ p. not p.writable) points
 abbrev pub type_of_point : ImagePoint → ElementaryType
 type_of_point p = p.elementary
 
--- There is one input for each point that may only be read, in the table's order, and it is of its type.
+-- There is one input for each point that may only be read, in the table's order, and it is of its
+-- type.
 abbrev pub AreInputs : List ImagePoint → List Value → Type 0
 AreInputs points inputs = AreTyped (map type_of_point (read_only points)) inputs
 
@@ -87,7 +89,8 @@ abbrev pub IsWithin : List ℕ → ℕ → ℕ → ℕ → State → Type 0
 IsWithin code now depth zero s = length s.cells ≤ depth
 IsWithin code now depth (suc most) s = (length s.cells ≤ depth) × ((next : State) → turn code now s ≡ Goes next → IsWithin code now depth most next)
 
--- The machine's run from these inputs at this moment ends at HALT, after so many steps, with these slots and timers.
+-- The machine's run from these inputs at this moment ends at HALT, after so many steps, with these
+-- slots and timers.
 pub record Scans (old : Held) (inputs : List Value) (now : ℕ) (new : Held) (steps : ℕ) (outputs : List Value) : Type 0 where
   -- the image stays
   pub image : new.image ≡ old.image

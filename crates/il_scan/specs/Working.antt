@@ -1,4 +1,5 @@
--- Inner: what each instruction does to words, with no test of what they are, and what it needs for that.
+-- Inner: what each instruction does to words, with no test of what they are, and what it needs for
+-- that.
 use Rattle.std.specs.Prelude.{ℕ, ℤ, pos, ◌≡◌, ◌+◌, ◌<◌, ◌≤◌, Bool, not, List, ◌∷◌, length, drop, slice_index_or, slice_set, unsigned_abs, Option, Some, None, if◌then◌else◌}
 use Rattle.std.specs.Ordering.{int_eq}
 use Rattle.il_image.specs.declared.instr.Instr.{Instr}

@@ -81,7 +81,8 @@ fn calculate(stack: &mut Stack, operation: Operation, width: Width)
     stack.replace_top(compute(operation, width, first, second));
 }
 
-/// ADD, SUB, MUL, DIV or MOD. Each is a call of its own, so that what is done is known where the opcode is.
+/// ADD, SUB, MUL, DIV or MOD. Each is a call of its own, so that what is done is known where the
+/// opcode is.
 #[inline(always)]
 fn calculate_by(stack: &mut Stack, operation: Operation, width: Width)
     requires two { 1 < length stack.old }
@@ -234,7 +235,8 @@ fn load_elapsed(stack: &mut Stack, timers: &[Timer], number: u16)
     stack.push(i64::from(timer.elapsed));
 }
 
-/// Does the instruction with this place behind it, at this moment, and gives the place of the next one if there is one.
+/// Does the instruction with this place behind it, at this moment, and gives the place of the next
+/// one if there is one.
 #[inline(always)]
 pub(crate) fn act(
     now: u64,

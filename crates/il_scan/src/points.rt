@@ -13,7 +13,8 @@ use il_image::image::ImagePoint;
 use il_image::value::Value;
 use std::marker::Model;
 
-/// What gives a scan its inputs: a value for each point that may only be read, in the image's order.
+/// What gives a scan its inputs: a value for each point that may only be read, in the image's
+/// order.
 pub trait Inputs {
     ghost use Rattle.std.specs.Prelude.{◌≡◌, List, length};
     ghost use Rattle.bay_base.specs.declared.types.ElementaryType.{ElementaryType};

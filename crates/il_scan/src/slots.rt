@@ -170,6 +170,7 @@ pub(crate) fn give_outputs(
     }
 }
 
+/// Appends a word 0 for each point.
 fn push_zeros(slots: &mut Vec<i64>, points: &[ImagePoint]) -> Result<(), AllocError>
     ensures ok { OnOk result (slots.new.items ≡ slots.old.items ++ map (λ _. pos 0) points.now) }
     ensures memory { IfErr result (λ e. 0 < length points.now) }
@@ -180,6 +181,7 @@ fn push_zeros(slots: &mut Vec<i64>, points: &[ImagePoint]) -> Result<(), AllocEr
     Ok(())
 }
 
+/// Appends the word of each variable's initial value.
 fn push_numbers(slots: &mut Vec<i64>, variables: &[Value]) -> Result<(), AllocError>
     ensures ok { OnOk result (slots.new.items ≡ slots.old.items ++ words_of variables.now) }
     ensures memory { IfErr result (λ e. 0 < length variables.now) }

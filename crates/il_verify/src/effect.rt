@@ -1,4 +1,5 @@
-// What an instruction does to the kinds on the stack, and the faults that it has by itself. The top is the last element.
+// What an instruction does to the kinds on the stack, and the faults that it has by itself. The top
+// is the last element.
 ghost use Rattle.std.specs.Prelude.{◌≡◌, ◌≢◌, Some, None, reverse, length, OnOk, OnErr, IfErr, IfSome, IfNone, IsTrue, MatchResult, [], ◌∷◌, ◌⊎◌, ℕ, List};
 ghost use Rattle.il_image.specs.Machine as spec_machine;
 ghost use Rattle.il_image.specs.Effects.{below, compares, effect, looks_at, second_kind, two, type_of_kind, widens, with_truth};
@@ -18,6 +19,7 @@ use il_image::kind::{Kind, is_within};
 use il_image::opcode::{SlotUse, TimerUse, When, Widening};
 use il_image::value::Value;
 
+// Puts a kind on the stack.
 fn put(kinds: &mut Vec<Kind>, kind: Kind) -> Result<(), VerifyFault>
     ensures ok { OnOk result (reverse kinds.new.items ≡ kind ∷ reverse kinds.old.items) }
     ensures err { IfErr result (λ f. f ≡ VerifyFault.OutOfMemory) }
@@ -70,6 +72,7 @@ fn take_two(kinds: &mut Vec<Kind>) -> Option<(Kind, Kind)>
     Some((top, second))
 }
 
+// Whether an operation needs a divisor that is not zero.
 fn divides(operation: Operation) -> bool
     ensures { result ≡ spec_machine.divides operation }
 {
@@ -122,6 +125,7 @@ fn type_of(kind: Kind) -> Option<ElementaryType>
     }
 }
 
+// Whether a comparison takes values of these types: of one type, and of BOOL only for = and <>.
 fn are_compared(comparison: Comparison, first: ElementaryType, second: ElementaryType) -> bool
     ensures { result ≡ spec.are_compared comparison first second }
 {

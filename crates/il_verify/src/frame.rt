@@ -19,6 +19,7 @@ pub(crate) struct Frame {
     pub longest: u32,
 }
 
+// A copy of the kinds on a stack.
 fn copy_of(alloc: Global, kinds: &[Kind]) -> Result<Vec<Kind>, AllocError>
     ensures { IfOk result (λ v. v.items ≡ kinds.now) }
 {

@@ -43,6 +43,7 @@ fn stop_at(fault: VerifyFault, place: usize) -> Stop
     }
 }
 
+// Whether a scan ends here.
 fn is_halt(instr: Instr) -> bool
     ensures { IsTrue result ↔ (instr ≡ Instr.Halt) }
 {
@@ -59,7 +60,8 @@ fn raised(halts: bool, longest: u32, budget: u32) -> u32
     if halts { longest.max(budget) } else { budget }
 }
 
-/// Goes over the places in their order. A frame moves to the next place; one is copied only for a jump.
+/// Goes over the places in their order. A frame moves to the next place; one is copied only for a
+/// jump.
 pub(crate) fn pass(alloc: Global, image: &Image, plan: &Plan) -> Result<Measures, Stop>
     requires plan { IsPlan image.now plan.now }
     requires some { 0 < length image.now.code }

@@ -15,6 +15,7 @@ pub struct Slot {
     pub writable: bool,
 }
 
+// Appends the slot of each point.
 fn push_points(slots: &mut Vec<Slot>, points: &[ImagePoint]) -> Result<(), AllocError>
     ensures { OnOk result (slots.new.items ≡ slots.old.items ++ map point_slot points.now) }
 {
@@ -27,6 +28,7 @@ fn push_points(slots: &mut Vec<Slot>, points: &[ImagePoint]) -> Result<(), Alloc
     Ok(())
 }
 
+// Appends the slot of each variable, which may be written.
 fn push_variables(slots: &mut Vec<Slot>, variables: &[Value]) -> Result<(), AllocError>
     ensures { OnOk result (slots.new.items ≡ slots.old.items ++ map variable_slot variables.now) }
 {
