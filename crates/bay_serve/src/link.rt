@@ -25,8 +25,8 @@ pub enum Got {
 /// waits.
 ///
 /// Its meaning is `does old call new`: this call, with what it answered, may have led from the one
-/// state of the link to the other. A link in memory gives its own. Of a link over sockets nothing
-/// is known, and it keeps the default.
+/// state of the link to the other. A link of which more is known can give its own. Of a link over
+/// sockets nothing is known, and it keeps the default.
 pub trait Link {
     ghost does: { Self → Call → Self → Type 0 } = { λ _ _ _. Unit {0} };
 
