@@ -9,7 +9,10 @@ use bay_tree::leaf::Dbpos;
 
 /// The last moment that an event may have, in milliseconds since 1970: the end of the last second
 /// that a time stamp of 32 bits of seconds can tell (IEC 61850-8-1, UtcTime).
-pub(crate) const LAST_MOMENT: u64 = 4_294_967_295_999;
+pub const LAST_MOMENT: u64 = 4_294_967_295_999;
+
+/// How many associations may be open at a time; their numbers are 1 to this.
+pub const ASSOCIATIONS: usize = 8;
 
 /// What happens to a device at a moment. Associations have the numbers 1 to 8.
 #[derive(Clone, Copy, Debug)]

@@ -7,9 +7,9 @@ ghost use Rattle.bay_serve.specs.Turns as spec;
 use crate::link::Link;
 use crate::notes::Notes;
 use crate::sending::step_quietly;
-use crate::server::{ASSOCIATIONS, Server};
+use crate::server::Server;
 use crate::told::Closing;
-use bay_device::event::Event;
+use bay_device::event::{ASSOCIATIONS, Event};
 
 /// Closes an association at once; what is left in its queue is lost.
 pub fn cut_off<L: Link>(

@@ -5,11 +5,10 @@ ghost use Rattle.bay_serve.specs.Turns.{goes, leaves, left_noted, nothing_noted,
 ghost use Rattle.bay_serve.specs.Turns as spec;
 ghost use Rattle.bay_serve.specs.declared.standing.Standing.TheVariants.{Gone};
 
-use crate::server::ASSOCIATIONS;
 use crate::standing::Standing;
 use crate::told::{Closing, Turn};
 use bay_base::listing::Listing;
-use bay_device::event::Why;
+use bay_device::event::{ASSOCIATIONS, Why};
 use bay_services::answer::Command;
 use std::alloc::{AllocError, Global};
 use std::marker::Model;

@@ -8,8 +8,9 @@ ghost use Rattle.bay_serve.specs.Turns as spec;
 use crate::closing::{cut_off, settle};
 use crate::link::Link;
 use crate::notes::Notes;
-use crate::server::{ASSOCIATIONS, Server};
+use crate::server::Server;
 use crate::told::Closing;
+use bay_device::event::ASSOCIATIONS;
 
 /// How an offer went: how many octets were taken, and whether a write failed.
 #[derive(Clone, Copy)]

@@ -9,9 +9,9 @@ use crate::closing::{cut_off, settle};
 use crate::link::{Got, Link};
 use crate::notes::Notes;
 use crate::sending::{put_all, put_ended, step_quietly, tell_commands};
-use crate::server::{ASSOCIATIONS, Server};
+use crate::server::Server;
 use crate::told::Closing;
-use bay_device::event::{Event, Why};
+use bay_device::event::{ASSOCIATIONS, Event, Why};
 
 /// How many octets of a client are read in a turn at most.
 const PIECE: usize = 4096;

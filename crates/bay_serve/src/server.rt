@@ -9,13 +9,10 @@ ghost use Rattle.bay_serve.specs.Turns as spec;
 
 use crate::queue::Queue;
 use bay_device::device::Device;
-use bay_device::event::{Event, Step};
+use bay_device::event::{ASSOCIATIONS, Event, Step};
 use bay_device::fault::StepFault;
 use std::alloc::{AllocError, Global};
 use std::marker::Model;
-
-/// How many associations there are.
-pub(crate) const ASSOCIATIONS: usize = 8;
 
 /// A device, and for each association at most 262,144 octets that are still to be sent to it. The
 /// room for them was taken at first.

@@ -16,13 +16,10 @@ use crate::reading::{accept_one, read_each};
 use crate::sending::{put_ended, step_quietly};
 use crate::server::Server;
 use crate::told::Turn;
-use bay_device::event::Event;
+use bay_device::event::{Event, LAST_MOMENT};
 use bay_trace::placing::placed_event;
 use bay_trace::trace::NamedEvent;
 use std::alloc::{AllocError, Global};
-
-/// The last moment that an event may have, in milliseconds since 1970.
-const LAST_MOMENT: u64 = 4_294_967_295_999;
 
 /// What a line tells of the process happens at the turn's moment.
 fn tell(server: &mut Server, notes: &mut Notes, now: u64, event: NamedEvent<'_>)
