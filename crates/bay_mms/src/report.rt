@@ -55,7 +55,7 @@ fn put_report_around(writer: &mut Writer, start: usize, inner: usize) -> Result<
     put_both_around(writer, start, list, Tag::context_constructed(3))
 }
 
-// Writes a small number under a context-specific tag.
+// Writes a small number under the context-specific tag of a number.
 fn put_small(writer: &mut Writer, number: u8, value: u8) -> Result<(), WriteFault>
     requires { number < 31 }
     ensures { Appends writer.old result writer.new (element (context number) (integer_octets (pos value))) }

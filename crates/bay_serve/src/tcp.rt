@@ -86,10 +86,10 @@ impl TcpLink {
 impl Link for TcpLink {
     ghost failures = { λ link. link.failures };
 
-    fn accept(&mut self, a: u16) -> Result<bool, LinkFault> {
+    fn accept(&mut self, association: u16) -> Result<bool, LinkFault> {
         match accept_one(&self.listener) {
             Ok(stream) => {
-                self.streams[a as usize - 1] = Some(stream);
+                self.streams[association as usize - 1] = Some(stream);
                 Ok(true)
             }
             Err(error) if would_wait(&error) => Ok(false),
@@ -100,8 +100,8 @@ impl Link for TcpLink {
         }
     }
 
-    fn read(&mut self, a: u16, room: &mut [u8]) -> Result<Got, LinkFault> {
-        match read_some(&self.streams[a as usize - 1], room) {
+    fn read(&mut self, association: u16, room: &mut [u8]) -> Result<Got, LinkFault> {
+        match read_some(&self.streams[association as usize - 1], room) {
             Ok(0) => Ok(Got::End),
             Ok(n) => Ok(Got::Bytes(n)),
             Err(error) if would_wait(&error) => Ok(Got::Nothing),
@@ -112,8 +112,8 @@ impl Link for TcpLink {
         }
     }
 
-    fn write(&mut self, a: u16, octets: &[u8]) -> Result<usize, LinkFault> {
-        match write_some(&self.streams[a as usize - 1], octets) {
+    fn write(&mut self, association: u16, octets: &[u8]) -> Result<usize, LinkFault> {
+        match write_some(&self.streams[association as usize - 1], octets) {
             Ok(n) => Ok(n),
             Err(error) if would_wait(&error) => Ok(0),
             Err(_) => {
@@ -123,7 +123,7 @@ impl Link for TcpLink {
         }
     }
 
-    fn close(&mut self, a: u16) {
-        self.streams[a as usize - 1] = None;
+    fn close(&mut self, association: u16) {
+        self.streams[association as usize - 1] = None;
     }
 }
