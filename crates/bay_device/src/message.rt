@@ -178,7 +178,9 @@ fn answer(
     ensures ok { OnOk result ((connections : List (Option Talk)) → done_of (state_view connections state.new) output.new
         ≡ answered_with client.association (terms_of connection.now.talk) (answered client connection.now.pdu (bay_of (state_view connections state.old)))
         (done_of (state_view connections state.old) output.old)) }
-    ensures back { OnErr result ((connections : List (Option Talk)) (standing : Standing) → put_back standing (state_view connections state.new) ≡ put_back standing (state_view connections state.old)) }
+    ensures back { OnErr result ((connections : List (Option Talk)) (standing : Standing)
+        → put_back standing (state_view connections state.new)
+        ≡ put_back standing (state_view connections state.old)) }
     ensures sent { take (length output.old.sent.items) output.new.sent.items ≡ output.old.sent.items }
     ensures commands { take (length output.old.commands.items) output.new.commands.items ≡ output.old.commands.items }
 {

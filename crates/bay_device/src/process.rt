@@ -24,8 +24,14 @@ use il_scan::points::Outputs;
 /// quality.
 pub fn contact(bay: &mut ServedBay, now: u64, switch: usize, position: Dbpos) -> bool
     requires { switch < length bay.old.switches }
-    ensures changed { (s : Switch) → slice_get (switches_of bay.old.switches) switch ≡ Some s → result ≡ not (tells (switch_names (switches_of bay.old.switches) switch s).position position bay.old.tree) }
-    ensures after { (s : Switch) → slice_get (switches_of bay.old.switches) switch ≡ Some s → bay_view bay.new ≡ record (bay_view bay.old) { rows = rows_after_contact (switch_names (switches_of bay.old.switches) switch s) position now bay.old.tree } }
+    ensures changed { (s : Switch) → slice_get (switches_of bay.old.switches) switch ≡ Some s
+        → result ≡ not (tells (switch_names (switches_of bay.old.switches) switch s).position
+        position bay.old.tree) }
+    ensures after { (s : Switch) → slice_get (switches_of bay.old.switches) switch ≡ Some s
+        → bay_view bay.new ≡ record (bay_view bay.old) {
+          rows = rows_after_contact
+              (switch_names (switches_of bay.old.switches) switch s) position now bay.old.tree;
+        } }
     ensures switches { bay.new.switches ≡ bay.old.switches }
     ensures layout { layout_of bay.new.tree ≡ layout_of bay.old.tree }
 {

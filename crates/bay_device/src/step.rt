@@ -96,7 +96,10 @@ impl DeviceState {
     fn take_contact(&mut self, now: u64, switch: usize, position: Dbpos) -> Option<Sent>
         requires { switch < length self.old.bay.switches }
         ensures sent { (connections : List (Option Talk)) → result ≡ reached_at switch position (state_view connections self.old) }
-        ensures after { (connections : List (Option Talk)) (s : Switch) → slice_get (switches_of self.old.bay.switches) switch ≡ Some s → state_view connections self.new ≡ contact_taken now switch s position (state_view connections self.old) }
+        ensures after { (connections : List (Option Talk)) (s : Switch)
+            → slice_get (switches_of self.old.bay.switches) switch ≡ Some s
+            → state_view connections self.new
+            ≡ contact_taken now switch s position (state_view connections self.old) }
     {
         let changed = process::contact(&mut self.bay, now, switch, position);
         self.is_stale |= changed;

@@ -121,7 +121,9 @@ fn proposal_of(
     nesting: Option<&Value<'_>>,
     detail: &Value<'_>,
 ) -> Option<Proposal>
-    ensures { result ≡ spec.proposal_of (option_map part_of (option_copied size.entry)) (part_of calling.now) (part_of called.now) (option_map part_of (option_copied nesting.entry)) (part_of detail.now) }
+    ensures { result ≡ spec.proposal_of (option_map part_of (option_copied size.entry))
+        (part_of calling.now) (part_of called.now)
+        (option_map part_of (option_copied nesting.entry)) (part_of detail.now) }
 {
     let size = size_of(size)?;
     let calling = outstanding_as(Tag::context(1), calling)?;

@@ -181,7 +181,10 @@ fn write_attributes(
     handle: &Handle,
 ) -> Result<Vec<u8>, WriteFault>
     requires { IsHandle tree.now handle.now }
-    ensures { Gives WriteFault.OutOfMemory (λ octets. octets.items) result (written (confirmed id (element (constructed 6) (element (context 0) (truth_octets false) ++ element (constructed 2) (type_text (type_at tree.now handle.now)))))) }
+    ensures { Gives WriteFault.OutOfMemory (λ octets. octets.items) result
+        (written (confirmed id (element (constructed 6)
+        (element (context 0) (truth_octets false)
+        ++ element (constructed 2) (type_text (type_at tree.now handle.now)))))) }
 {
     let mut content = Writer::new(alloc);
     put_attributes(&mut content, tree, handle)?;

@@ -91,5 +91,7 @@ pub fn control_rows(
 /// The rows of a control stay where they are with each new value of a row. Does nothing; its
 /// contract is the law.
 pub fn control_rows_stay()
-    ensures { (before after : List Row) (names : ControlNames) (handles : declared.ControlRows) → layout_of before ≡ layout_of after → AreControlRows before names handles → AreControlRows after names handles }
+    ensures { (before after : List Row) (names : ControlNames) (handles : declared.ControlRows)
+        → layout_of before ≡ layout_of after → AreControlRows before names handles
+        → AreControlRows after names handles }
 {}

@@ -122,7 +122,10 @@ impl ServedBay {
     ) -> Result<(), AddCause>
         requires { switch < length self.old.switches }
         ensures answer { result ≡ (operate_outcome client.association switch ask (view_of client switch (bay_view self.old)) client.now self.old.controls).answer }
-        ensures after { bay_view self.new ≡ with_controls (operate_outcome client.association switch ask (view_of client switch (bay_view self.old)) client.now self.old.controls).after (bay_view self.old) }
+        ensures after { bay_view self.new
+            ≡ with_controls (operate_outcome client.association switch ask
+            (view_of client switch (bay_view self.old)) client.now self.old.controls).after
+            (bay_view self.old) }
         ensures layout { layout_of self.new.tree ≡ layout_of self.old.tree }
         ensures back { (standing : Standing) → standing_again standing (bay_view self.new) ≡ standing_again standing (bay_view self.old) }
         ensures switches { self.new.switches ≡ self.old.switches }

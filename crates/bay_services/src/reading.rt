@@ -64,8 +64,13 @@ impl ServedBay {
         response: &mut ReadResponse,
     ) -> Result<(), WriteFault>
         requires { IsHandle self.old.tree row }
-        ensures ok { OnOk result (reading self.new response.new ≡ select_done client switch (name_at self.old.tree row) (reading self.old response.old) (select_outcome client.association switch client.now self.old.controls)) }
-        ensures long { IfErr result (λ fault. fault ≡ TooLong → 4294967296 ≤ length (select_done client switch (name_at self.old.tree row) (reading self.old response.old) (select_outcome client.association switch client.now self.old.controls)).results) }
+        ensures ok { OnOk result (reading self.new response.new
+            ≡ select_done client switch (name_at self.old.tree row) (reading self.old response.old)
+            (select_outcome client.association switch client.now self.old.controls)) }
+        ensures long { IfErr result (λ fault. fault ≡ TooLong
+            → 4294967296 ≤ length (select_done client switch (name_at self.old.tree row)
+            (reading self.old response.old)
+            (select_outcome client.association switch client.now self.old.controls)).results) }
         ensures back { (standing : Standing) → standing_again standing (bay_view self.new) ≡ standing_again standing (bay_view self.old) }
         ensures switches { self.new.switches ≡ self.old.switches }
         ensures layout { layout_of self.new.tree ≡ layout_of self.old.tree }

@@ -171,7 +171,10 @@ impl ServedBay {
     ) -> Result<(), AllocError>
         requires { IsHandle self.now.tree part.row }
         ensures response { OnOk result (written.new.response ≡ written.old.response ++ failure_result 3) }
-        ensures reports { OnOk result (written.new.reports.items ≡ written.old.reports.items ++ refusal_reports client part.switch (name_at self.now.tree part.row) (cancelling control.now) (bay_view self.now) (Err why)) }
+        ensures reports { OnOk result (written.new.reports.items
+            ≡ written.old.reports.items ++ refusal_reports client part.switch
+            (name_at self.now.tree part.row) (cancelling control.now) (bay_view self.now)
+            (Err why)) }
         ensures commands { written.new.commands ≡ written.old.commands }
         ensures ending { written.new.ending ≡ written.old.ending }
     {
@@ -191,7 +194,9 @@ impl ServedBay {
     ) -> Result<(), AllocError>
         requires { IsHandle self.now.tree part.row }
         ensures response { OnOk result (written.new.response ≡ written.old.response ++ decision_result answer) }
-        ensures reports { OnOk result (written.new.reports.items ≡ written.old.reports.items ++ refusal_reports client part.switch (name_at self.now.tree part.row) (cancelling control.now) (bay_view self.now) answer) }
+        ensures reports { OnOk result (written.new.reports.items
+            ≡ written.old.reports.items ++ refusal_reports client part.switch
+            (name_at self.now.tree part.row) (cancelling control.now) (bay_view self.now) answer) }
         ensures commands { written.new.commands ≡ written.old.commands }
         ensures ending { written.new.ending ≡ written.old.ending }
     {
@@ -211,7 +216,9 @@ impl ServedBay {
         written: &mut Written,
     ) -> Result<(), AllocError>
         requires { IsHandle self.old.tree part.row }
-        ensures ok { OnOk result (writing self.new written.new ≡ select_with_asked client part.switch (name_at self.old.tree part.row) (writing self.old written.old) (operate_in (datum_of given.now))) }
+        ensures ok { OnOk result (writing self.new written.new
+            ≡ select_with_asked client part.switch (name_at self.old.tree part.row)
+            (writing self.old written.old) (operate_in (datum_of given.now))) }
         ensures back { (standing : Standing) → standing_again standing (bay_view self.new) ≡ standing_again standing (bay_view self.old) }
         ensures switches { self.new.switches ≡ self.old.switches }
         ensures layout { layout_of self.new.tree ≡ layout_of self.old.tree }
@@ -288,7 +295,10 @@ impl ServedBay {
         ensures response { OnOk result (written.new.response ≡ written.old.response ++ success_result) }
         ensures reports { written.new.reports ≡ written.old.reports }
         ensures commands { OnOk result (written.new.commands.items ≡ written.old.commands.items ++ commands_for part.switch (operating operate.now) (Ok tt)) }
-        ensures ending { OnOk result (written.new.ending ≡ later_ending written.old.ending (endings client part.switch (name_at self.now.tree part.row) (operating operate.now) (bay_view self.now) (Ok tt))) }
+        ensures ending { OnOk result (written.new.ending
+            ≡ later_ending written.old.ending
+            (endings client part.switch (name_at self.now.tree part.row) (operating operate.now)
+            (bay_view self.now) (Ok tt))) }
     {
         succeed(&mut written.response)?;
         written.commands.push(Command {
