@@ -59,19 +59,6 @@ pub fn put_status(tree: &mut Tree, rows: StatusRows, value: Leaf, quality: Quali
     put(tree, rows.time, Leaf::Utc(now));
 }
 
-/// Whether two positions are one.
-pub fn same_position(first: Dbpos, second: Dbpos) -> bool
-    ensures { result ≡ spec.same_position first second }
-{
-    first == second
-}
-
-fn same_quality(first: Quality, second: Quality) -> bool
-    ensures { result ≡ spec.same_quality first second }
-{
-    first == second
-}
-
 /// The position that stands there.
 pub fn position_at(tree: &Tree, handle: Handle) -> Dbpos
     requires { HasKind (layout_of tree.now) handle kind.Dbpos }
@@ -121,7 +108,7 @@ pub fn is_position(tree: &Tree, handle: Handle, position: Dbpos) -> bool
     requires { HasKind (layout_of tree.now) handle kind.Dbpos }
     ensures { result ≡ spec.is_position position (leaf_of (name_in (layout_of tree.now) handle) tree.now) }
 {
-    same_position(position, position_at(tree, handle))
+    position == position_at(tree, handle)
 }
 
 /// Whether a quality stands there.
@@ -130,7 +117,7 @@ pub fn is_quality(tree: &Tree, handle: Handle, quality: Quality) -> bool
     ensures value { result ≡ spec.is_quality quality (leaf_of (name_in (layout_of tree.now) handle) tree.now) }
     ensures there { leaf_of (name_in (layout_of tree.now) handle) tree.now ≢ None }
 {
-    same_quality(quality, quality_at(tree, handle))
+    quality == quality_at(tree, handle)
 }
 
 /// Whether a truth value stands there.

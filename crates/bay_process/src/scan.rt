@@ -16,7 +16,7 @@ ghost use Rattle.bay_process.specs.Scans as spec;
 
 use crate::meter::BoundMeter;
 use crate::rows::{
-    StatusRows, SwitchRows, count_at, is_quality, is_truth, position_at, put_status, same_position,
+    StatusRows, SwitchRows, count_at, is_quality, is_truth, position_at, put_status,
 };
 use crate::switch::{BoundSwitch, Enabled};
 use crate::values::{ToldValues, Truths, same_truth};
@@ -48,8 +48,8 @@ fn position_value(tree: &Tree, rows: StatusRows, point: SwitchPoint) -> Value
     let position = position_at(tree, rows.value);
     match point {
         SwitchPoint::Position => Value::Short(number_of_position(position)),
-        SwitchPoint::Open => Value::Truth(same_position(Dbpos::Off, position)),
-        SwitchPoint::Closed => Value::Truth(same_position(Dbpos::On, position)),
+        SwitchPoint::Open => Value::Truth(position == Dbpos::Off),
+        SwitchPoint::Closed => Value::Truth(position == Dbpos::On),
         SwitchPoint::EnableOpen | SwitchPoint::EnableClose => Value::Truth(false),
     }
 }
