@@ -1,7 +1,7 @@
 // One tag, length and content at the front of a list of octets.
 ghost use Rattle.std.specs.Prelude.{◌≡◌, ◌+◌, ◌*◌, ◌^◌, ◌<◌, ◌≤◌, ◌==◌, ◌↔◌, Ok, Err, length, IfOk, IsOkAnd};
 ghost use Rattle.bay_ber.specs.Octets as spec_octets;
-ghost use Rattle.bay_ber.specs.Reading.{Gives, Reading, Begins, HasLargeTag, IsIndefinite, HasLongLength, IsTruncated, reading_of};
+ghost use Rattle.bay_ber.specs.Reading.{IsRead, Reading, Begins, HasLargeTag, IsIndefinite, HasLongLength, IsTruncated, reading_of};
 ghost use Rattle.bay_ber.specs.Reading as spec;
 
 use crate::fault::BerFault;
@@ -47,7 +47,7 @@ fn low_bits(first: u8) -> u8
 // The tag at the front of octets, and the octets behind it (X.690 8.1.2).
 #[tactic(auto, unfolding(crate::specs::Reading::tag_at))]
 fn tag_at(octets: &[u8]) -> Result<(Tag, &[u8]), BerFault>
-    ensures { Gives (λ x. (x.0, x.1.now)) result (spec.tag_at octets.now) }
+    ensures { IsRead (λ x. (x.0, x.1.now)) result (spec.tag_at octets.now) }
 {
     let (first, rest) = match octets {
         [] => return Err(BerFault::Truncated),
@@ -96,7 +96,7 @@ pub(crate) fn number_of(octets: &[u8]) -> u128
 // The length at the front of octets, and the octets behind it (X.690 8.1.3).
 #[tactic(auto, unfolding(crate::specs::Reading::length_at))]
 fn length_at(octets: &[u8]) -> Result<(usize, &[u8]), BerFault>
-    ensures { Gives (λ x. (x.0, x.1.now)) result (spec.length_at octets.now) }
+    ensures { IsRead (λ x. (x.0, x.1.now)) result (spec.length_at octets.now) }
 {
     let (first, rest) = match octets {
         [] => return Err(BerFault::Truncated),
@@ -122,7 +122,7 @@ fn length_at(octets: &[u8]) -> Result<(usize, &[u8]), BerFault>
 // The value at the front of octets: its tag, its length, and as many octets.
 #[tactic(auto, unfolding(crate::specs::Reading::tlv_at))]
 fn tlv_at(octets: &[u8]) -> Result<Tlv<'_>, BerFault>
-    ensures { Gives reading_of result (spec.tlv_at octets.now) }
+    ensures { IsRead reading_of result (spec.tlv_at octets.now) }
 {
     let (tag, rest) = tag_at(octets)?;
     let (length, rest) = length_at(rest)?;
@@ -149,7 +149,7 @@ pub fn read_tlv(octets: &[u8]) -> Result<Tlv<'_>, BerFault>
     ensures long_length { (result ≡ Err BerFault.LengthTooLong) ↔ HasLongLength octets.now }
     ensures truncated { (result ≡ Err BerFault.Truncated) ↔ IsTruncated octets.now }
     // The same answer, read from the left.
-    ensures exact { Gives reading_of result (spec.tlv_at octets.now) }
+    ensures exact { IsRead reading_of result (spec.tlv_at octets.now) }
 {
     tlv_at(octets)
 }

@@ -28,9 +28,9 @@ abbrev pub ◌>>=◌ : {A B : Type 0} → Result A ImageFault → (A → Result 
 (Err e) >>= f = Err e
 
 -- What a function answered, seen by view, is what reading gives.
-abbrev pub Gives : {X Y : Type 0} → (X → Y) → Result X ImageFault → Result Y ImageFault → Type 0
-Gives view (Ok x) read = read ≡ Ok (view x)
-Gives view (Err e) read = read ≡ Err e
+abbrev pub IsRead : {X Y : Type 0} → (X → Y) → Result X ImageFault → Result Y ImageFault → Type 0
+IsRead view (Ok x) read = read ≡ Ok (view x)
+IsRead view (Err e) read = read ≡ Err e
 
 -- what an octet or a number stands for, where it stands for something
 abbrev pub known : {A : Type 0} → Option A → Result A ImageFault

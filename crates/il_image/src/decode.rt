@@ -1,12 +1,12 @@
 // Images read from octets, from the left up to the first fault.
 ghost use Rattle.std.specs.Prelude.{◌≡◌, ◌≤◌, ◌^◌, ◌<◌, length, IsErrOf, IsTrue, MatchResult, None, Some};
 ghost use Rattle.std.specs.List.{list_all};
-ghost use Rattle.bay_base.specs.Exact.{Gives as GivesButMemory};
+ghost use Rattle.bay_base.specs.Exact.{Gives};
 ghost use Rattle.il_image.specs.Decoding.{TakesMemory, access_of, behind, code_fault, counted_at, decoded, kind_of_octet};
 ghost use Rattle.il_image.specs.Decoding as spec;
 ghost use Rattle.il_image.specs.Images.{mark};
 ghost use Rattle.il_image.specs.Images as spec_images;
-ghost use Rattle.il_image.specs.Reading.{Gives};
+ghost use Rattle.il_image.specs.Reading.{IsRead};
 
 use crate::fault::ImageFault;
 use crate::image::{Image, ImagePoint};
@@ -22,7 +22,7 @@ use std::alloc::Global;
 
 // The octets behind the mark.
 fn behind_mark(octets: &[u8]) -> Result<&[u8], ImageFault>
-    ensures { Gives (λ r. r.now) result (behind mark octets.now) }
+    ensures { IsRead (λ r. r.now) result (behind mark octets.now) }
 {
     match octets {
         [0x49, 0x4C, 0x42, 0x43, rest @ ..] => Ok(rest),
@@ -33,7 +33,7 @@ fn behind_mark(octets: &[u8]) -> Result<&[u8], ImageFault>
 
 // The version of the format.
 fn version_at(octets: &[u8]) -> Result<(Version, &[u8]), ImageFault>
-    ensures { Gives (λ r. (r.0, r.1.now)) result (spec.version_at octets.now) }
+    ensures { IsRead (λ r. (r.0, r.1.now)) result (spec.version_at octets.now) }
 {
     match octets {
         [0x01, rest @ ..] => Ok((Version::One, rest)),
@@ -59,7 +59,7 @@ fn type_of_octet(version: Version, octet: u8) -> Option<ElementaryType>
 
 // The type at the front of octets.
 fn type_at(version: Version, octets: &[u8]) -> Result<(ElementaryType, &[u8]), ImageFault>
-    ensures { Gives (λ r. (r.0, r.1.now)) result (spec.type_at version octets.now) }
+    ensures { IsRead (λ r. (r.0, r.1.now)) result (spec.type_at version octets.now) }
 {
     let (octet, rest) = octet_at(octets)?;
     match type_of_octet(version, octet) {
@@ -70,7 +70,7 @@ fn type_at(version: Version, octets: &[u8]) -> Result<(ElementaryType, &[u8]), I
 
 // Whether a point may be written.
 fn access_at(octets: &[u8]) -> Result<(bool, &[u8]), ImageFault>
-    ensures { Gives (λ r. (r.0, r.1.now)) result (spec.access_at octets.now) }
+    ensures { IsRead (λ r. (r.0, r.1.now)) result (spec.access_at octets.now) }
 {
     let (octet, rest) = octet_at(octets)?;
     match octet {
@@ -107,7 +107,7 @@ fn text_of(octets: &[u8]) -> &str
 
 // A name of this length.
 fn name_of_length(count: usize, octets: &[u8]) -> Result<(&str, &[u8]), ImageFault>
-    ensures { Gives (λ r. (r.0.now, r.1.now)) result (spec.name_of_length count octets.now) }
+    ensures { IsRead (λ r. (r.0.now, r.1.now)) result (spec.name_of_length count octets.now) }
 {
     if octets.len() < count {
         if is_name(octets) {
@@ -124,7 +124,7 @@ fn name_of_length(count: usize, octets: &[u8]) -> Result<(&str, &[u8]), ImageFau
 
 // A name behind the octet of its length, which is 1 to 64.
 fn name_at(octets: &[u8]) -> Result<(&str, &[u8]), ImageFault>
-    ensures { Gives (λ r. (r.0.now, r.1.now)) result (spec.name_at octets.now) }
+    ensures { IsRead (λ r. (r.0.now, r.1.now)) result (spec.name_at octets.now) }
 {
     let (count, rest) = octet_at(octets)?;
     if count == 0 || count > 64 {
@@ -140,7 +140,7 @@ fn point_at(
     version: Version,
     octets: &[u8],
 ) -> Result<(ImagePoint, &[u8]), ImageFault>
-    ensures { GivesButMemory ImageFault.OutOfMemory (λ r. (r.0, r.1.now)) result (spec.point_at version octets.now) }
+    ensures { Gives ImageFault.OutOfMemory (λ r. (r.0, r.1.now)) result (spec.point_at version octets.now) }
 {
     let (elementary, rest) = type_at(version, octets)?;
     let (writable, rest) = access_at(rest)?;
@@ -169,7 +169,7 @@ fn value_size(version: Version) -> Size
 // A variable: its type and its initial value.
 #[tactic(auto, unfolding(crate::specs::Decoding::variable_at))]
 fn variable_at(version: Version, octets: &[u8]) -> Result<(Value, &[u8]), ImageFault>
-    ensures { Gives (λ r. (r.0, r.1.now)) result (spec.variable_at version octets.now) }
+    ensures { IsRead (λ r. (r.0, r.1.now)) result (spec.variable_at version octets.now) }
 {
     let (elementary, rest) = type_at(version, octets)?;
     value_at(value_size(version), elementary, rest)
@@ -178,7 +178,7 @@ fn variable_at(version: Version, octets: &[u8]) -> Result<(Value, &[u8]), ImageF
 // A timer's kind. Version 1 has no octet for it, and only timers on delay.
 #[tactic(auto, unfolding(crate::specs::Decoding::timer_at))]
 fn timer_at(version: Version, octets: &[u8]) -> Result<(TimerKind, &[u8]), ImageFault>
-    ensures { Gives (λ r. (r.0, r.1.now)) result (spec.timer_at version octets.now) }
+    ensures { IsRead (λ r. (r.0, r.1.now)) result (spec.timer_at version octets.now) }
 {
     if version == Version::One {
         return Ok((TimerKind::OnDelay, octets));
@@ -197,7 +197,7 @@ fn points_at(
     version: Version,
     octets: &[u8],
 ) -> Result<(Listing<ImagePoint>, &[u8]), ImageFault>
-    ensures read { GivesButMemory ImageFault.OutOfMemory (λ r. (r.0, r.1.now)) result (counted_at (spec.point_at version) octets.now) }
+    ensures read { Gives ImageFault.OutOfMemory (λ r. (r.0, r.1.now)) result (counted_at (spec.point_at version) octets.now) }
     ensures memory { IsErrOf result ImageFault.OutOfMemory → 2 ≤ length octets.now }
 {
     let (count, mut rest) = number_at(octets)?;
@@ -216,7 +216,7 @@ fn variables_at(
     version: Version,
     octets: &[u8],
 ) -> Result<(Listing<Value>, &[u8]), ImageFault>
-    ensures { GivesButMemory ImageFault.OutOfMemory (λ r. (r.0, r.1.now)) result (counted_at (spec.variable_at version) octets.now) }
+    ensures { Gives ImageFault.OutOfMemory (λ r. (r.0, r.1.now)) result (counted_at (spec.variable_at version) octets.now) }
 {
     let (count, mut rest) = number_at(octets)?;
     let mut variables = Vec::new(alloc);
@@ -234,7 +234,7 @@ fn timers_at(
     version: Version,
     octets: &[u8],
 ) -> Result<(Listing<TimerKind>, &[u8]), ImageFault>
-    ensures { GivesButMemory ImageFault.OutOfMemory (λ r. (r.0, r.1.now)) result (counted_at (spec.timer_at version) octets.now) }
+    ensures { Gives ImageFault.OutOfMemory (λ r. (r.0, r.1.now)) result (counted_at (spec.timer_at version) octets.now) }
 {
     let (count, mut rest) = number_at(octets)?;
     let mut timers = Vec::new(alloc);
@@ -261,7 +261,7 @@ fn check_code(version: Version, code: &[u8]) -> Result<(), ImageFault>
 // The octets of the code, which are all that is left.
 #[tactic(auto, unfolding(crate::specs::Decoding::code_at))]
 fn code_at(alloc: Global, version: Version, octets: &[u8]) -> Result<Listing<u8>, ImageFault>
-    ensures { GivesButMemory ImageFault.OutOfMemory (λ c. c) result (spec.code_at version octets.now) }
+    ensures { Gives ImageFault.OutOfMemory (λ c. c) result (spec.code_at version octets.now) }
 {
     let (count, code) = number_at(octets)?;
     let count = usize::from(count);
@@ -279,7 +279,7 @@ fn code_at(alloc: Global, version: Version, octets: &[u8]) -> Result<Listing<u8>
 /// of which there are at most 65,535.
 #[tactic(auto, unfolding(crate::specs::Decoding::decoded))]
 pub fn decode(alloc: Global, octets: &[u8]) -> Result<Image, ImageFault>
-    ensures image { GivesButMemory ImageFault.OutOfMemory (λ i. i) result (decoded octets.now) }
+    ensures image { Gives ImageFault.OutOfMemory (λ i. i) result (decoded octets.now) }
     ensures memory { IsErrOf result ImageFault.OutOfMemory → TakesMemory octets.now }
 {
     let rest = behind_mark(octets)?;

@@ -1,7 +1,7 @@
 // Readers of one item at the front of octets. Each answers the item and the octets behind it, or
 // the first fault from the left, and takes no memory.
 ghost use Rattle.std.specs.Prelude.{◌≡◌, ◌+◌, ◌<◌, ◌≤◌, IfOk, IfSome, length};
-ghost use Rattle.il_image.specs.Reading.{Gives, placed};
+ghost use Rattle.il_image.specs.Reading.{IsRead, placed};
 ghost use Rattle.il_image.specs.Reading as spec;
 
 use crate::arithmetic::Width;
@@ -14,7 +14,7 @@ use bay_base::types::ElementaryType;
 
 /// One octet.
 pub(crate) fn octet_at(octets: &[u8]) -> Result<(u8, &[u8]), ImageFault>
-    ensures { Gives (λ r. (r.0, r.1.now)) result (spec.octet_at octets.now) }
+    ensures { IsRead (λ r. (r.0, r.1.now)) result (spec.octet_at octets.now) }
 {
     match octets {
         [octet, rest @ ..] => Ok((*octet, rest)),
@@ -24,7 +24,7 @@ pub(crate) fn octet_at(octets: &[u8]) -> Result<(u8, &[u8]), ImageFault>
 
 /// A number of two octets.
 pub(crate) fn number_at(octets: &[u8]) -> Result<(u16, &[u8]), ImageFault>
-    ensures { Gives (λ r. (r.0, r.1.now)) result (spec.number_at octets.now) }
+    ensures { IsRead (λ r. (r.0, r.1.now)) result (spec.number_at octets.now) }
 {
     match octets {
         [high, low, rest @ ..] => Ok((u16::from_be_bytes([*high, *low]), rest)),
@@ -34,7 +34,7 @@ pub(crate) fn number_at(octets: &[u8]) -> Result<(u16, &[u8]), ImageFault>
 
 // A number in two's complement.
 fn signed_at(size: Size, octets: &[u8]) -> Result<(i64, &[u8]), ImageFault>
-    ensures { Gives (λ r. (r.0, r.1.now)) result (spec.signed_at size octets.now) }
+    ensures { IsRead (λ r. (r.0, r.1.now)) result (spec.signed_at size octets.now) }
 {
     match (size, octets) {
         (Size::One, [a, rest @ ..]) => Ok((i64::from(i8::from_be_bytes([*a])), rest)),
@@ -55,7 +55,7 @@ pub(crate) fn value_at(
     elementary: ElementaryType,
     octets: &[u8],
 ) -> Result<(Value, &[u8]), ImageFault>
-    ensures { Gives (λ r. (r.0, r.1.now)) result (spec.value_at size elementary octets.now) }
+    ensures { IsRead (λ r. (r.0, r.1.now)) result (spec.value_at size elementary octets.now) }
 {
     let (number, rest) = signed_at(size, octets)?;
     match Value::of(elementary, number) {
@@ -66,7 +66,7 @@ pub(crate) fn value_at(
 
 // A width of the version.
 fn width_at(version: Version, octets: &[u8]) -> Result<(Width, &[u8]), ImageFault>
-    ensures { Gives (λ r. (r.0, r.1.now)) result (spec.width_at version octets.now) }
+    ensures { IsRead (λ r. (r.0, r.1.now)) result (spec.width_at version octets.now) }
 {
     let (octet, rest) = octet_at(octets)?;
     match width_of(version, octet) {
@@ -81,7 +81,7 @@ fn operand_from(
     opcode: Opcode,
     octets: &[u8],
 ) -> Result<(Instr, &[u8]), ImageFault>
-    ensures { Gives (λ r. (r.0, r.1.now)) result (spec.operand_from version opcode octets.now) }
+    ensures { IsRead (λ r. (r.0, r.1.now)) result (spec.operand_from version opcode octets.now) }
 {
     match opcode {
         Opcode::Halt => Ok((Instr::Halt, octets)),
@@ -116,7 +116,7 @@ fn operand_from(
 /// An instruction of the version.
 #[tactic(auto, unfolding(crate::specs::Reading::instr_from))]
 pub(crate) fn instr_from(version: Version, octets: &[u8]) -> Result<(Instr, &[u8]), ImageFault>
-    ensures { Gives (λ r. (r.0, r.1.now)) result (spec.instr_from version octets.now) }
+    ensures { IsRead (λ r. (r.0, r.1.now)) result (spec.instr_from version octets.now) }
 {
     let (octet, rest) = octet_at(octets)?;
     match Opcode::of(octet) {
