@@ -11,7 +11,7 @@ use Rattle.bay_device.specs.declared.event.Step.{Step}
 use Rattle.bay_device.specs.declared.fault.StepFault.{StepFault}
 
 -- the answer and the device after it are those of an outcome
-pub record Gives (o : Outcome) (answer : Result Step StepFault) (new : State) : Type 0 where
+pub record IsOutcome (o : Outcome) (answer : Result Step StepFault) (new : State) : Type 0 where
   pub answered : answer ≡ o.answer
   pub left : new ≡ o.after
 

@@ -17,7 +17,7 @@ ghost use Rattle.bay_device.specs.Outcomes.{closed, connection_at, event_outcome
 ghost use Rattle.bay_device.specs.Outcomes as spec;
 ghost use Rattle.bay_device.specs.Report.{IsReport};
 ghost use Rattle.bay_device.specs.StateView.{state_view};
-ghost use Rattle.bay_device.specs.Steps.{Gives, Hears, IsWithoutOctets, Receives, Steps};
+ghost use Rattle.bay_device.specs.Steps.{IsOutcome, Hears, IsWithoutOctets, Receives, Steps};
 ghost use Rattle.bay_device.specs.Told.{AreTalks, Telling, told_all};
 ghost use Rattle.bay_device.specs.declared.event.Event.TheVariants.{Open, Recv, Close, Contact, Input, Measure, Scan};
 
@@ -111,7 +111,7 @@ impl Device {
 
     // A client connects.
     fn open(&mut self, now: u64, association: u16) -> Result<Step, StepFault>
-        ensures { Gives (event_outcome None now (Open association) self.old) result self.new }
+        ensures { IsOutcome (event_outcome None now (Open association) self.old) result self.new }
     {
         let place = match place_of(association) {
             Some(place) => place,
@@ -137,7 +137,7 @@ impl Device {
 
     // A client has closed its connection.
     fn close(&mut self, now: u64, association: u16) -> Result<Step, StepFault>
-        ensures { Gives (event_outcome None now (Close association) self.old) result self.new }
+        ensures { IsOutcome (event_outcome None now (Close association) self.old) result self.new }
     {
         let place = match place_of(association) {
             Some(place) => place,
@@ -222,7 +222,7 @@ impl Device {
 
     // The switch at a place reports a position.
     fn contact(&mut self, now: u64, switch: usize, position: Dbpos) -> Result<Step, StepFault>
-        ensures { Gives (event_outcome None now (Contact switch position) self.old) result self.new }
+        ensures { IsOutcome (event_outcome None now (Contact switch position) self.old) result self.new }
     {
         let ended = self.state.contact(now, switch, position)?;
         Ok(self.quiet(ended))
@@ -230,7 +230,7 @@ impl Device {
 
     // The input at a place has a value.
     fn take_input(&mut self, now: u64, input: usize, value: bool) -> Result<Step, StepFault>
-        ensures { Gives (event_outcome None now (Input input value) self.old) result self.new }
+        ensures { IsOutcome (event_outcome None now (Input input value) self.old) result self.new }
     {
         let ended = self.state.input(now, input, value)?;
         Ok(self.quiet(ended))
@@ -244,7 +244,7 @@ impl Device {
         field: MeterField,
         value: i32,
     ) -> Result<Step, StepFault>
-        ensures { Gives (event_outcome None now (Measure meter field value) self.old) result self.new }
+        ensures { IsOutcome (event_outcome None now (Measure meter field value) self.old) result self.new }
     {
         let ended = self.state.measure(now, meter, field, value)?;
         Ok(self.quiet(ended))
@@ -252,7 +252,7 @@ impl Device {
 
     // The program runs once.
     fn scan(&mut self, now: u64) -> Result<Step, StepFault>
-        ensures gives { Gives (event_outcome None now Scan self.old) result self.new }
+        ensures gives { IsOutcome (event_outcome None now Scan self.old) result self.new }
         ensures halts { HaltsAt now Scan self.old }
     {
         let ended = self.state.advance(now);
@@ -313,7 +313,7 @@ impl Device {
         // There is a choice with which the answer and the device are the outcome;
         ensures steps { Steps now event.entry self.old result self.new }
         // an event without octets has none, and takes no memory.
-        ensures sure { IsWithoutOctets event.entry → Gives (outcome None now event.entry self.old) result self.new }
+        ensures sure { IsWithoutOctets event.entry → IsOutcome (outcome None now event.entry self.old) result self.new }
         // Each command is one that the interlocking releases, on a fresh scan, while no switch is
         // operating, and comes with its reply.
         ensures commanded { IfOk result (AreCommanded now self.old) }

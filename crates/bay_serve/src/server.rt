@@ -3,7 +3,7 @@ ghost use Rattle.std.specs.Prelude.{◌≡◌, ℕ, ◌+◌, ◌<◌, ◌≤◌,
 ghost use Rattle.bay_services.specs.Released.{AreTimed};
 ghost use Rattle.bay_device.specs.Commands.{IsSingle};
 ghost use Rattle.bay_device.specs.Outcomes.{outcome};
-ghost use Rattle.bay_device.specs.Steps.{Gives, IsWithoutOctets, Steps};
+ghost use Rattle.bay_device.specs.Steps.{IsOutcome, IsWithoutOctets, Steps};
 ghost use Rattle.bay_serve.specs.Turns.{has_room, is_up_in, put_queue, queue_at};
 ghost use Rattle.bay_serve.specs.Turns as spec;
 
@@ -91,7 +91,7 @@ impl Server {
     /// Does one event on the device.
     pub(crate) fn step(&mut self, now: u64, event: Event<'_>) -> Result<Step, StepFault>
         ensures steps { Steps now event.entry self.old.device result self.new.device }
-        ensures sure { IsWithoutOctets event.entry → Gives (outcome None now event.entry self.old.device) result self.new.device }
+        ensures sure { IsWithoutOctets event.entry → IsOutcome (outcome None now event.entry self.old.device) result self.new.device }
         ensures single { IsSingle result }
         ensures queues { self.new.queues ≡ self.old.queues }
     {
