@@ -5,6 +5,7 @@ use Rattle.bay_mms.specs.declared.request.Proposal.{Proposal}
 use Rattle.bay_mms.specs.declared.response.Agreed.{Agreed}
 use Rattle.bay_mms.specs.Grammar.{initiate_in}
 use Rattle.bay_mms.specs.Responses.{agreed_text}
+use Rattle.bay_mms.specs.Spelled.{◌>>◌}
 use Rattle.bay_assoc.specs.declared.fault.AssocFault.{AssocFault}
 use Rattle.bay_assoc.specs.declared.fault.AssocFault.TheVariants as fault
 use Rattle.bay_assoc.specs.declared.presentation.Context.{Context}
@@ -12,7 +13,7 @@ use Rattle.bay_assoc.specs.declared.hearing.Accepted.{Accepted}
 use Rattle.bay_assoc.specs.declared.hearing.Link.{Link}
 use Rattle.bay_assoc.specs.declared.hearing.Phase.{Phase}
 use Rattle.bay_assoc.specs.declared.hearing.Phase.TheVariants.{Idle, Open, Over, Failed}
-use Rattle.bay_assoc.specs.Results.{◌>>◌, wanted}
+use Rattle.bay_assoc.specs.Results.{wanted}
 use Rattle.bay_assoc.specs.Session.{Spdu, connect, accept, finish, disconnect, abort, transfer, spdu_in}
 use Rattle.bay_assoc.specs.Presentation.{Carried, Connect, user_in, request_in}
 use Rattle.bay_assoc.specs.Acse.{associate_in, release_in}
