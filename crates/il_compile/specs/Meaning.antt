@@ -14,6 +14,7 @@ use Rattle.il_text.specs.declared.program.Output.TheVariants.{Q, Et}
 use Rattle.il_text.specs.declared.program.StoreKind.{StoreKind}
 use Rattle.il_text.specs.declared.program.StoreKind.TheVariants as store
 use Rattle.il_image.specs.Arithmetic.{compared, computed, connected, widened}
+use Rattle.il_image.specs.Effects.{◌>>=◌}
 use Rattle.il_image.specs.Machine.{divides, is_comparable, value_in}
 use Rattle.il_image.specs.Timers.{called}
 use Rattle.il_image.specs.Values.{number_of, type_of}
@@ -47,11 +48,6 @@ pub record Memory : Type 0 where
 pub record State : Type 0 where
   pub result : Option Value
   pub memory : Memory
-
-infixl 10 ◌>>=◌
-abbrev pub ◌>>=◌ : {A B : Type 0} → Option A → (A → Option B) → Option B
-None >>= f = None
-(Some x) >>= f = f x
 
 -- ---- values
 
