@@ -27,17 +27,17 @@ held image slots timers = record { image = image; slots = values_of (slot_types 
 -- ---- the first state
 
 -- FALSE, or 0 of a type
-abbrev pub first_value : ElementaryType → Value
-first_value elementary.Bool = Truth false
-first_value elementary.Int = Short (pos 0)
-first_value elementary.Dint = Long (pos 0)
-first_value elementary.Lint = Wide (pos 0)
-first_value elementary.Time = Span 0
+abbrev pub default_value : ElementaryType → Value
+default_value elementary.Bool = Truth false
+default_value elementary.Int = Short (pos 0)
+default_value elementary.Dint = Long (pos 0)
+default_value elementary.Lint = Wide (pos 0)
+default_value elementary.Time = Span 0
 
 -- the points' slots, and behind them the variables' with their initial values
 abbrev pub first_slots : List ImagePoint → List Value → List Value
 first_slots [] variables = variables
-first_slots (p ∷ points) variables = first_value p.elementary ∷ first_slots points variables
+first_slots (p ∷ points) variables = default_value p.elementary ∷ first_slots points variables
 
 abbrev pub held_first : Image → Held
 held_first image = record { image = image; slots = first_slots image.points image.variables; timers = map first_state image.timers }

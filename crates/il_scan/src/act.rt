@@ -5,7 +5,7 @@ ghost use Rattle.il_image.specs.Arithmetic.{DividesBy, compared, computed};
 ghost use Rattle.il_image.specs.Timers as time;
 ghost use Rattle.il_scan.specs.Working as spec;
 ghost use Rattle.il_scan.specs.Words.{slot_at};
-ghost use Rattle.il_scan.specs.Working.{IsReady, IsSpan, is_true, joined, timer_at, word_of, worked, words};
+ghost use Rattle.il_scan.specs.Working.{IsReady, IsSpan, is_not_zero, joined, timer_at, word_of, worked, words};
 
 use crate::stack::Stack;
 use il_image::arithmetic::{Comparison, Operation, Width, compare, compute};
@@ -183,7 +183,7 @@ fn set_input(stack: &mut Stack, timers: &mut [Timer], number: u16)
     requires some { 0 < length stack.old }
     requires there { number < length timers.old }
     ensures stack { stack.new ≡ drop 1 stack.old }
-    ensures timers { timers.new ≡ slice_set timers.old number (record (timer_at timers.old number) { input = is_true (spec.top stack.old) }) }
+    ensures timers { timers.new ≡ slice_set timers.old number (record (timer_at timers.old number) { input = is_not_zero (spec.top stack.old) }) }
 {
     let word = stack.pop();
     let timer = &mut timers[usize::from(number)];
