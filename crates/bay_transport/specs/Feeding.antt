@@ -5,8 +5,8 @@ use Rattle.bay_transport.specs.declared.fault.TransportFault.TheVariants.{BadTpk
 use Rattle.bay_transport.specs.declared.assembly.Assembly.{Assembly}
 use Rattle.bay_transport.specs.declared.fed.Got.{Got}
 use Rattle.bay_transport.specs.declared.fed.Got.TheVariants.{More, Answer, Tsdu, Ended}
-use Rattle.bay_transport.specs.declared.reader.Phase.{Phase}
-use Rattle.bay_transport.specs.declared.reader.Phase.TheVariants.{Open, Closed, Refused}
+use Rattle.bay_transport.specs.declared.reader.ReaderState.{ReaderState}
+use Rattle.bay_transport.specs.declared.reader.ReaderState.TheVariants.{Open, Closed, Refused}
 use Rattle.bay_transport.specs.declared.reader.Reader.{Reader}
 use Rattle.bay_transport.specs.Doings.{Doing, Answers, Delivers, Ends, Fails, Left, Going, Over, Broken, Stream, doings}
 use Rattle.bay_transport.specs.Assembly.{left_of, IsSound, HasNoRoom}
@@ -96,23 +96,23 @@ broken s = record { number = s.number; left = Broken }
 
 -- ---- what the fields mean
 
-abbrev pub left_in : Phase → Assembly → Left
+abbrev pub left_in : ReaderState → Assembly → Left
 left_in Open a = left_of a
 left_in Closed a = Over
 left_in Refused a = Broken
 
 abbrev pub stream_of : Reader → Stream
-stream_of r = record { number = r.assembly.number; left = left_in r.phase r.assembly }
+stream_of r = record { number = r.assembly.number; left = left_in r.state r.assembly }
 
 abbrev pub received_of : Reader → Received
 received_of r = record { stream = stream_of r; shown = r.assembly.shown.items }
 
 -- Where no more octets are taken, no room is kept for them.
-abbrev pub ReleasedUnlessOpen : Phase → Assembly → Type 0
+abbrev pub ReleasedUnlessOpen : ReaderState → Assembly → Type 0
 ReleasedUnlessOpen Open a = Unit {0}
 ReleasedUnlessOpen Closed a = HasNoRoom a
 ReleasedUnlessOpen Refused a = HasNoRoom a
 
 pub record IsKept (r : Reader) : Type 0 where
   pub sound : IsSound r.assembly
-  pub room : ReleasedUnlessOpen r.phase r.assembly
+  pub room : ReleasedUnlessOpen r.state r.assembly

@@ -11,7 +11,7 @@ use std::alloc::Global;
 
 /// Whether more octets are taken.
 #[derive(Clone, Copy)]
-pub enum Phase {
+pub enum ReaderState {
     /// They are.
     Open,
     /// The connection has ended.
@@ -23,7 +23,7 @@ pub enum Phase {
 /// What a transport keeps between pieces.
 #[derive(Drop)]
 pub struct Reader {
-    pub(crate) phase: Phase,
+    pub(crate) state: ReaderState,
     pub(crate) assembly: Assembly,
 }
 
@@ -34,19 +34,19 @@ impl Reader {
         ensures received { received_of result ≡ record { stream = record { number = number; left = start }; shown = [] } }
     {
         Reader {
-            phase: Phase::Open,
+            state: ReaderState::Open,
             assembly: Assembly::new(alloc, number),
         }
     }
 
     // Takes no more octets, and gives back the room that they took.
-    fn stop(&mut self, phase: Phase)
+    fn stop(&mut self, state: ReaderState)
         ensures number { self.new.assembly.number ≡ self.old.assembly.number }
-        ensures phase { self.new.phase ≡ phase }
+        ensures state { self.new.state ≡ state }
         ensures kept { IsKept self.new }
         ensures nothing { self.new.assembly.shown.items ≡ [] }
     {
-        self.phase = phase;
+        self.state = state;
         self.assembly.release();
     }
 
@@ -55,7 +55,7 @@ impl Reader {
         ensures kept { IsKept self.new }
         ensures ended { received_of self.new ≡ record { stream = ended (stream_of self.old); shown = [] } }
     {
-        self.stop(Phase::Closed);
+        self.stop(ReaderState::Closed);
     }
 
     /// Takes octets up to the end of the TPDU that completes something, or all, and says how many
@@ -70,25 +70,25 @@ impl Reader {
         ensures refused { IfErr result (λ fault. RefusesPiece (stream_of self.old) piece.now fault) }
         ensures broken { OnErr result (stream_of self.new ≡ broken (stream_of self.old)) }
     {
-        match self.phase {
-            Phase::Refused => return Err(TransportFault::Failed),
-            Phase::Closed => {
+        match self.state {
+            ReaderState::Refused => return Err(TransportFault::Failed),
+            ReaderState::Closed => {
                 return Ok(Fed {
                     used: 0,
                     got: Got::Ended,
                 });
             }
-            Phase::Open => {}
+            ReaderState::Open => {}
         }
         match self.assembly.advance(piece) {
             Ok((used, got)) => {
                 if let Got::Ended = got {
-                    self.stop(Phase::Closed);
+                    self.stop(ReaderState::Closed);
                 }
                 Ok(Fed { used, got })
             }
             Err(fault) => {
-                self.stop(Phase::Refused);
+                self.stop(ReaderState::Refused);
                 Err(fault)
             }
         }

@@ -6,7 +6,7 @@ ghost use Rattle.bay_transport.specs.Wrap.{wrapped, Carries};
 
 use crate::fault::TransportFault;
 use crate::fed::Fed;
-use crate::reader::{Phase, Reader};
+use crate::reader::{Reader, ReaderState};
 use crate::wrap::wrap;
 use std::alloc::{AllocError, Global};
 use std::marker::Model;
@@ -84,9 +84,9 @@ impl Transport {
     pub fn agreed_size(&self) -> Option<usize>
         ensures { result ≡ agreed self.now.stream }
     {
-        match self.reader.phase {
-            Phase::Open => self.reader.assembly.size,
-            Phase::Closed | Phase::Refused => None,
+        match self.reader.state {
+            ReaderState::Open => self.reader.assembly.size,
+            ReaderState::Closed | ReaderState::Refused => None,
         }
     }
 
