@@ -24,8 +24,8 @@ use Rattle.il_image.specs.declared.opcode.SlotUse.TheVariants.{Load, Store, SetI
 use Rattle.il_image.specs.declared.opcode.When.TheVariants.{Always, IfTrue, IfFalse}
 use Rattle.il_image.specs.declared.opcode.Widening.TheVariants.{IntToDint, DintToLint}
 use Rattle.il_image.specs.declared.opcode.TimerUse.TheVariants.{SetInput, SetPreset, Run, LoadOutput, LoadElapsed}
-use Rattle.il_image.specs.declared.timer.Phase.{Phase}
-use Rattle.il_image.specs.declared.timer.Phase.TheVariants.{Idle, Held, Since}
+use Rattle.il_image.specs.declared.timer.TimerPhase.{TimerPhase}
+use Rattle.il_image.specs.declared.timer.TimerPhase.TheVariants.{Idle, Held, Since}
 use Rattle.il_image.specs.declared.timer.Timer.{Timer as TimerState}
 use Rattle.il_image.specs.declared.timer.TimerKind.TheVariants.{OnDelay}
 use Rattle.il_image.specs.declared.value.Value.{Value}
@@ -123,7 +123,7 @@ timers_set [] n t h g = tt
 timers_set (u ∷ timers) zero t h g = (g, h.1)
 timers_set (u ∷ timers) (suc n) t h g = (h.0, timers_set timers n t h.1 g)
 
-elapsed_within : (preset : ℕ) (phase : Phase) (m : ℕ) → preset ≤ 0x7FFF_FFFF → elapsed_of preset phase m ≤ 0x7FFF_FFFF
+elapsed_within : (preset : ℕ) (phase : TimerPhase) (m : ℕ) → preset ≤ 0x7FFF_FFFF → elapsed_of preset phase m ≤ 0x7FFF_FFFF
 elapsed_within preset Idle m h = omega arith
 elapsed_within preset Held m h = omega arith
 elapsed_within preset (Since start) m h = omega arith
