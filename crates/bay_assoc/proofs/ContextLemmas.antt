@@ -11,7 +11,8 @@ use Rattle.bay_assoc.specs.Presentation.{is_ber, offers_ber, has_id, are_distinc
 
 -- ---- transfer syntaxes
 
--- Transfer syntaxes at the front were read, and this says whether one of them is the Basic Encoding Rules.
+-- Transfer syntaxes at the front were read, and this says whether one of them is the Basic Encoding
+-- Rules.
 pub record Flags (whole rest : List ℕ) (found : Bool) : Type 0 where
   pub done : List Bool
   pub passed : Passed is_ber whole rest done

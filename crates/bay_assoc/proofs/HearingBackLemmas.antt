@@ -10,13 +10,14 @@ use Rattle.bay_ber.proofs.BackLemmas.{bind_some, bytes_behind, bytes_before, gua
 use Rattle.bay_mms.specs.declared.response.Agreed.{Agreed}
 use Rattle.bay_mms.specs.Grammar.{initiate_in}
 use Rattle.bay_mms.proofs.InitiateLemmas.{initiate_back}
+use Rattle.bay_mms.specs.Spelled.{◌>>◌}
 use Rattle.bay_assoc.specs.declared.fault.AssocFault.{AssocFault}
 use Rattle.bay_assoc.specs.declared.fault.AssocFault.TheVariants as fault
 use Rattle.bay_assoc.specs.declared.hearing.Accepted.{Accepted}
 use Rattle.bay_assoc.specs.declared.hearing.Link.{Link}
 use Rattle.bay_assoc.specs.declared.hearing.Phase.{Phase}
 use Rattle.bay_assoc.specs.declared.hearing.Phase.TheVariants.{Idle, Open, Over, Failed}
-use Rattle.bay_assoc.specs.Results.{◌>>◌, wanted}
+use Rattle.bay_assoc.specs.Results.{wanted}
 use Rattle.bay_assoc.specs.Session.{Unit, long_size, size_at, counted_at, unit_at, onto, with_front, units_within, units_in, only_one, unit_in, is_user, Users, users_of, users_in, Spdu, connect, accept, finish, disconnect, abort, transfer, connect_of, finish_of, spdu_of, is_transfer, spdu_in}
 use Rattle.bay_assoc.specs.Presentation.{Carried, user_in, request_in}
 use Rattle.bay_assoc.specs.Acse.{associate_in, release_in}

@@ -5,6 +5,7 @@ use Rattle.bay_mms.specs.declared.request.Proposal.{Proposal}
 use Rattle.bay_mms.specs.declared.response.Agreed.{Agreed}
 use Rattle.bay_mms.specs.Grammar.{initiate_in}
 use Rattle.bay_mms.specs.Responses.{agreed_text}
+use Rattle.bay_mms.specs.Spelled.{◌>>◌}
 use Rattle.bay_assoc.specs.declared.fault.AssocFault.{AssocFault}
 use Rattle.bay_assoc.specs.declared.fault.AssocFault.TheVariants as fault
 use Rattle.bay_assoc.specs.declared.presentation.Context.{Context}
@@ -12,14 +13,14 @@ use Rattle.bay_assoc.specs.declared.hearing.Accepted.{Accepted}
 use Rattle.bay_assoc.specs.declared.hearing.Link.{Link}
 use Rattle.bay_assoc.specs.declared.hearing.Phase.{Phase}
 use Rattle.bay_assoc.specs.declared.hearing.Phase.TheVariants.{Idle, Open, Over, Failed}
-use Rattle.bay_assoc.specs.Results.{◌>>◌, wanted}
+use Rattle.bay_assoc.specs.Results.{wanted}
 use Rattle.bay_assoc.specs.Session.{Spdu, connect, accept, finish, disconnect, abort, transfer, spdu_in}
 use Rattle.bay_assoc.specs.Presentation.{Carried, Connect, user_in, request_in}
 use Rattle.bay_assoc.specs.Acse.{associate_in, release_in}
 use Rattle.bay_assoc.specs.Texts.{accept_text, disconnect_text, user_text, connected_text, associated_text, release_text}
 
--- what is heard: a request for an association, with its answer; an MMS PDU; a request for a release, with its answer; or an
--- abort
+-- what is heard: a request for an association, with its answer; an MMS PDU; a request for a
+-- release, with its answer; or an abort
 pub data Hearing : Type 0 where
   answer : List ℕ → Hearing
   mms : List ℕ → Hearing
@@ -45,7 +46,8 @@ accepted_of contexts = do
   second ← mms_of contexts
   Some (record { acse = first; mms = second })
 
--- the value in the context of ACSE; one in that of MMS is spelled as none of ACSE's, and another context was not accepted
+-- the value in the context of ACSE; one in that of MMS is spelled as none of ACSE's, and another
+-- context was not accepted
 abbrev pub acse_value : Accepted → Carried → Result (List ℕ) AssocFault
 acse_value a c = if is_id c.id a.acse then Ok c.value else (if is_id c.id a.mms then Err fault.BadAcse else Err fault.NoContext)
 
@@ -55,7 +57,8 @@ mms_value a c = if is_id c.id a.mms then Ok c.value else (if is_id c.id a.acse t
 
 -- ---- what is agreed
 
--- the octets of the largest PDU: at least 256, and at most 65,000, which is also what is agreed where none is proposed
+-- the octets of the largest PDU: at least 256, and at most 65,000, which is also what is agreed
+-- where none is proposed
 abbrev pub size_of : Option ℤ → Option ℕ
 size_of None = Some 65000
 size_of (Some (pos n)) = if nat_lt n 256 then None else Some (min n 65000)

@@ -17,7 +17,8 @@ link_of (Open link) = Some link
 link_of Over = None
 link_of Failed = None
 
--- What is heard is answered, and its phase follows; its fault, or want of memory, leaves an association that has failed.
+-- What is heard is answered, and its phase follows; its fault, or want of memory, leaves an
+-- association that has failed.
 abbrev pub Hears : Phase → List ℕ → Result Heard AssocFault → Phase → Type 0
 Hears old octets (Ok h) new = hearing old octets ≡ Ok (hearing_of h, new)
 Hears old octets (Err fault) new = (new ≡ Failed) × ((fault ≡ OutOfMemory) ⊎ (hearing old octets ≡ Err fault))

@@ -99,7 +99,8 @@ user_in octets = value_in octets >>= carried_under
 
 -- ---- the request for a connection (CP)
 
--- what a request for a connection has: the called selector, where it came, the contexts, and the user data
+-- what a request for a connection has: the called selector, where it came, the contexts, and the
+-- user data
 pub record Connect : Type 0 where
   pub called : Option (List ℕ)
   pub contexts : List Context

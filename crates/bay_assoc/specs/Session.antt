@@ -1,8 +1,10 @@
--- Session protocol data units (X.225 8): an identifier, a length, and parameters, which are spelled likewise.
+-- Session protocol data units (X.225 8): an identifier, a length, and parameters, which are spelled
+-- likewise.
 use Rattle.std.specs.Prelude.{ℕ, zero, suc, ◌+◌, ◌*◌, ◌==◌, ◌&&◌, Bool, false, List, [], ◌∷◌, ◌++◌, length, take, drop, filter, Option, Some, None, option_map, nat_lt, if◌then◌else◌}
 use Rattle.bay_ber.specs.Options.{◌>>=◌}
 
--- an identifier and the octets that the length behind it counts: an SPDU, a parameter or a group of parameters
+-- an identifier and the octets that the length behind it counts: an SPDU, a parameter or a group of
+-- parameters
 pub record Unit : Type 0 where
   pub identifier : ℕ
   pub content : List ℕ
@@ -42,7 +44,8 @@ units_within most [] = Some []
 units_within zero (octet ∷ octets) = None
 units_within (suc most) (octet ∷ octets) = with_front (unit_at (octet ∷ octets)) (units_within most)
 
--- the units that the octets are, one after another; a unit has at least two octets, so there are fewer than octets
+-- the units that the octets are, one after another; a unit has at least two octets, so there are
+-- fewer than octets
 unfoldable pub units_in : List ℕ → Option (List Unit)
 units_in octets = units_within (length octets) octets
 
@@ -78,8 +81,8 @@ users_in octets = units_in octets >>= λ units. Some (users_of (filter is_user u
 
 -- ---- SPDUs
 
--- an SPDU: CONNECT (CN) with its user data, ACCEPT (AC), FINISH (FN) with its user data where they came, DISCONNECT (DN),
--- ABORT (AB), or DATA TRANSFER (DT) behind a GIVE TOKENS, with its user data
+-- an SPDU: CONNECT (CN) with its user data, ACCEPT (AC), FINISH (FN) with its user data where they
+-- came, DISCONNECT (DN), ABORT (AB), or DATA TRANSFER (DT) behind a GIVE TOKENS, with its user data
 pub data Spdu : Type 0 where
   connect : List ℕ → Spdu
   accept : Spdu
@@ -100,7 +103,8 @@ finish_of missing = Some (finish None)
 finish_of (once user) = Some (finish (Some user))
 finish_of several = None
 
--- The SPDU of a unit, by its identifier (X.225 8.3), of which the parameters of the last three are not looked into.
+-- The SPDU of a unit, by its identifier (X.225 8.3), of which the parameters of the last three are
+-- not looked into.
 unfoldable pub spdu_of : Unit → Option Spdu
 spdu_of u =
     if u.identifier == 0x0D then users_in u.content >>= connect_of

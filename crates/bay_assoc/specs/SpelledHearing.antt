@@ -1,4 +1,5 @@
--- What is heard of a TSDU, by how it is spelled: a relation by cases from a phase and a TSDU to what is heard and the phase after it.
+-- What is heard of a TSDU, by how it is spelled: a relation by cases from a phase and a TSDU to
+-- what is heard and the phase after it.
 use Rattle.std.specs.Prelude.{ℕ, pos, ◌≡◌, List, [], ◌∷◌, Option, Some, None}
 use Rattle.bay_mms.specs.declared.request.Proposal.{Proposal}
 use Rattle.bay_mms.specs.declared.response.Agreed.{Agreed}
@@ -13,8 +14,9 @@ use Rattle.bay_assoc.specs.Hearing.{Hearing, answer, mms, released, aborted, acc
 use Rattle.bay_assoc.specs.SpelledSession.{IsSpdu}
 use Rattle.bay_assoc.specs.SpelledValues.{IsUser, IsRequest, IsAssociate, IsRelease}
 
--- A CONNECT with a request for a connection, in it in the context of ACSE a request for an association, and in that in the context of
--- MMS an initiate, with the answer to them and what is agreed.
+-- A CONNECT with a request for a connection, in it in the context of ACSE a request for an
+-- association, and in that in the context of MMS an initiate, with the answer to them and what is
+-- agreed.
 pub record IsAnswered (octets text : List ℕ) (link : Link) : Type 0 where
   pub user : List ℕ
   pub request : Connect
@@ -32,14 +34,16 @@ pub record IsAnswered (octets text : List ℕ) (link : Link) : Type 0 where
   pub size : agreed.size ≡ link.size
   pub is : text ≡ answer_text request link.contexts agreed
 
--- A FINISH without user data, or with a request for a release in the context of ACSE, and the answer to it.
+-- A FINISH without user data, or with a request for a release in the context of ACSE, and the
+-- answer to it.
 abbrev pub IsReleased : List ℕ → List ℕ → Link → Option (List ℕ) → Type 0
 IsReleased octets text link None = IsSpdu octets (finish None) × (text ≡ 0x0A ∷ 0 ∷ [])
 IsReleased octets text link (Some user) =
     (value : List ℕ) × IsSpdu octets (finish (Some user)) × IsUser user (record { id = pos link.contexts.acse; value = value }) × IsRelease value
     × (text ≡ disconnect_text (user_text link.contexts.acse release_text))
 
--- Before the association a request for one or an abort is heard; in an open one a PDU of MMS, a request for a release or an abort.
+-- Before the association a request for one or an abort is heard; in an open one a PDU of MMS, a
+-- request for a release or an abort.
 abbrev pub IsHeard : Phase → List ℕ → Hearing → Phase → Type 0
 IsHeard Idle octets (answer text) new = (link : Link) × IsAnswered octets text link × (new ≡ Open link)
 IsHeard Idle octets (mms pdu) new = ⊥

@@ -10,12 +10,14 @@ IsSize (first ∷ high ∷ []) n = ⊥
 IsSize (first ∷ high ∷ low ∷ []) n = (first ≡ 255) × (n ≡ high * 256 + low)
 IsSize (first ∷ high ∷ low ∷ next ∷ octets) n = ⊥
 
--- The octets are these units and nothing else, one after another: of each its identifier, a length, and so many octets.
+-- The octets are these units and nothing else, one after another: of each its identifier, a length,
+-- and so many octets.
 abbrev pub SpellUnits : List ℕ → List Unit → Type 0
 SpellUnits octets [] = octets ≡ []
 SpellUnits octets (u ∷ units) = (size : List ℕ) × (rest : List ℕ) × (octets ≡ u.identifier ∷ (size ++ (u.content ++ rest))) × IsSize size (length u.content) × SpellUnits rest units
 
--- The octets are one unit under an identifier, and its content is parameters, of which these are user data.
+-- The octets are one unit under an identifier, and its content is parameters, of which these are
+-- user data.
 pub record Framed (identifier : ℕ) (octets : List ℕ) (users : List Unit) : Type 0 where
   pub content : List ℕ
   pub parameters : List Unit
@@ -27,8 +29,9 @@ pub record Framed (identifier : ℕ) (octets : List ℕ) (users : List Unit) : T
 abbrev pub user_data : List ℕ → Unit
 user_data octets = record { identifier = 0xC1; content = octets }
 
--- The octets are the SPDU: a CONNECT with user data once, a FINISH with them at most once, an ACCEPT, a DISCONNECT or an ABORT
--- of any parameters; or an empty GIVE TOKENS and the front of a DATA TRANSFER, and user data.
+-- The octets are the SPDU: a CONNECT with user data once, a FINISH with them at most once, an
+-- ACCEPT, a DISCONNECT or an ABORT of any parameters; or an empty GIVE TOKENS and the front of a
+-- DATA TRANSFER, and user data.
 abbrev pub IsSpdu : List ℕ → Spdu → Type 0
 IsSpdu octets (connect user) = Framed 0x0D octets (user_data user ∷ [])
 IsSpdu octets accept = (users : List Unit) × Framed 0x0E octets users

@@ -1,5 +1,5 @@
--- How the PPDUs and the APDUs of an association are spelled (ISO 8823-1 8.2, ISO 8650-1 9), by the relation of bay_ber: octets spell
--- exactly these values.
+-- How the PPDUs and the APDUs of an association are spelled (ISO 8823-1 8.2, ISO 8650-1 9), by the
+-- relation of bay_ber: octets spell exactly these values.
 use Rattle.std.specs.Prelude.{ℕ, pos, ◌≡◌, ◌<◌, ◌≤◌, ◌&&◌, ◌⊎◌, true, List, [], ◌∷◌, ◌++◌, length, map, filter, Option, Some, None}
 use Rattle.std.specs.List.{list_any}
 use Rattle.std.specs.Str.{bytes_eq}
@@ -81,8 +81,8 @@ IsSelectors (calling ∷ second ∷ []) None = ⊥
 IsSelectors (calling ∷ second ∷ []) (Some called) = (calling.tag ≡ context 1) × (second ≡ value (context 2) called) × (length called ≤ 16)
 IsSelectors (calling ∷ second ∷ next ∷ parts) called = ⊥
 
--- The octets are parameters of the normal mode, of which these are known, in this order: the selectors, the contexts, and user
--- data.
+-- The octets are parameters of the normal mode, of which these are known, in this order: the
+-- selectors, the contexts, and user data.
 pub record IsNormal (octets : List ℕ) (c : Connect) : Type 0 where
   pub fields : List Part
   pub selectors : List Part
@@ -100,7 +100,8 @@ pub record IsMode (octets : List ℕ) : Type 0 where
   pub whole : SpellAll octets (value (context 0) number ∷ [])
   pub is : IsInteger number (pos 1)
 
--- The octets are a request for a connection: among other fields the mode and the parameters, in either order.
+-- The octets are a request for a connection: among other fields the mode and the parameters, in
+-- either order.
 pub record IsRequest (octets : List ℕ) (c : Connect) : Type 0 where
   pub content : List ℕ
   pub fields : List Part
@@ -115,8 +116,8 @@ pub record IsRequest (octets : List ℕ) (c : Connect) : Type 0 where
 
 -- ---- ACSE
 
--- The octets are a request for an association (AARQ): among other fields the application context of MMS, and user information,
--- which is one external.
+-- The octets are a request for an association (AARQ): among other fields the application context of
+-- MMS, and user information, which is one external.
 pub record IsAssociate (octets : List ℕ) (c : Carried) : Type 0 where
   pub content : List ℕ
   pub fields : List Part

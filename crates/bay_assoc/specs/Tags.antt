@@ -1,4 +1,5 @@
--- Tags and object identifiers of the presentation layer and of ACSE (X.690 8.1.2.2, 8.18, 8.19; ISO 8823-1 8.2; ISO 8650-1 9).
+-- Tags and object identifiers of the presentation layer and of ACSE (X.690 8.1.2.2, 8.18, 8.19; ISO
+-- 8823-1 8.2; ISO 8650-1 9).
 use Rattle.std.specs.Prelude.{ℕ, true, false, List, [], ◌∷◌}
 use Rattle.bay_ber.specs.declared.tag.Tag.{Tag}
 use Rattle.bay_ber.specs.declared.tag.Class.TheVariants.{Universal, Application}

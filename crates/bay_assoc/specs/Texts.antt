@@ -1,4 +1,5 @@
--- What is sent: the canonical texts of the answers and of data (X.225 8.3, ISO 8823-1 8.2, ISO 8650-1 9).
+-- What is sent: the canonical texts of the answers and of data (X.225 8.3, ISO 8823-1 8.2, ISO
+-- 8650-1 9).
 use Rattle.std.specs.Prelude.{ℕ, pos, ◌/◌, ◌%◌, ◌==◌, ◌||◌, List, [], ◌∷◌, ◌++◌, length, Option, Some, None, nat_lt, if◌then◌else◌}
 use Rattle.bay_ber.specs.declared.tag.Tag.{Tag}
 use Rattle.bay_ber.specs.Writing.{element, integer_octets}
@@ -17,7 +18,8 @@ size_text n = if nat_lt n 255 then n ∷ [] else 255 ∷ n / 256 ∷ n % 256 ∷
 abbrev pub unit_text : ℕ → List ℕ → List ℕ
 unit_text identifier content = identifier ∷ (size_text (length content) ++ content)
 
--- an ACCEPT: the protocol options without extended concatenation, version 2, and the duplex functional unit; then user data
+-- an ACCEPT: the protocol options without extended concatenation, version 2, and the duplex
+-- functional unit; then user data
 abbrev pub accept_text : List ℕ → List ℕ
 accept_text user =
     unit_text 0x0E ((0x05 ∷ 0x06 ∷ 0x13 ∷ 0x01 ∷ 0x00 ∷ 0x16 ∷ 0x01 ∷ 0x02 ∷ 0x14 ∷ 0x02 ∷ 0x00 ∷ 0x02 ∷ []) ++ unit_text 0xC1 user)
@@ -40,7 +42,8 @@ carried_text tag id value = element tag (element int_tag (integer_octets (pos id
 abbrev pub user_text : ℕ → List ℕ → List ℕ
 user_text id value = element (application 1) (carried_text sequence id value)
 
--- What comes of a context: accepted (0) with the Basic Encoding Rules, or rejected by the provider (2).
+-- What comes of a context: accepted (0) with the Basic Encoding Rules, or rejected by the provider
+-- (2).
 abbrev pub result_text : Accepted → Context → List ℕ
 result_text a c =
     element sequence (if (c.id == a.acse) || (c.id == a.mms) then 0x80 ∷ 0x01 ∷ 0x00 ∷ 0x81 ∷ 0x02 ∷ 0x51 ∷ 0x01 ∷ [] else 0x80 ∷ 0x01 ∷ 0x02 ∷ [])
@@ -54,7 +57,8 @@ abbrev pub selector_text : Option (List ℕ) → List ℕ
 selector_text None = []
 selector_text (Some octets) = element (context 3) octets
 
--- the answer to a request for a connection (CPA): the normal mode, the selector, the results, and user data
+-- the answer to a request for a connection (CPA): the normal mode, the selector, the results, and
+-- user data
 abbrev pub connected_text : Option (List ℕ) → List Context → Accepted → List ℕ → List ℕ
 connected_text called contexts a value =
     element set_tag (element (constructed 0) (0x80 ∷ 0x01 ∷ 0x01 ∷ [])
@@ -62,8 +66,8 @@ connected_text called contexts a value =
 
 -- ---- ACSE
 
--- the answer to a request for an association (AARE): the application context, accepted (0), by the service user without a
--- reason, and user information
+-- the answer to a request for an association (AARE): the application context, accepted (0), by the
+-- service user without a reason, and user information
 abbrev pub associated_text : ℕ → List ℕ → List ℕ
 associated_text mms pdu =
     element (application 1) (element (constructed 1) (element oid_tag mms_application)

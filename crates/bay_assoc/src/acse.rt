@@ -1,7 +1,7 @@
 // Association control (ISO 8650-1 9).
 ghost use Rattle.std.specs.Prelude.{◌≡◌, map, option_map};
 ghost use Rattle.bay_ber.specs.Values.{part_of};
-ghost use Rattle.bay_assoc.specs.Acse.{application_of, application_as, information_as, associate_of, associate_in, release_in};
+ghost use Rattle.bay_assoc.specs.Acse as spec;
 ghost use Rattle.bay_assoc.specs.Views.{carried_view};
 
 use crate::presentation::{Carried, carried_of, content_under};
@@ -12,8 +12,9 @@ use bay_ber::values::{Value, few_values};
 // The application context of MMS, 1.0.9506.2.3.
 const MMS_APPLICATION: &[u8] = &[0x28, 0xCA, 0x22, 0x02, 0x03];
 
+// The application context that is named, where it is that of MMS.
 fn application_of(name: &[u8]) -> Option<&[u8]>
-    ensures { option_map (λ o. o.now) result ≡ application_of name.now }
+    ensures { option_map (λ o. o.now) result ≡ spec.application_of name.now }
 {
     if name == MMS_APPLICATION {
         Some(name)
@@ -25,7 +26,7 @@ fn application_of(name: &[u8]) -> Option<&[u8]>
 // The application context, which is that of MMS.
 #[tactic(auto, unfolding(crate::specs::Acse::application_as))]
 fn application_as<'a>(value: &Value<'a>) -> Option<&'a [u8]>
-    ensures { option_map (λ o. o.now) result ≡ application_as (part_of value.now) }
+    ensures { option_map (λ o. o.now) result ≡ spec.application_as (part_of value.now) }
 {
     let name = value.under(Tag::context_constructed(1))?;
     application_of(content_under(name, Tag::universal(6))?)
@@ -34,15 +35,17 @@ fn application_as<'a>(value: &Value<'a>) -> Option<&'a [u8]>
 // The user information, which is one external.
 #[tactic(auto, unfolding(crate::specs::Acse::information_as))]
 fn information_as<'a>(value: &Value<'a>) -> Option<Carried<'a>>
-    ensures { option_map carried_view result ≡ information_as (part_of value.now) }
+    ensures { option_map carried_view result ≡ spec.information_as (part_of value.now) }
 {
     let external = value.under(Tag::context_constructed(30))?;
     let parts = few_values(content_under(external, Tag::universal_constructed(8))?)?;
     carried_of(parts.as_slice())
 }
 
+// The user information of a request for an association, whose parts are its application context and
+// that.
 fn associate_of<'a>(parts: &[Value<'a>]) -> Option<Carried<'a>>
-    ensures { option_map carried_view result ≡ associate_of (map part_of parts.now) }
+    ensures { option_map carried_view result ≡ spec.associate_of (map part_of parts.now) }
 {
     match parts {
         [name, information] => {
@@ -56,7 +59,7 @@ fn associate_of<'a>(parts: &[Value<'a>]) -> Option<Carried<'a>>
 /// The user information of the request for an association (AARQ) that octets are.
 #[tactic(auto, unfolding(crate::specs::Acse::associate_in))]
 pub(crate) fn associate_in(octets: &[u8]) -> Option<Carried<'_>>
-    ensures { option_map carried_view result ≡ associate_in octets.now }
+    ensures { option_map carried_view result ≡ spec.associate_in octets.now }
 {
     let content = content_under(octets, Tag::application_constructed(0))?;
     let tags = [Tag::context_constructed(1), Tag::context_constructed(30)];
@@ -66,7 +69,7 @@ pub(crate) fn associate_in(octets: &[u8]) -> Option<Carried<'_>>
 
 /// The content of the request for a release (RLRQ) that octets are.
 pub(crate) fn release_in(octets: &[u8]) -> Option<&[u8]>
-    ensures { option_map (λ o. o.now) result ≡ release_in octets.now }
+    ensures { option_map (λ o. o.now) result ≡ spec.release_in octets.now }
 {
     content_under(octets, Tag::application_constructed(2))
 }

@@ -43,16 +43,18 @@ impl Assoc {
         }
     }
 
-    /// Hears a TSDU: a request for an association, or for a release, with its answer; a PDU of MMS, which is a slice of the
-    /// TSDU; or an abort. Nothing is kept of a TSDU but the contexts and the size that were agreed.
+    /// Hears a TSDU: a request for an association, or for a release, with its answer; a PDU of MMS,
+    /// which is a slice of the TSDU; or an abort. Nothing is kept of a TSDU but the contexts and
+    /// the size that were agreed.
     ///
-    /// A refusal is for good: later TSDUs are answered `Failed`, as they are after want of memory. After a release and an
-    /// abort every TSDU is refused.
+    /// A refusal is for good: later TSDUs are answered `Failed`, as they are after want of memory.
+    /// After a release and an abort every TSDU is refused.
     pub fn on_tsdu<'a>(&mut self, tsdu: &'a [u8]) -> Result<Heard<'a>, AssocFault>
         ensures heard { Hears self.old tsdu.now result self.new }
         // Memory is wanting only where an answer is due.
         ensures memory { IsErrOf result AssocFault.OutOfMemory → TakesMemory self.old (spdu_in tsdu.now) }
-        // An answer has at most 1,000 octets. A PDU of MMS stands last in the TSDU, and is heard where it can be answered.
+        // An answer has at most 1,000 octets. A PDU of MMS stands last in the TSDU, and is heard
+        // where it can be answered.
         ensures short { IfOk result IsShort }
         ensures last { IfOk result (StandsLast tsdu.now) }
         ensures open { IfOk result (λ heard. IsOpenFor heard self.new) }
@@ -91,8 +93,9 @@ impl Assoc {
         }
     }
 
-    /// What stands before a PDU of MMS of so many octets in the TSDU that it is sent in: the octets of the TSDU are these, at
-    /// most 21, and then the PDU. So a PDU within the size agreed makes a TSDU of at most 65,021 octets. The association is open.
+    /// What stands before a PDU of MMS of so many octets in the TSDU that it is sent in: the octets
+    /// of the TSDU are these, at most 21, and then the PDU. So a PDU within the size agreed makes a
+    /// TSDU of at most 65,021 octets. The association is open.
     pub fn front(&self, count: u32) -> ArrayVec<u8, 21>
         requires open { IsSome (link_of self.now) }
         requires short { count ≤ 65_000 }

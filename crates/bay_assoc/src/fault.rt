@@ -6,7 +6,8 @@ ghost use Rattle.bay_assoc.specs.declared.fault.AssocFault.TheVariants.{OutOfMem
 use std::alloc::AllocError;
 use thiserror::Error;
 
-/// Why a TSDU is refused. After any of these the association refuses every later TSDU with `Failed`.
+/// Why a TSDU is refused. After any of these the association refuses every later TSDU with
+/// `Failed`.
 #[derive(Clone, Copy, Debug, Error)]
 pub enum AssocFault {
     /// The TSDU is no SPDU that is known here (X.225 8.3).
@@ -15,11 +16,12 @@ pub enum AssocFault {
     /// The user data of the session are no PPDU (ISO 8823-1 8.2).
     #[error("the user data of the session are no PPDU")]
     BadPresentation,
-    /// No context of ACSE or none of MMS is offered with the Basic Encoding Rules, or a value comes in a context that was not
-    /// accepted.
+    /// No context of ACSE or none of MMS is offered with the Basic Encoding Rules, or a value comes
+    /// in a context that was not accepted.
     #[error("the presentation context is missing")]
     NoContext,
-    /// A value is no APDU of ACSE that may come now (ISO 8650-1 9), or proposes nothing that can be read.
+    /// A value is no APDU of ACSE that may come now (ISO 8650-1 9), or proposes nothing that can be
+    /// read.
     #[error("the value is no APDU of ACSE")]
     BadAcse,
     /// The SPDU may not come now.

@@ -1,4 +1,5 @@
-// What stands before a PDU of MMS in the TSDU that it is sent in, written forward by lengths that are known before.
+// What stands before a PDU of MMS in the TSDU that it is sent in, written forward by lengths that
+// are known before.
 ghost use Rattle.std.specs.Prelude.{◌≡◌, ◌+◌, ◌<◌, ◌≤◌, ◌∷◌, ◌++◌, ℕ, List, length, pos};
 ghost use Rattle.arrayvec.specs.ArrayVec.{array_vec_len};
 ghost use Rattle.bay_ber.specs.Writing.{length_octets, element, integer_octets};

@@ -1,7 +1,8 @@
 // The phases of an association, and what is heard of a TSDU in each.
 ghost use Rattle.std.specs.Prelude.{◌≡◌, ◌≤◌, ◌∷◌, [], Some, length, option_map, IfOk, IfSome, IsErrOf};
 ghost use Rattle.bay_base.specs.Exact.{Gives};
-ghost use Rattle.bay_assoc.specs.Hearing.{is_id, acse_of, mms_of, accepted_of, acse_value, mms_value, size_of, outstanding_of, nesting_of, agreed_of, agreement, answer_text, connected, finished, transferred, heard_idle, heard_open, hearing};
+ghost use Rattle.bay_assoc.specs.Hearing.{answer_text, hearing};
+ghost use Rattle.bay_assoc.specs.Hearing as spec;
 ghost use Rattle.bay_assoc.specs.Results.{Holds};
 ghost use Rattle.bay_assoc.specs.Session.{spdu_in};
 ghost use Rattle.bay_assoc.specs.Sized.{IsPduSize, IsSized, IsShort};
@@ -62,15 +63,16 @@ pub enum Heard<'a> {
     Aborted,
 }
 
+// Whether a number that was read is the identifier of this presentation context.
 fn is_id(id: i64, context: u16) -> bool
-    ensures { result ≡ is_id id context }
+    ensures { result ≡ spec.is_id id context }
 {
     id == i64::from(context)
 }
 
 // The first context of ACSE with the Basic Encoding Rules.
 fn acse_of(contexts: &[Context]) -> Option<u16>
-    ensures { result ≡ acse_of contexts.now }
+    ensures { result ≡ spec.acse_of contexts.now }
 {
     contexts
         .iter()
@@ -80,7 +82,7 @@ fn acse_of(contexts: &[Context]) -> Option<u16>
 
 // The first context of MMS with them.
 fn mms_of(contexts: &[Context]) -> Option<u16>
-    ensures { result ≡ mms_of contexts.now }
+    ensures { result ≡ spec.mms_of contexts.now }
 {
     contexts
         .iter()
@@ -91,7 +93,7 @@ fn mms_of(contexts: &[Context]) -> Option<u16>
 // The first of each.
 #[tactic(auto, unfolding(crate::specs::Hearing::accepted_of))]
 fn accepted_of(contexts: &[Context]) -> Option<Accepted>
-    ensures { result ≡ accepted_of contexts.now }
+    ensures { result ≡ spec.accepted_of contexts.now }
 {
     let acse = acse_of(contexts)?;
     let mms = mms_of(contexts)?;
@@ -100,7 +102,7 @@ fn accepted_of(contexts: &[Context]) -> Option<Accepted>
 
 // The value in the context of ACSE.
 fn acse_value<'a>(contexts: Accepted, carried: Carried<'a>) -> Result<&'a [u8], AssocFault>
-    ensures { Holds (λ octets. octets.now) result (acse_value contexts (carried_view carried.entry)) }
+    ensures { Holds (λ octets. octets.now) result (spec.acse_value contexts (carried_view carried.entry)) }
 {
     if is_id(carried.id, contexts.acse) {
         Ok(carried.value)
@@ -113,7 +115,7 @@ fn acse_value<'a>(contexts: Accepted, carried: Carried<'a>) -> Result<&'a [u8], 
 
 // The value in the context of MMS.
 fn mms_value<'a>(contexts: Accepted, carried: Carried<'a>) -> Result<&'a [u8], AssocFault>
-    ensures value { Holds (λ octets. octets.now) result (mms_value contexts (carried_view carried.entry)) }
+    ensures value { Holds (λ octets. octets.now) result (spec.mms_value contexts (carried_view carried.entry)) }
     ensures memory { IsErrOf result AssocFault.OutOfMemory → ⊥ }
 {
     if is_id(carried.id, contexts.mms) {
@@ -127,7 +129,7 @@ fn mms_value<'a>(contexts: Accepted, carried: Carried<'a>) -> Result<&'a [u8], A
 
 // The octets of the largest PDU of MMS.
 fn size_of(proposed: Option<i64>) -> Option<u32>
-    ensures size { result ≡ size_of proposed }
+    ensures size { result ≡ spec.size_of proposed }
     ensures sized { IfSome result IsPduSize }
 {
     match proposed {
@@ -144,7 +146,7 @@ fn size_of(proposed: Option<i64>) -> Option<u32>
 
 // How many requests may be outstanding.
 fn outstanding_of(proposed: i64) -> u32
-    ensures { result ≡ outstanding_of proposed }
+    ensures { result ≡ spec.outstanding_of proposed }
 {
     if proposed < 0 {
         0
@@ -155,14 +157,14 @@ fn outstanding_of(proposed: i64) -> u32
 
 // How deep data may nest.
 fn nesting_of(proposed: i64) -> i64
-    ensures { result ≡ nesting_of proposed }
+    ensures { result ≡ spec.nesting_of proposed }
 {
     proposed.min(10)
 }
 
 // What is agreed of a proposal.
 fn agreed_of(proposal: Proposal) -> Option<Agreed>
-    ensures agreed { result ≡ agreed_of proposal }
+    ensures agreed { result ≡ spec.agreed_of proposal }
     ensures sized { IfSome result (λ agreed. IsPduSize agreed.size) }
 {
     let size = size_of(proposal.size)?;
@@ -195,7 +197,7 @@ fn answer(
 // What is agreed on with the contexts and the user data of a request: ACSE, and MMS within it.
 #[tactic(auto, unfolding(crate::specs::Hearing::agreement))]
 fn agreement(contexts: &[Context], user: Carried<'_>) -> Result<(Accepted, Agreed), AssocFault>
-    ensures agreement { Holds (λ x. (x.0, x.1)) result (agreement contexts.now (carried_view user.entry)) }
+    ensures agreement { Holds (λ x. (x.0, x.1)) result (spec.agreement contexts.now (carried_view user.entry)) }
     ensures sized { IfOk result (λ x. IsPduSize x.1.size) }
 {
     let contexts = accepted_of(contexts).ok_or(AssocFault::NoContext)?;
@@ -210,7 +212,7 @@ fn agreement(contexts: &[Context], user: Carried<'_>) -> Result<(Accepted, Agree
 // A request for a connection.
 #[tactic(auto, unfolding(crate::specs::Hearing::connected))]
 fn connected<'a>(alloc: Global, user: &'a [u8]) -> Result<(Heard<'a>, Phase), AssocFault>
-    ensures heard { Gives AssocFault.OutOfMemory (λ x. (hearing_of x.0, x.1)) result (connected user.now) }
+    ensures heard { Gives AssocFault.OutOfMemory (λ x. (hearing_of x.0, x.1)) result (spec.connected user.now) }
     ensures short { IfOk result (λ x. IsShort x.0) }
     ensures sized { IfOk result (λ x. IsSized x.1) }
 {
@@ -241,7 +243,7 @@ fn finished<'a>(
     link: Link,
     user: Option<&'a [u8]>,
 ) -> Result<(Heard<'a>, Phase), AssocFault>
-    ensures heard { Gives AssocFault.OutOfMemory (λ x. (hearing_of x.0, x.1)) result (finished link (option_map (λ octets. octets.now) user.entry)) }
+    ensures heard { Gives AssocFault.OutOfMemory (λ x. (hearing_of x.0, x.1)) result (spec.finished link (option_map (λ octets. octets.now) user.entry)) }
     ensures short { IfOk result (λ x. IsShort x.0) }
     ensures sized { IfOk result (λ x. IsSized x.1) }
 {
@@ -261,7 +263,7 @@ fn finished<'a>(
 #[tactic(auto, unfolding(crate::specs::Hearing::transferred))]
 fn transferred<'a>(link: Link, user: &'a [u8]) -> Result<(Heard<'a>, Phase), AssocFault>
     requires { IsPduSize link.size }
-    ensures heard { Holds (λ x. (hearing_of x.0, x.1)) result (transferred link user.now) }
+    ensures heard { Holds (λ x. (hearing_of x.0, x.1)) result (spec.transferred link user.now) }
     ensures memory { IsErrOf result AssocFault.OutOfMemory → ⊥ }
     ensures short { IfOk result (λ x. IsShort x.0) }
     ensures sized { IfOk result (λ x. IsSized x.1) }
@@ -273,7 +275,7 @@ fn transferred<'a>(link: Link, user: &'a [u8]) -> Result<(Heard<'a>, Phase), Ass
 
 // What is heard of an SPDU before the association.
 fn heard_idle<'a>(alloc: Global, spdu: Spdu<'a>) -> Result<(Heard<'a>, Phase), AssocFault>
-    ensures heard { Gives AssocFault.OutOfMemory (λ x. (hearing_of x.0, x.1)) result (heard_idle (spdu_view spdu.entry)) }
+    ensures heard { Gives AssocFault.OutOfMemory (λ x. (hearing_of x.0, x.1)) result (spec.heard_idle (spdu_view spdu.entry)) }
     ensures memory { IsErrOf result AssocFault.OutOfMemory → TakesMemory Phase.Idle (Some (spdu_view spdu.entry)) }
     ensures short { IfOk result (λ x. IsShort x.0) }
     ensures sized { IfOk result (λ x. IsSized x.1) }
@@ -294,7 +296,7 @@ fn heard_open<'a>(
     spdu: Spdu<'a>,
 ) -> Result<(Heard<'a>, Phase), AssocFault>
     requires { IsPduSize link.size }
-    ensures heard { Gives AssocFault.OutOfMemory (λ x. (hearing_of x.0, x.1)) result (heard_open link (spdu_view spdu.entry)) }
+    ensures heard { Gives AssocFault.OutOfMemory (λ x. (hearing_of x.0, x.1)) result (spec.heard_open link (spdu_view spdu.entry)) }
     ensures memory { IsErrOf result AssocFault.OutOfMemory → TakesMemory (Phase.Open link) (Some (spdu_view spdu.entry)) }
     ensures short { IfOk result (λ x. IsShort x.0) }
     ensures sized { IfOk result (λ x. IsSized x.1) }

@@ -5,7 +5,8 @@ ghost use Rattle.bay_base.specs.Exact.{Gives};
 ghost use Rattle.bay_ber.specs.Values.{part_of, each_in};
 ghost use Rattle.bay_assoc.specs.declared.fault.AssocFault.TheVariants.{BadPresentation};
 ghost use Rattle.bay_assoc.specs.Results.{wanted};
-ghost use Rattle.bay_assoc.specs.Presentation.{content_under, integer_under, is_ber, offers_ber, context_id, context_with, context_of, context_as, has_id, are_distinct, limited, contexts_in, carried_as, carried_of, carried_in, carried_under, user_in, selector_of, selector_as, connect_with, connect_of, normal_in, normal_as, mode_of, mode_as, request_of, request_in};
+ghost use Rattle.bay_assoc.specs.Presentation.{limited};
+ghost use Rattle.bay_assoc.specs.Presentation as spec;
 ghost use Rattle.bay_assoc.specs.Views.{carried_view, connect_view};
 
 use crate::fault::AssocFault;
@@ -29,7 +30,8 @@ const CONTEXTS_MAX: usize = 16;
 
 const SELECTOR_MAX: usize = 16;
 
-/// A presentation context that is offered: its identifier, and whether it offers ACSE or MMS with the Basic Encoding Rules.
+/// A presentation context that is offered: its identifier, and whether it offers ACSE or MMS with
+/// the Basic Encoding Rules.
 #[derive(Clone, Copy)]
 pub struct Context {
     pub id: u16,
@@ -47,14 +49,14 @@ pub struct Carried<'a> {
 // The integer under its own tag.
 #[tactic(auto, unfolding(crate::specs::Presentation::integer_under))]
 fn integer_under(value: &Value<'_>) -> Option<i64>
-    ensures { result ≡ integer_under (part_of value.now) }
+    ensures { result ≡ spec.integer_under (part_of value.now) }
 {
     int_of(value.under(Tag::universal(2))?).ok()
 }
 
 /// The content of the one value that octets are, where it has this tag.
 pub(crate) fn content_under<'a>(octets: &'a [u8], tag: Tag) -> Option<&'a [u8]>
-    ensures { option_map (λ o. o.now) result ≡ content_under tag octets.now }
+    ensures { option_map (λ o. o.now) result ≡ spec.content_under tag octets.now }
 {
     let value = whole_value(octets)?;
     value.under(tag)
@@ -63,18 +65,20 @@ pub(crate) fn content_under<'a>(octets: &'a [u8], tag: Tag) -> Option<&'a [u8]>
 // Whether a transfer syntax is the Basic Encoding Rules.
 #[tactic(auto, unfolding(crate::specs::Presentation::is_ber))]
 fn is_ber(value: &Value<'_>) -> Option<bool>
-    ensures { result ≡ is_ber (part_of value.now) }
+    ensures { result ≡ spec.is_ber (part_of value.now) }
 {
     let name = value.under(Tag::universal(6))?;
     Some(name == BER)
 }
 
+// `first && second` by a call, so that the proof of a caller has no case for each.
 fn both(first: bool, second: bool) -> bool
     ensures { result ≡ (first && second) }
 {
     first && second
 }
 
+// `first || second` likewise.
 fn either(first: bool, second: bool) -> bool
     ensures { result ≡ (first || second) }
 {
@@ -83,7 +87,7 @@ fn either(first: bool, second: bool) -> bool
 
 // Whether one of the transfer syntaxes in octets is.
 fn offers_ber(octets: &[u8]) -> Option<bool>
-    ensures { result ≡ offers_ber octets.now }
+    ensures { result ≡ spec.offers_ber octets.now }
 {
     let mut found = false;
     let mut values = Values::new(octets);
@@ -101,8 +105,9 @@ fn offers_ber(octets: &[u8]) -> Option<bool>
     }
 }
 
+// The identifier of a presentation context: 1 to 32,767.
 fn context_id(number: i64) -> Option<u16>
-    ensures { result ≡ context_id number }
+    ensures { result ≡ spec.context_id number }
 {
     if number > 0 && number < 32_768 {
         Some(number as u16)
@@ -111,9 +116,10 @@ fn context_id(number: i64) -> Option<u16>
     }
 }
 
+// The context of an identifier, an abstract syntax and a list of transfer syntaxes.
 #[tactic(auto, unfolding(crate::specs::Presentation::context_with))]
 fn context_with(id: &Value<'_>, syntax: &Value<'_>, transfers: &Value<'_>) -> Option<Context>
-    ensures { result ≡ context_with (part_of id.now) (part_of syntax.now) (part_of transfers.now) }
+    ensures { result ≡ spec.context_with (part_of id.now) (part_of syntax.now) (part_of transfers.now) }
 {
     let id = context_id(integer_under(id)?)?;
     let name = syntax.under(Tag::universal(6))?;
@@ -126,8 +132,9 @@ fn context_with(id: &Value<'_>, syntax: &Value<'_>, transfers: &Value<'_>) -> Op
     })
 }
 
+// The context whose three parts these are.
 fn context_of(parts: &[Value<'_>]) -> Option<Context>
-    ensures { result ≡ context_of (map part_of parts.now) }
+    ensures { result ≡ spec.context_of (map part_of parts.now) }
 {
     match parts {
         [id, syntax, transfers] => context_with(id, syntax, transfers),
@@ -138,7 +145,7 @@ fn context_of(parts: &[Value<'_>]) -> Option<Context>
 // The context that a value offers.
 #[tactic(auto, unfolding(crate::specs::Presentation::context_as))]
 fn context_as(value: &Value<'_>) -> Option<Context>
-    ensures { result ≡ context_as (part_of value.now) }
+    ensures { result ≡ spec.context_as (part_of value.now) }
 {
     let parts = few_values(value.under(Tag::sequence())?)?;
     context_of(parts.as_slice())
@@ -146,7 +153,7 @@ fn context_as(value: &Value<'_>) -> Option<Context>
 
 // The contexts that octets offer, one after another.
 fn read_contexts(alloc: Global, octets: &[u8]) -> Result<Vec<Context>, AssocFault>
-    ensures { Gives AssocFault.OutOfMemory (λ v. v.items) result (wanted BadPresentation (each_in context_as octets.now)) }
+    ensures { Gives AssocFault.OutOfMemory (λ v. v.items) result (wanted BadPresentation (each_in spec.context_as octets.now)) }
 {
     let mut contexts = Vec::new(alloc);
     let mut values = Values::new(octets);
@@ -164,6 +171,7 @@ fn read_contexts(alloc: Global, octets: &[u8]) -> Result<Vec<Context>, AssocFaul
     }
 }
 
+// Keeps one context more.
 fn push_context(contexts: &mut Vec<Context>, one: Context) -> Result<(), AllocError>
     ensures { OnOk result (contexts.new.items ≡ contexts.old.items ++ one ∷ []) }
 {
@@ -173,14 +181,14 @@ fn push_context(contexts: &mut Vec<Context>, one: Context) -> Result<(), AllocEr
 
 // Whether a context has this identifier.
 fn has_id(id: u16, contexts: &[Context]) -> bool
-    ensures { result ≡ has_id id contexts.now }
+    ensures { result ≡ spec.has_id id contexts.now }
 {
     contexts.iter().any(|context| context.id == id)
 }
 
 // Whether no two contexts have one identifier.
 fn are_distinct(contexts: &[Context]) -> bool
-    ensures { result ≡ are_distinct contexts.now }
+    ensures { result ≡ spec.are_distinct contexts.now }
 {
     for (at, context) in contexts.iter().enumerate() {
         let id = context.id;
@@ -194,7 +202,7 @@ fn are_distinct(contexts: &[Context]) -> bool
 // The contexts that octets offer, if they are few and distinct.
 #[tactic(auto, unfolding(crate::specs::Presentation::contexts_in))]
 fn contexts_in(alloc: Global, octets: &[u8]) -> Result<Vec<Context>, AssocFault>
-    ensures exact { Gives AssocFault.OutOfMemory (λ v. v.items) result (wanted BadPresentation (contexts_in octets.now)) }
+    ensures exact { Gives AssocFault.OutOfMemory (λ v. v.items) result (wanted BadPresentation (spec.contexts_in octets.now)) }
     ensures few { IfOk result (λ v. length v.items ≤ 16) }
 {
     let contexts = read_contexts(alloc, octets)?;
@@ -204,9 +212,10 @@ fn contexts_in(alloc: Global, octets: &[u8]) -> Result<Vec<Context>, AssocFault>
     Ok(contexts)
 }
 
+// The identifier of a context, and the value that is carried in it as a single ASN.1 type.
 #[tactic(auto, unfolding(crate::specs::Presentation::carried_as))]
 fn carried_as<'a>(id: &Value<'_>, value: &Value<'a>) -> Option<Carried<'a>>
-    ensures { option_map carried_view result ≡ carried_as (part_of id.now) (part_of value.now) }
+    ensures { option_map carried_view result ≡ spec.carried_as (part_of id.now) (part_of value.now) }
 {
     let id = integer_under(id)?;
     let value = value.under(Tag::context_constructed(0))?;
@@ -215,7 +224,7 @@ fn carried_as<'a>(id: &Value<'_>, value: &Value<'a>) -> Option<Carried<'a>>
 
 /// The value that parts carry, and its context.
 pub(crate) fn carried_of<'a>(parts: &[Value<'a>]) -> Option<Carried<'a>>
-    ensures { option_map carried_view result ≡ carried_of (map part_of parts.now) }
+    ensures { option_map carried_view result ≡ spec.carried_of (map part_of parts.now) }
 {
     match parts {
         [id, value] => carried_as(id, value),
@@ -227,15 +236,16 @@ pub(crate) fn carried_of<'a>(parts: &[Value<'a>]) -> Option<Carried<'a>>
 // The one value of fully encoded user data.
 #[tactic(auto, unfolding(crate::specs::Presentation::carried_in))]
 fn carried_in(octets: &[u8]) -> Option<Carried<'_>>
-    ensures { option_map carried_view result ≡ carried_in octets.now }
+    ensures { option_map carried_view result ≡ spec.carried_in octets.now }
 {
     let parts = few_values(content_under(octets, Tag::sequence())?)?;
     carried_of(parts.as_slice())
 }
 
+// The one value of user data under their tag.
 #[tactic(auto, unfolding(crate::specs::Presentation::carried_under))]
 fn carried_under<'a>(value: &Value<'a>) -> Option<Carried<'a>>
-    ensures { option_map carried_view result ≡ carried_under (part_of value.now) }
+    ensures { option_map carried_view result ≡ spec.carried_under (part_of value.now) }
 {
     carried_in(value.under(Tag::application_constructed(1))?)
 }
@@ -243,14 +253,15 @@ fn carried_under<'a>(value: &Value<'a>) -> Option<Carried<'a>>
 /// The value that user data of the session carry, and its context.
 #[tactic(auto, unfolding(crate::specs::Presentation::user_in))]
 pub(crate) fn user_in(octets: &[u8]) -> Option<Carried<'_>>
-    ensures { option_map carried_view result ≡ user_in octets.now }
+    ensures { option_map carried_view result ≡ spec.user_in octets.now }
 {
     let value = whole_value(octets)?;
     carried_under(&value)
 }
 
+// A selector of at most 16 octets.
 fn selector_of(octets: &[u8]) -> Option<&[u8]>
-    ensures exact { option_map (λ o. o.now) result ≡ selector_of octets.now }
+    ensures exact { option_map (λ o. o.now) result ≡ spec.selector_of octets.now }
     ensures short { IfSome result (λ o. length o.now ≤ 16) }
 {
     if octets.len() > SELECTOR_MAX {
@@ -262,7 +273,7 @@ fn selector_of(octets: &[u8]) -> Option<&[u8]>
 
 // The selector of the one called, where it came.
 fn selector_as<'a>(value: Option<&Value<'a>>) -> Option<Option<&'a [u8]>>
-    ensures exact { option_map (option_map (λ o. o.now)) result ≡ selector_as (option_map part_of (option_copied value.entry)) }
+    ensures exact { option_map (option_map (λ o. o.now)) result ≡ spec.selector_as (option_map part_of (option_copied value.entry)) }
     ensures short { IfSome result (λ o. ForSome o (λ octets. length octets.now ≤ 16)) }
 {
     match value {
@@ -271,6 +282,7 @@ fn selector_as<'a>(value: Option<&Value<'a>>) -> Option<Option<&'a [u8]>>
     }
 }
 
+// What a request for a connection has: the selector of the one called, the contexts, and user data.
 #[tactic(auto, unfolding(crate::specs::Presentation::connect_with))]
 fn connect_with<'a>(
     alloc: Global,
@@ -278,7 +290,7 @@ fn connect_with<'a>(
     list: &Value<'a>,
     user: &Value<'a>,
 ) -> Result<Connect<'a>, AssocFault>
-    ensures { Gives AssocFault.OutOfMemory connect_view result (wanted BadPresentation (connect_with (option_map part_of (option_copied selector.entry)) (part_of list.now) (part_of user.now))) }
+    ensures { Gives AssocFault.OutOfMemory connect_view result (wanted BadPresentation (spec.connect_with (option_map part_of (option_copied selector.entry)) (part_of list.now) (part_of user.now))) }
 {
     let called = selector_as(selector).ok_or(AssocFault::BadPresentation)?;
     let octets = list
@@ -293,8 +305,9 @@ fn connect_with<'a>(
     })
 }
 
+// The same by its parts; the selectors of the one who calls and of the one called may be missing.
 fn connect_of<'a>(alloc: Global, parts: &[Value<'a>]) -> Result<Connect<'a>, AssocFault>
-    ensures { Gives AssocFault.OutOfMemory connect_view result (wanted BadPresentation (connect_of (map part_of parts.now))) }
+    ensures { Gives AssocFault.OutOfMemory connect_view result (wanted BadPresentation (spec.connect_of (map part_of parts.now))) }
 {
     let (called, list, user) = match parts {
         [list, user] => (None, list, user),
@@ -311,7 +324,7 @@ fn connect_of<'a>(alloc: Global, parts: &[Value<'a>]) -> Result<Connect<'a>, Ass
 // The parameters of the normal mode, among other fields.
 #[tactic(auto, unfolding(crate::specs::Presentation::normal_in))]
 fn normal_in(alloc: Global, octets: &[u8]) -> Result<Connect<'_>, AssocFault>
-    ensures { Gives AssocFault.OutOfMemory connect_view result (wanted BadPresentation (normal_in octets.now)) }
+    ensures { Gives AssocFault.OutOfMemory connect_view result (wanted BadPresentation (spec.normal_in octets.now)) }
 {
     let tags = [
         Tag::context(1),
@@ -323,9 +336,10 @@ fn normal_in(alloc: Global, octets: &[u8]) -> Result<Connect<'_>, AssocFault>
     connect_of(alloc, known.as_slice())
 }
 
+// The parameters of the normal mode under their tag.
 #[tactic(auto, unfolding(crate::specs::Presentation::normal_as))]
 fn normal_as<'a>(alloc: Global, value: &Value<'a>) -> Result<Connect<'a>, AssocFault>
-    ensures { Gives AssocFault.OutOfMemory connect_view result (wanted BadPresentation (normal_as (part_of value.now))) }
+    ensures { Gives AssocFault.OutOfMemory connect_view result (wanted BadPresentation (spec.normal_as (part_of value.now))) }
 {
     let octets = value
         .under(Tag::context_constructed(2))
@@ -333,8 +347,9 @@ fn normal_as<'a>(alloc: Global, value: &Value<'a>) -> Result<Connect<'a>, AssocF
     normal_in(alloc, octets)
 }
 
+// The number of the normal mode, 1; no other mode is taken.
 fn mode_of(number: i64) -> Option<i64>
-    ensures { result ≡ mode_of number }
+    ensures { result ≡ spec.mode_of number }
 {
     if number == 1 { Some(number) } else { None }
 }
@@ -342,7 +357,7 @@ fn mode_of(number: i64) -> Option<i64>
 // The normal mode.
 #[tactic(auto, unfolding(crate::specs::Presentation::mode_as))]
 fn mode_as(value: &Value<'_>) -> Option<i64>
-    ensures { result ≡ mode_as (part_of value.now) }
+    ensures { result ≡ spec.mode_as (part_of value.now) }
 {
     let mode = value.under(Tag::context_constructed(0))?;
     let number = content_under(mode, Tag::context(0))?;
@@ -351,7 +366,7 @@ fn mode_as(value: &Value<'_>) -> Option<i64>
 
 // The mode and the parameters, in either order.
 fn request_of<'a>(alloc: Global, parts: &[Value<'a>]) -> Result<Connect<'a>, AssocFault>
-    ensures { Gives AssocFault.OutOfMemory connect_view result (wanted BadPresentation (request_of (map part_of parts.now))) }
+    ensures { Gives AssocFault.OutOfMemory connect_view result (wanted BadPresentation (spec.request_of (map part_of parts.now))) }
 {
     let (mode, parameters) = match parts {
         [first, second] if first.tag.is(Tag::context_constructed(0)) => (first, second),
@@ -365,7 +380,7 @@ fn request_of<'a>(alloc: Global, parts: &[Value<'a>]) -> Result<Connect<'a>, Ass
 /// The request for a connection (CP) that octets are, among other fields.
 #[tactic(auto, unfolding(crate::specs::Presentation::request_in))]
 pub(crate) fn request_in(alloc: Global, octets: &[u8]) -> Result<Connect<'_>, AssocFault>
-    ensures { Gives AssocFault.OutOfMemory connect_view result (wanted BadPresentation (request_in octets.now)) }
+    ensures { Gives AssocFault.OutOfMemory connect_view result (wanted BadPresentation (spec.request_in octets.now)) }
 {
     let content = content_under(octets, Tag::universal_constructed(17)).ok_or(
         AssocFault::BadPresentation,

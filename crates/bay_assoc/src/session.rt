@@ -1,7 +1,9 @@
-// Session protocol data units (X.225 8): an identifier, a length, and parameters, which are spelled likewise.
+// Session protocol data units (X.225 8): an identifier, a length, and parameters, which are spelled
+// likewise.
 ghost use Rattle.std.specs.Prelude.{◌≡◌, ◌+◌, ◌≤◌, length, option_map, IfSome};
-ghost use Rattle.bay_assoc.specs.Session.{size_at, long_size, counted_at, unit_at, unit_in, is_user, users_in, connect_of, finish_of, spdu_of, spdu_in};
-ghost use Rattle.bay_assoc.specs.SessionReading.{NextUnit, with_user};
+ghost use Rattle.bay_assoc.specs.Session as spec;
+ghost use Rattle.bay_assoc.specs.SessionReading.{NextUnit};
+ghost use Rattle.bay_assoc.specs.SessionReading as spec_session_reading;
 ghost use Rattle.bay_assoc.specs.SessionViews.{unit_of};
 ghost use Rattle.bay_assoc.specs.Views.{users_of, spdu_view};
 
@@ -10,7 +12,8 @@ use std::marker::Model;
 // The code of a parameter that is user data.
 const USER_DATA: u8 = 0xC1;
 
-/// An identifier and the octets that the length behind it counts: an SPDU, a parameter or a group of parameters.
+/// An identifier and the octets that the length behind it counts: an SPDU, a parameter or a group
+/// of parameters.
 #[derive(Clone, Copy)]
 pub struct Unit<'a> {
     pub identifier: u8,
@@ -44,7 +47,7 @@ pub enum Spdu<'a> {
 
 // A length of two octets, and the octets behind it.
 fn long_size(octets: &[u8]) -> Option<(usize, &[u8])>
-    ensures exact { option_map (λ x. (x.0, x.1.now)) result ≡ long_size octets.now }
+    ensures exact { option_map (λ x. (x.0, x.1.now)) result ≡ spec.long_size octets.now }
     ensures shorter { IfSome result (λ x. length x.1.now ≤ length octets.now) }
 {
     match octets {
@@ -56,7 +59,7 @@ fn long_size(octets: &[u8]) -> Option<(usize, &[u8])>
 // A length, and the octets behind it.
 #[tactic(auto, unfolding(crate::specs::Session::size_at))]
 fn size_at(octets: &[u8]) -> Option<(usize, &[u8])>
-    ensures exact { option_map (λ x. (x.0, x.1.now)) result ≡ size_at octets.now }
+    ensures exact { option_map (λ x. (x.0, x.1.now)) result ≡ spec.size_at octets.now }
     ensures shorter { IfSome result (λ x. length x.1.now + 1 ≤ length octets.now) }
 {
     match octets {
@@ -74,7 +77,7 @@ fn size_at(octets: &[u8]) -> Option<(usize, &[u8])>
 // The octets that a length counts, and those behind them.
 #[tactic(auto, unfolding(crate::specs::Session::counted_at))]
 fn counted_at(octets: &[u8]) -> Option<(&[u8], &[u8])>
-    ensures exact { option_map (λ x. (x.0.now, x.1.now)) result ≡ counted_at octets.now }
+    ensures exact { option_map (λ x. (x.0.now, x.1.now)) result ≡ spec.counted_at octets.now }
     ensures shorter { IfSome result (λ x. length x.1.now + 1 ≤ length octets.now) }
 {
     let (count, rest) = size_at(octets)?;
@@ -87,7 +90,7 @@ fn counted_at(octets: &[u8]) -> Option<(&[u8], &[u8])>
 // A unit, and the octets behind it.
 #[tactic(auto, unfolding(crate::specs::Session::unit_at))]
 fn unit_at(octets: &[u8]) -> Option<(Unit<'_>, &[u8])>
-    ensures exact { option_map (λ x. (unit_of x.0, x.1.now)) result ≡ unit_at octets.now }
+    ensures exact { option_map (λ x. (unit_of x.0, x.1.now)) result ≡ spec.unit_at octets.now }
     ensures shorter { IfSome result (λ x. length x.1.now + 2 ≤ length octets.now) }
 {
     match octets {
@@ -103,7 +106,8 @@ fn unit_at(octets: &[u8]) -> Option<(Unit<'_>, &[u8])>
     }
 }
 
-/// The units that stand one after another in octets, which contracts see as the octets that are left.
+/// The units that stand one after another in octets, which contracts see as the octets that are
+/// left.
 #[derive(Drop)]
 pub struct Units<'a> {
     rest: &'a [u8],
@@ -128,6 +132,7 @@ pub enum Next<'a> {
 }
 
 impl<'a> Units<'a> {
+    // The units of these octets, none read yet.
     fn new(octets: &'a [u8]) -> Units<'a>
         ensures { result ≡ octets.now }
     {
@@ -151,15 +156,16 @@ impl<'a> Units<'a> {
     }
 }
 
+// Whether a parameter is user data.
 fn is_user(unit: &Unit<'_>) -> bool
-    ensures { result ≡ is_user (unit_of unit.now) }
+    ensures { result ≡ spec.is_user (unit_of unit.now) }
 {
     unit.identifier == USER_DATA
 }
 
 // The user data behind those found, where a unit is one.
 fn with_user<'a>(found: UserData<'a>, unit: Unit<'a>) -> UserData<'a>
-    ensures { users_of result ≡ with_user (users_of found.entry) (unit_of unit.entry) }
+    ensures { users_of result ≡ spec_session_reading.with_user (users_of found.entry) (unit_of unit.entry) }
 {
     if !is_user(&unit) {
         return found;
@@ -172,7 +178,7 @@ fn with_user<'a>(found: UserData<'a>, unit: Unit<'a>) -> UserData<'a>
 
 // The user data among the parameters that octets are; None where they are no parameters.
 fn users_in(octets: &[u8]) -> Option<UserData<'_>>
-    ensures { option_map users_of result ≡ users_in octets.now }
+    ensures { option_map users_of result ≡ spec.users_in octets.now }
 {
     let mut found = UserData::Missing;
     let mut units = Units::new(octets);
@@ -185,8 +191,9 @@ fn users_in(octets: &[u8]) -> Option<UserData<'_>>
     }
 }
 
+// A CONNECT has user data once.
 fn connect_of(users: UserData<'_>) -> Option<Spdu<'_>>
-    ensures { option_map spdu_view result ≡ connect_of (users_of users.entry) }
+    ensures { option_map spdu_view result ≡ spec.connect_of (users_of users.entry) }
 {
     match users {
         UserData::Once(user) => Some(Spdu::Connect(user)),
@@ -194,8 +201,9 @@ fn connect_of(users: UserData<'_>) -> Option<Spdu<'_>>
     }
 }
 
+// A FINISH has user data at most once.
 fn finish_of(users: UserData<'_>) -> Option<Spdu<'_>>
-    ensures { option_map spdu_view result ≡ finish_of (users_of users.entry) }
+    ensures { option_map spdu_view result ≡ spec.finish_of (users_of users.entry) }
 {
     match users {
         UserData::Missing => Some(Spdu::Finish(None)),
@@ -207,7 +215,7 @@ fn finish_of(users: UserData<'_>) -> Option<Spdu<'_>>
 // The SPDU that a unit is.
 #[tactic(auto, unfolding(crate::specs::Session::spdu_of))]
 fn spdu_of(unit: Unit<'_>) -> Option<Spdu<'_>>
-    ensures { option_map spdu_view result ≡ spdu_of (unit_of unit.entry) }
+    ensures { option_map spdu_view result ≡ spec.spdu_of (unit_of unit.entry) }
 {
     let users = users_in(unit.content)?;
     match unit.identifier {
@@ -222,7 +230,7 @@ fn spdu_of(unit: Unit<'_>) -> Option<Spdu<'_>>
 
 // The unit that octets are.
 fn unit_in(octets: &[u8]) -> Option<Unit<'_>>
-    ensures { option_map unit_of result ≡ unit_in octets.now }
+    ensures { option_map unit_of result ≡ spec.unit_in octets.now }
 {
     match unit_at(octets) {
         Some((unit, rest)) => { if rest.is_empty() { Some(unit) } else { None } }
@@ -233,7 +241,7 @@ fn unit_in(octets: &[u8]) -> Option<Unit<'_>>
 /// The SPDU that a TSDU is.
 #[tactic(auto, unfolding(crate::specs::Session::spdu_in))]
 pub(crate) fn spdu_in(tsdu: &[u8]) -> Option<Spdu<'_>>
-    ensures { option_map spdu_view result ≡ spdu_in tsdu.now }
+    ensures { option_map spdu_view result ≡ spec.spdu_in tsdu.now }
 {
     match tsdu {
         [1, 0, 1, 0, user @ ..] => Some(Spdu::Transfer(user)),

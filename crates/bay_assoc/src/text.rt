@@ -13,7 +13,8 @@ use bay_ber::tag::Tag;
 use bay_ber::writer::Writer;
 use std::alloc::{AllocError, Global};
 
-// The front of the parameters of an ACCEPT: the protocol options and the version as one group, and the functional units.
+// The front of the parameters of an ACCEPT: the protocol options and the version as one group, and
+// the functional units.
 const ACCEPT: [u8; 12] = [
     0x05, 0x06, 0x13, 0x01, 0x00, 0x16, 0x01, 0x02, 0x14, 0x02, 0x00, 0x02,
 ];
@@ -120,6 +121,7 @@ fn put_each(writer: &mut Writer, accepted: Accepted, contexts: &[Context]) -> Re
     Ok(())
 }
 
+// Writes the list of the results, one for each context that was offered.
 fn put_results(
     writer: &mut Writer,
     accepted: Accepted,

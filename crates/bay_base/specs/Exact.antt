@@ -1,7 +1,9 @@
--- 'Exact, but for want of memory': what the result of a call that takes memory says of a definition's value.
+-- 'Exact, but for want of memory': what the result of a call that takes memory says of a
+-- definition's value.
 use Rattle.std.specs.Prelude.{◌≡◌, ◌⊎◌, Option, Some, None, Result, Ok, Err}
 
--- The result, seen through a view, is what is held. Want of memory may stand in the place of any of it.
+-- The result, seen through a view, is what is held. Want of memory may stand in the place of any of
+-- it.
 abbrev pub Gives : {A B E : Type 0} → E → (A → B) → Result A E → Result B E → Type 0
 Gives memory view (Ok x) held = held ≡ Ok (view x)
 Gives memory view (Err e) held = (e ≡ memory) ⊎ (held ≡ Err e)

@@ -1,7 +1,8 @@
 // The reserved words of Instruction List.
 ghost use Rattle.std.specs.Prelude.{◌≡◌, map, find, option_copied, option_map};
 ghost use Rattle.bay_base.specs.Names.{same_name};
-ghost use Rattle.bay_base.specs.Words.{reserved_words, reserved_of};
+ghost use Rattle.bay_base.specs.Words.{reserved_of};
+ghost use Rattle.bay_base.specs.Words as spec;
 
 use crate::names::same_name;
 
@@ -109,8 +110,9 @@ const RESERVED_WORDS: [(&str, ReservedWord); 47] = [
     ("FALSE", ReservedWord::False),
 ];
 
+/// All reserved words with their spellings.
 fn reserved_words() -> &'static [(&'static str, ReservedWord)]
-    ensures { map (λ entry. (entry.0.now, entry.1)) result.now ≡ reserved_words }
+    ensures { map (λ entry. (entry.0.now, entry.1)) result.now ≡ spec.reserved_words }
 {
     &RESERVED_WORDS
 }
@@ -125,6 +127,7 @@ fn entry_of<'a>(
     entries.iter().find(|entry| same_name(text, entry.0))
 }
 
+/// The word of an entry.
 fn word_of(entry: Option<&(&'static str, ReservedWord)>) -> Option<ReservedWord>
     ensures { result ≡ option_map (λ one. one.1) (option_copied entry.entry) }
 {

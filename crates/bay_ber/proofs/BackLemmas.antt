@@ -1,4 +1,5 @@
--- What octets are read as, they spell, and what they spell they are read as: values, fields and contents.
+-- What octets are read as, they spell, and what they spell they are read as: values, fields and
+-- contents.
 use Rattle.std.proofs.Common.{◌≡◌, ℕ, zero, suc, ℤ, ◌+◌, ◌-◌, ◌*◌, ◌<◌, Bool, true, false, cond, ltb, List, [], ◌∷◌, ◌++◌, length, filter, Option, Some, None, refl, sym, ap, subst, ◌∙◌, arith}
 use Rattle.std.proofs.lemmas.Bool.{eqb-true, lt-ltb, ltb-true, ltb-false, cond-true}
 use Rattle.std.proofs.lemmas.List.{get_or-append-add}

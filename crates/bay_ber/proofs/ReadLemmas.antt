@@ -10,7 +10,7 @@ use Rattle.bay_ber.specs.declared.tag.Tag.{Tag}
 use Rattle.bay_ber.specs.declared.tlv.Tlv.{Tlv}
 use Rattle.bay_ber.specs.Octets.{number_of}
 use Rattle.bay_ber.specs.Spelling.{identifier, IsTag, IsLength, Spells}
-use Rattle.bay_ber.specs.Reading.{◌>>=◌, Gives, Reading, reading_of, Begins, HasLargeTag, HasLengthOctet, IsIndefinite, HasLongLength, IsTruncated, class_of, is_constructed, low_bits, second_at, tag_at, length_at, tlv_at}
+use Rattle.bay_ber.specs.Reading.{◌>>=◌, IsRead, Reading, reading_of, Begins, HasLargeTag, HasLengthOctet, IsIndefinite, HasLongLength, IsTruncated, class_of, is_constructed, low_bits, second_at, tag_at, length_at, tlv_at}
 use Rattle.bay_ber.proofs.TagLemmas.{class_of-identifier, is_constructed-identifier, low_bits-identifier, identifier_of}
 
 abbrev pub IsBytes : List ℕ → Type 0
@@ -324,19 +324,19 @@ truncated_again octets fits h = truncated_answer octets (tlv_at octets) fits h r
 
 -- ---- what a function answers that reads so
 
-pub is_ok : (octets : List ℕ) (result : Result Tlv BerFault) → IsBytes octets → Gives reading_of result (tlv_at octets) → IfOk result (λ tlv. Begins octets (reading_of tlv))
+pub is_ok : (octets : List ℕ) (result : Result Tlv BerFault) → IsBytes octets → IsRead reading_of result (tlv_at octets) → IfOk result (λ tlv. Begins octets (reading_of tlv))
 is_ok octets (Ok tlv) fits given = tlv_takes octets (reading_of tlv) fits given
 is_ok octets (Err d) fits given = tt
 
-pub is_only : (octets : List ℕ) (result : Result Tlv BerFault) (r : Reading) → Gives reading_of result (tlv_at octets) → Begins octets r → IsOkAnd result (λ tlv. reading_of tlv ≡ r)
+pub is_only : (octets : List ℕ) (result : Result Tlv BerFault) (r : Reading) → IsRead reading_of result (tlv_at octets) → Begins octets r → IsOkAnd result (λ tlv. reading_of tlv ≡ r)
 is_only octets (Ok tlv) r given begins = ok_is (reading_of tlv) r (sym given ∙ tlv_again octets r begins)
 is_only octets (Err d) r given begins = absurd (not_err r d (sym (tlv_again octets r begins) ∙ given))
 
-pub is_err : (octets : List ℕ) (result : Result Tlv BerFault) (d : BerFault) → Gives reading_of result (tlv_at octets) → result ≡ Err d → tlv_at octets ≡ Err d
+pub is_err : (octets : List ℕ) (result : Result Tlv BerFault) (d : BerFault) → IsRead reading_of result (tlv_at octets) → result ≡ Err d → tlv_at octets ≡ Err d
 is_err octets (Ok tlv) d given e = absurd (not_err tlv d e)
 is_err octets (Err c) d given e = given ∙ ap Err (err_is c d e)
 
-pub err_is_answer : (octets : List ℕ) (result : Result Tlv BerFault) (d : BerFault) → Gives reading_of result (tlv_at octets) → tlv_at octets ≡ Err d → result ≡ Err d
+pub err_is_answer : (octets : List ℕ) (result : Result Tlv BerFault) (d : BerFault) → IsRead reading_of result (tlv_at octets) → tlv_at octets ≡ Err d → result ≡ Err d
 err_is_answer octets (Ok tlv) d given e = absurd (not_err (reading_of tlv) d (sym given ∙ e))
 err_is_answer octets (Err c) d given e = ap Err (err_is c d (sym given ∙ e))
 
@@ -366,6 +366,6 @@ begins_shorter octets r begins =
     let whole : length octets ≡ length s.front + (length s.len + length r.content) + length r.rest = rw (begins.parts, s.parts) (simp length-append) in
     omega (arith, tag_some s.front r.tag s.is_tag, len_some s.len (length r.content) s.is_length)
 
-pub is_shorter : (octets : List ℕ) (result : Result Tlv BerFault) → IsBytes octets → Gives reading_of result (tlv_at octets) → IfOk result (λ tlv. length tlv.content.now + length tlv.rest.now + 2 ≤ length octets)
+pub is_shorter : (octets : List ℕ) (result : Result Tlv BerFault) → IsBytes octets → IsRead reading_of result (tlv_at octets) → IfOk result (λ tlv. length tlv.content.now + length tlv.rest.now + 2 ≤ length octets)
 is_shorter octets (Ok tlv) fits given = begins_shorter octets (reading_of tlv) (tlv_takes octets (reading_of tlv) fits given)
 is_shorter octets (Err d) fits given = tt

@@ -23,7 +23,8 @@ pub record HasBits (unused : ℕ) (octets : List ℕ) (count : ℕ) : Type 0 whe
   pub filled : count + unused ≡ 8 * length octets
   pub within : length octets < 2 ^ 61
 
--- The content is the number of unused bits, and the octets that hold the bits, the first bit highest (X.690 8.6.2).
+-- The content is the number of unused bits, and the octets that hold the bits, the first bit
+-- highest (X.690 8.6.2).
 abbrev pub IsBits : List ℕ → List ℕ → ℕ → Type 0
 IsBits [] octets count = ⊥
 IsBits (unused ∷ behind) octets count = (octets ≡ behind) × HasBits unused behind count

@@ -64,9 +64,9 @@ abbrev pub ◌>>=◌ : {A B : Type 0} → Result A BerFault → (A → Result B 
 (Err e) >>= f = Err e
 
 -- What a function answered, seen by view, is what reading gives.
-abbrev pub Gives : {X Y : Type 0} → (X → Y) → Result X BerFault → Result Y BerFault → Type 0
-Gives view (Ok x) read = read ≡ Ok (view x)
-Gives view (Err e) read = read ≡ Err e
+abbrev pub IsRead : {X Y : Type 0} → (X → Y) → Result X BerFault → Result Y BerFault → Type 0
+IsRead view (Ok x) read = read ≡ Ok (view x)
+IsRead view (Err e) read = read ≡ Err e
 
 abbrev pub class_of : ℕ → Class
 class_of first = if nat_lt first 64 then Universal else (if nat_lt first 128 then Application else (if nat_lt first 192 then ContextSpecific else Private))

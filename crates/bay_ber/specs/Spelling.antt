@@ -20,8 +20,8 @@ identifier class constructed low = class_bits class * 64 + (if constructed then 
 abbrev pub octet_of : Tag → ℕ
 octet_of tag = identifier tag.class tag.constructed tag.number
 
--- A tag is one octet whose low five bits are below 31 and give the number, or one octet with 31 there and one
--- octet below 128 that gives it (X.690 8.1.2).
+-- A tag is one octet whose low five bits are below 31 and give the number, or one octet with 31
+-- there and one octet below 128 that gives it (X.690 8.1.2).
 abbrev pub IsTag : List ℕ → Tag → Type 0
 IsTag [] tag = ⊥
 IsTag (first ∷ []) tag = (tag.number < 31) × (first ≡ identifier tag.class tag.constructed tag.number)

@@ -26,8 +26,8 @@ abbrev pub SpellAll : List ℕ → List Part → Type 0
 SpellAll octets [] = octets ≡ []
 SpellAll octets (part ∷ parts) = (front : List ℕ) × (rest : List ℕ) × (octets ≡ front ++ rest) × Spells front part.tag part.content × SpellAll rest parts
 
--- What is answered of the values in octets, and what is left of them: none where no octet is left, else the first and the
--- octets behind it, or a fault where no value stands first.
+-- What is answered of the values in octets, and what is left of them: none where no octet is left,
+-- else the first and the octets behind it, or a fault where no value stands first.
 abbrev pub Next : List ℕ → Result (Option Value) BerFault → List ℕ → Type 0
 Next old (Ok None) new = (old ≡ []) × (new ≡ [])
 Next old (Ok (Some value)) new = Begins old (record { tag = value.tag; content = value.content.now; rest = new })
@@ -52,7 +52,8 @@ values_within most [] = Some []
 values_within zero (octet ∷ octets) = None
 values_within (suc most) (octet ∷ octets) = with_front (tlv_at (octet ∷ octets)) (values_within most)
 
--- the values that the octets are, one after another; a value has at least two octets, so there are fewer than octets
+-- the values that the octets are, one after another; a value has at least two octets, so there are
+-- fewer than octets
 unfoldable pub values_in : List ℕ → Option (List Part)
 values_in octets = values_within (length octets) octets
 
@@ -81,7 +82,8 @@ is_known tags part = list_any (λ tag. same_tag part.tag tag) tags
 abbrev pub with_known : List Tag → List Part → Part → List Part
 with_known tags known part = if is_known tags part then known ++ part ∷ [] else known
 
--- of the values that the octets are, those whose tags are among these, in order, if they are at most five
+-- of the values that the octets are, those whose tags are among these, in order, if they are at
+-- most five
 unfoldable pub known_in : List Tag → List ℕ → Option (List Part)
 known_in tags octets = values_in octets >>= λ parts. at_most_five (filter (is_known tags) parts)
 

@@ -1,4 +1,5 @@
--- The canonical spelling: the shortest one (X.690 8.1.3, 8.2, 8.3.2 and 8.6, with the choices of 10.1, 11.1 and 11.2).
+-- The canonical spelling: the shortest one (X.690 8.1.3, 8.2, 8.3.2 and 8.6, with the choices of
+-- 10.1, 11.1 and 11.2).
 use Rattle.std.specs.Prelude.{ℕ, ℤ, ◌+◌, ◌-◌, ◌*◌, ◌/◌, ◌%◌, ◌^◌, ◌==◌, Bool, true, false, List, [], ◌∷◌, ◌++◌, length, take, slice_index, nat_lt, if◌then◌else◌}
 use Rattle.bay_ber.specs.declared.tag.Tag.{Tag}
 use Rattle.bay_ber.specs.Spelling.{octet_of}
@@ -29,7 +30,8 @@ abbrev pub truth_octets : Bool → List ℕ
 truth_octets true = 255 ∷ []
 truth_octets false = 0 ∷ []
 
--- The first of two octets and bit 8 of the second are all zeros or all ones, so the first says nothing.
+-- The first of two octets and bit 8 of the second are all zeros or all ones, so the first says
+-- nothing.
 abbrev pub is_needless : ℕ → ℕ → Bool
 is_needless first second = if nat_lt second 128 then first == 0 else first == 255
 

@@ -1,7 +1,9 @@
-// The contents of the simple types (X.690 8.2, 8.3 and 8.6), which other layers also spell under tags of their own.
+// The contents of the simple types (X.690 8.2, 8.3 and 8.6), which other layers also spell under
+// tags of their own.
 ghost use Rattle.std.specs.Prelude.{◌≡◌, ◌+◌, ◌*◌, ◌^◌, ◌<◌, ◌≤◌, ℕ, ℤ, Bool, List, pos, Ok, Err, length, IfOk, IfErr, IsOkAnd, option_map};
 ghost use Rattle.std.specs.Result.{result_ok};
-ghost use Rattle.bay_ber.specs.Content.{signed_of, IsInteger, HasBits, IsBits, IsTruth, BitString, bits_of, integer_in, bits_in, truth_in};
+ghost use Rattle.bay_ber.specs.Content.{IsInteger, HasBits, IsBits, IsTruth, BitString, integer_in, bits_in, truth_in};
+ghost use Rattle.bay_ber.specs.Content as spec;
 
 use crate::fault::BerFault;
 use crate::tlv::number_of;
@@ -9,8 +11,8 @@ use crate::tlv::number_of;
 /// The bits of a bit string.
 #[derive(Clone, Copy, Debug)]
 pub struct Bits<'a> {
-    /// The octets that hold the bits, the first bit in bit 8 of the first octet. The last octet may hold up to
-    /// seven bits more, of any value.
+    /// The octets that hold the bits, the first bit in bit 8 of the first octet. The last octet may
+    /// hold up to seven bits more, of any value.
     pub octets: &'a [u8],
     /// The number of bits.
     pub count: usize,
@@ -28,7 +30,7 @@ fn span(count: usize) -> u128
 fn signed_of(octets: &[u8]) -> i128
     requires some { 0 < length octets.now }
     requires few { length octets.now ≤ 9 }
-    ensures { result ≡ signed_of octets.now }
+    ensures { result ≡ spec.signed_of octets.now }
 {
     let number = number_of(octets) as i128;
     if octets[0] < 0x80 {
@@ -50,8 +52,9 @@ fn integer_of(content: &[u8]) -> Result<i64, BerFault>
     i64::try_from(signed_of(content)).map_err(|_| BerFault::BadContent)
 }
 
-/// The value of an integer's content (X.690 8.3): two's complement in 1 to 9 octets, the highest first, within 64 bits.
-/// Needless octets in front are read, which 8.3.2 forbids to write. BadContent where no value is spelled.
+/// The value of an integer's content (X.690 8.3): two's complement in 1 to 9 octets, the highest
+/// first, within 64 bits. Needless octets in front are read, which 8.3.2 forbids to write.
+/// BadContent where no value is spelled.
 pub fn int_of(content: &[u8]) -> Result<i64, BerFault>
     ensures ok { IfOk result (λ value. IsInteger content.now value) }
     ensures only { (value : ℤ) → IsInteger content.now value → result ≡ Ok value }
@@ -75,14 +78,14 @@ fn bits_behind(unused: u8, octets: &[u8]) -> Result<Bits<'_>, BerFault>
     Ok(Bits { octets, count })
 }
 
-/// The bits of a bit string's content (X.690 8.6.2): the number of unused bits, and the octets. The values of the unused
-/// bits are not looked at. BadContent where no bits are spelled: no octet, more than 7 unused bits, unused bits and no octet
-/// behind, or 2^61 octets or more.
+/// The bits of a bit string's content (X.690 8.6.2): the number of unused bits, and the octets. The
+/// values of the unused bits are not looked at. BadContent where no bits are spelled: no octet,
+/// more than 7 unused bits, unused bits and no octet behind, or 2^61 octets or more.
 pub fn bits_of(content: &[u8]) -> Result<Bits<'_>, BerFault>
     ensures ok { IfOk result (λ bits. IsBits content.now bits.octets.now bits.count) }
-    ensures only { (b : BitString) → IsBits content.now b.octets b.count → IsOkAnd result (λ bits. bits_of bits ≡ b) }
+    ensures only { (b : BitString) → IsBits content.now b.octets b.count → IsOkAnd result (λ bits. spec.bits_of bits ≡ b) }
     ensures err { IfErr result (λ fault. (fault ≡ BerFault.BadContent) × ((octets : List ℕ) (count : ℕ) → IsBits content.now octets count → ⊥)) }
-    ensures exact { option_map bits_of (result_ok result) ≡ bits_in content.now }
+    ensures exact { option_map spec.bits_of (result_ok result) ≡ bits_in content.now }
 {
     match content {
         [unused, octets @ ..] => bits_behind(*unused, octets),
@@ -90,8 +93,8 @@ pub fn bits_of(content: &[u8]) -> Result<Bits<'_>, BerFault>
     }
 }
 
-/// The value of a truth value's content (X.690 8.2): one octet, of which 0 is false and all else is true. BadContent for
-/// another number of octets.
+/// The value of a truth value's content (X.690 8.2): one octet, of which 0 is false and all else is
+/// true. BadContent for another number of octets.
 pub fn bool_of(content: &[u8]) -> Result<bool, BerFault>
     ensures ok { IfOk result (λ value. IsTruth content.now value) }
     ensures only { (value : Bool) → IsTruth content.now value → result ≡ Ok value }

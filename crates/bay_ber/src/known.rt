@@ -1,13 +1,14 @@
 // Values whose tags are known, among others.
 ghost use Rattle.std.specs.Prelude.{◌≡◌, ◌≤◌, true, length, OnSome, IfNone};
-ghost use Rattle.bay_ber.specs.Values.{part_of, is_known, with_known, known_in};
+ghost use Rattle.bay_ber.specs.Values.{part_of, with_known, known_in};
+ghost use Rattle.bay_ber.specs.Values as spec;
 
 use crate::tag::Tag;
 use crate::values::{Few, Value, Values};
 
 // Whether a value has one of these tags.
 fn is_known(value: &Value<'_>, tags: &[Tag]) -> bool
-    ensures { result ≡ is_known tags.now (part_of value.now) }
+    ensures { result ≡ spec.is_known tags.now (part_of value.now) }
 {
     tags.iter().any(|tag| value.tag.is(*tag))
 }
@@ -16,7 +17,7 @@ fn is_known(value: &Value<'_>, tags: &[Tag]) -> bool
 fn add_known<'a>(known: &mut Few<'a>, value: Value<'a>, tags: &[Tag]) -> Option<()>
     requires { length known.old ≤ 5 }
     ensures some { OnSome result ((known.new ≡ with_known tags.now known.old (part_of value.entry)) × (length known.new ≤ 5)) }
-    ensures none { IfNone result ((is_known tags.now (part_of value.entry) ≡ true) × (5 ≤ length known.old)) }
+    ensures none { IfNone result ((spec.is_known tags.now (part_of value.entry) ≡ true) × (5 ≤ length known.old)) }
 {
     if is_known(&value, tags) {
         known.push(value)?;
@@ -24,8 +25,9 @@ fn add_known<'a>(known: &mut Few<'a>, value: Value<'a>, tags: &[Tag]) -> Option<
     Some(())
 }
 
-/// Of the values that the octets are, one after another, those whose tags are among these, in order; the others may be any
-/// (X.690 8.11). None where the octets are no values, or more than five have one of the tags.
+/// Of the values that the octets are, one after another, those whose tags are among these, in
+/// order; the others may be any (X.690 8.11). None where the octets are no values, or more than
+/// five have one of the tags.
 pub fn known_values<'a>(octets: &'a [u8], tags: &[Tag]) -> Option<Few<'a>>
     ensures { result ≡ known_in tags.now octets.now }
 {

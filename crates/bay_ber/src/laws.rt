@@ -26,8 +26,9 @@ pub fn values_are_spelled()
     ensures { (octets : List ℕ) (parts : List Part) → AreOctets octets → (values_in octets ≡ Some parts) ↔ SpellAll octets parts }
 {}
 
-/// What is written is read back, whatever follows it: each octet is the identifier of a class, a form and a number, and the
-/// value under it is read as such, and each content as the value that was written.
+/// What is written is read back, whatever follows it: each octet is the identifier of a class, a
+/// form and a number, and the value under it is read as such, and each content as the value that
+/// was written.
 pub fn written_is_read()
     ensures octet { (octet : ℕ) → octet < 256 → octet ≡ identifier (class_of octet) (is_constructed octet) (low_bits octet) }
     ensures value { (tag : Tag) (content rest : List ℕ) → tag.number < 31 → length content < 2 ^ 32
@@ -42,8 +43,8 @@ pub fn written_is_as_long()
     ensures { (tag : Tag) (content : List ℕ) → length (element tag content) ≡ element_length (length content) }
 {}
 
-/// What is written is the shortest spelling: no octets that spell the same value, and no content of the same integer, are
-/// fewer.
+/// What is written is the shortest spelling: no octets that spell the same value, and no content of
+/// the same integer, are fewer.
 pub fn written_is_shortest()
     ensures value { (octets content : List ℕ) (tag : Tag) → AreOctets octets → Spells octets tag content → length (element tag content) ≤ length octets }
     ensures integer { (content : List ℕ) (value : ℤ) → AreOctets content → IsInteger content value → length (integer_octets value) ≤ length content }

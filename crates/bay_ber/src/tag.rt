@@ -12,7 +12,8 @@ pub enum Class {
     Private,
 }
 
-/// A tag: what stands before each value and says of which type it is. Readers give it and writers take it.
+/// A tag: what stands before each value and says of which type it is. Readers give it and writers
+/// take it.
 #[derive(Clone, Copy, Debug, PartialEq, Eq)]
 pub struct Tag {
     /// The class.

@@ -1,7 +1,8 @@
 // One tag, length and content at the front of a list of octets.
 ghost use Rattle.std.specs.Prelude.{◌≡◌, ◌+◌, ◌*◌, ◌^◌, ◌<◌, ◌≤◌, ◌==◌, ◌↔◌, Ok, Err, length, IfOk, IsOkAnd};
-ghost use Rattle.bay_ber.specs.Octets.{number_of};
-ghost use Rattle.bay_ber.specs.Reading.{Gives, Reading, Begins, HasLargeTag, IsIndefinite, HasLongLength, IsTruncated, class_of, is_constructed, low_bits, tag_at, length_at, tlv_at, reading_of};
+ghost use Rattle.bay_ber.specs.Octets as spec_octets;
+ghost use Rattle.bay_ber.specs.Reading.{IsRead, Reading, Begins, HasLargeTag, IsIndefinite, HasLongLength, IsTruncated, reading_of};
+ghost use Rattle.bay_ber.specs.Reading as spec;
 
 use crate::fault::BerFault;
 use crate::tag::{Class, Tag};
@@ -17,8 +18,9 @@ pub struct Tlv<'a> {
     pub rest: &'a [u8],
 }
 
+// The class of a tag: the two highest bits of its first octet.
 fn class_of(first: u8) -> Class
-    ensures { result ≡ class_of first }
+    ensures { result ≡ spec.class_of first }
 {
     match first {
         0x00..=0x3F => Class::Universal,
@@ -28,21 +30,24 @@ fn class_of(first: u8) -> Class
     }
 }
 
+// Whether the content is values in turn: the third highest bit.
 fn is_constructed(first: u8) -> bool
-    ensures { result ≡ is_constructed first }
+    ensures { result ≡ spec.is_constructed first }
 {
     (first >> 5) & 1 == 1
 }
 
+// The number of a tag, or 31 where it stands in the octets behind.
 fn low_bits(first: u8) -> u8
-    ensures { result ≡ low_bits first }
+    ensures { result ≡ spec.low_bits first }
 {
     first & 0x1F
 }
 
+// The tag at the front of octets, and the octets behind it (X.690 8.1.2).
 #[tactic(auto, unfolding(crate::specs::Reading::tag_at))]
 fn tag_at(octets: &[u8]) -> Result<(Tag, &[u8]), BerFault>
-    ensures { Gives (λ x. (x.0, x.1.now)) result (tag_at octets.now) }
+    ensures { IsRead (λ x. (x.0, x.1.now)) result (spec.tag_at octets.now) }
 {
     let (first, rest) = match octets {
         [] => return Err(BerFault::Truncated),
@@ -78,7 +83,7 @@ fn tag_at(octets: &[u8]) -> Result<(Tag, &[u8]), BerFault>
 /// The number whose octets these are, the highest first.
 pub(crate) fn number_of(octets: &[u8]) -> u128
     requires { length octets.now ≤ 9 }
-    ensures value { result ≡ number_of octets.now }
+    ensures value { result ≡ spec_octets.number_of octets.now }
     ensures below { result < 256 ^ length octets.now }
 {
     let mut number = 0;
@@ -88,9 +93,10 @@ pub(crate) fn number_of(octets: &[u8]) -> u128
     number
 }
 
+// The length at the front of octets, and the octets behind it (X.690 8.1.3).
 #[tactic(auto, unfolding(crate::specs::Reading::length_at))]
 fn length_at(octets: &[u8]) -> Result<(usize, &[u8]), BerFault>
-    ensures { Gives (λ x. (x.0, x.1.now)) result (length_at octets.now) }
+    ensures { IsRead (λ x. (x.0, x.1.now)) result (spec.length_at octets.now) }
 {
     let (first, rest) = match octets {
         [] => return Err(BerFault::Truncated),
@@ -113,9 +119,10 @@ fn length_at(octets: &[u8]) -> Result<(usize, &[u8]), BerFault>
     Ok((number_of(octets) as usize, rest))
 }
 
+// The value at the front of octets: its tag, its length, and as many octets.
 #[tactic(auto, unfolding(crate::specs::Reading::tlv_at))]
 fn tlv_at(octets: &[u8]) -> Result<Tlv<'_>, BerFault>
-    ensures { Gives reading_of result (tlv_at octets.now) }
+    ensures { IsRead reading_of result (spec.tlv_at octets.now) }
 {
     let (tag, rest) = tag_at(octets)?;
     let (length, rest) = length_at(rest)?;
@@ -126,10 +133,11 @@ fn tlv_at(octets: &[u8]) -> Result<Tlv<'_>, BerFault>
     Ok(Tlv { tag, content, rest })
 }
 
-/// The value at the front of the octets (X.690 8.1), with slices of them as its content and the rest. Numbers of
-/// tags to 127 and lengths of one to five octets are read. This reads more than X.690 allows: a number below 31 may
-/// stand in a second tag octet too (8.1.2.2 and 8.1.2.4 have it in the first), and a length may have more octets than it
-/// needs, which 8.1.3.5 leaves to the sender.
+/// The value at the front of the octets (X.690 8.1), with slices of them as its content and the
+/// rest. Numbers of tags to 127 and lengths of one to five octets are read. This reads more than
+/// X.690 allows: a number below 31 may stand in a second tag octet too (8.1.2.2 and 8.1.2.4 have it
+/// in the first), and a length may have more octets than it needs, which 8.1.3.5 leaves to the
+/// sender.
 pub fn read_tlv(octets: &[u8]) -> Result<Tlv<'_>, BerFault>
     // What is read is spelled so at the front of the octets, and what is spelled so is read.
     ensures ok { IfOk result (λ tlv. Begins octets.now (reading_of tlv)) }
@@ -141,7 +149,7 @@ pub fn read_tlv(octets: &[u8]) -> Result<Tlv<'_>, BerFault>
     ensures long_length { (result ≡ Err BerFault.LengthTooLong) ↔ HasLongLength octets.now }
     ensures truncated { (result ≡ Err BerFault.Truncated) ↔ IsTruncated octets.now }
     // The same answer, read from the left.
-    ensures exact { Gives reading_of result (tlv_at octets.now) }
+    ensures exact { IsRead reading_of result (spec.tlv_at octets.now) }
 {
     tlv_at(octets)
 }

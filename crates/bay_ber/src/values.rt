@@ -1,7 +1,8 @@
 // Values one after another, and octets that are one value.
 ghost use Rattle.std.specs.Prelude.{◌≡◌, ◌+◌, ◌≤◌, [], ◌∷◌, ◌++◌, length, map, List, ℕ, IfSome, IfOk, IsSomeAnd, OnSome, IfNone, option_map};
 ghost use Rattle.bay_ber.specs.Spelling.{Spells};
-ghost use Rattle.bay_ber.specs.Values.{Part, part_of, Next, NextIn, under, value_in, few_in};
+ghost use Rattle.bay_ber.specs.Values.{Part, part_of, Next, NextIn, value_in, few_in};
+ghost use Rattle.bay_ber.specs.Values as spec;
 ghost use Rattle.bay_ber.specs.declared.tag.Tag.{Tag};
 
 use crate::fault::BerFault;
@@ -21,7 +22,7 @@ pub struct Value<'a> {
 impl<'a> Value<'a> {
     /// The content, where the value has this tag.
     pub fn under(&self, tag: Tag) -> Option<&'a [u8]>
-        ensures { option_map (λ content. content.now) result ≡ under tag (part_of self.now) }
+        ensures { option_map (λ content. content.now) result ≡ spec.under tag (part_of self.now) }
     {
         if self.tag.is(tag) {
             Some(self.content)
@@ -52,8 +53,8 @@ pub fn whole_value(octets: &[u8]) -> Option<Value<'_>>
     }
 }
 
-/// The values that stand one after another in octets (X.690 8.9.2, 8.10.2), which contracts see as the octets that are
-/// left.
+/// The values that stand one after another in octets (X.690 8.9.2, 8.10.2), which contracts see as
+/// the octets that are left.
 #[derive(Drop)]
 pub struct Values<'a> {
     rest: &'a [u8],
@@ -75,7 +76,8 @@ impl<'a> Values<'a> {
         Values { rest: octets }
     }
 
-    /// The next value; None where no octet is left. Where no value stands next, nothing is passed over.
+    /// The next value; None where no octet is left. Where no value stands next, nothing is passed
+    /// over.
     pub fn next_value(&mut self) -> Result<Option<Value<'a>>, BerFault>
         ensures next { Next self.old result self.new }
         ensures exact { NextIn self.old result self.new }
@@ -147,7 +149,8 @@ impl<'a> Few<'a> {
     }
 }
 
-/// The values that the octets are, one after another (X.690 8.9.2); None where they are no values, or more than five.
+/// The values that the octets are, one after another (X.690 8.9.2); None where they are no values,
+/// or more than five.
 pub fn few_values(octets: &[u8]) -> Option<Few<'_>>
     ensures { result ≡ few_in octets.now }
 {

@@ -1,7 +1,8 @@
 // A writer of the canonical spelling.
 ghost use Rattle.std.specs.Prelude.{◌≡◌, ◌+◌, ◌-◌, ◌*◌, ◌^◌, ◌<◌, ◌≤◌, [], ◌∷◌, ◌++◌, length, take, drop, OnOk, OnErr};
 ghost use Rattle.bay_ber.specs.Growth.{Extends};
-ghost use Rattle.bay_ber.specs.Writing.{octets_needed, length_octets, header, element, element_length, truth_octets, is_needless, without_needless, integer_octets, bit_string_octets};
+ghost use Rattle.bay_ber.specs.Writing.{length_octets, header, truth_octets, integer_octets, bit_string_octets};
+ghost use Rattle.bay_ber.specs.Writing as spec;
 
 use crate::content::Bits;
 use crate::tag::Tag;
@@ -10,7 +11,7 @@ use std::marker::Model;
 
 // How many octets a length needs behind the first.
 fn octets_needed(length: u32) -> usize
-    ensures needed { result ≡ octets_needed length }
+    ensures needed { result ≡ spec.octets_needed length }
     ensures some { 0 < result }
     ensures few { result ≤ 4 }
 {
@@ -38,7 +39,8 @@ fn append_length(out: &mut Vec<u8>, length: u32) -> Result<(), AllocError>
     Ok(())
 }
 
-// Appends a tag and the shortest spelling of a length. A refused call may leave some of its octets at the end.
+// Appends a tag and the shortest spelling of a length. A refused call may leave some of its octets
+// at the end.
 #[tactic(auto, unfolding(crate::specs::Writing::header))]
 fn append_header(out: &mut Vec<u8>, tag: Tag, count: u32) -> Result<(), AllocError>
     requires { tag.number < 31 }
@@ -70,7 +72,7 @@ fn move_forward(octets: &mut Vec<u8>, start: usize, middle: usize)
 fn append_value(out: &mut Vec<u8>, tag: Tag, content: &[u8]) -> Result<(), AllocError>
     requires low { tag.number < 31 }
     requires short { length content.now < 2 ^ 32 }
-    ensures ok { OnOk result (out.new.items ≡ out.old.items ++ element tag content.now) }
+    ensures ok { OnOk result (out.new.items ≡ out.old.items ++ spec.element tag content.now) }
     ensures err { OnErr result (Extends out.old.items out.new.items) }
 {
     out.reserve(6 + content.len())?;
@@ -83,7 +85,8 @@ fn append_value(out: &mut Vec<u8>, tag: Tag, content: &[u8]) -> Result<(), Alloc
     Ok(())
 }
 
-// Appends a value whose content has three parts. A refused call may leave some of its octets at the end.
+// Appends a value whose content has three parts. A refused call may leave some of its octets at the
+// end.
 fn append(
     out: &mut Vec<u8>,
     tag: Tag,
@@ -93,7 +96,7 @@ fn append(
 ) -> Result<(), AllocError>
     requires low { tag.number < 31 }
     requires short { length first.now + length middle.now + length last.now < 2 ^ 32 }
-    ensures ok { OnOk result (out.new.items ≡ out.old.items ++ element tag (first.now ++ middle.now ++ last.now)) }
+    ensures ok { OnOk result (out.new.items ≡ out.old.items ++ spec.element tag (first.now ++ middle.now ++ last.now)) }
     ensures err { OnErr result (Extends out.old.items out.new.items) }
 {
     out.reserve(6 + first.len() + middle.len() + last.len())?;
@@ -107,7 +110,7 @@ fn append(
 
 // Whether the first of two octets says no more than the sign of the second.
 fn is_needless(first: u8, second: u8) -> bool
-    ensures { result ≡ is_needless first second }
+    ensures { result ≡ spec.is_needless first second }
 {
     if second < 0x80 {
         first == 0x00
@@ -119,7 +122,7 @@ fn is_needless(first: u8, second: u8) -> bool
 // The octets without the needless ones at their front.
 fn without_needless(octets: &[u8]) -> &[u8]
     requires { 0 < length octets.now }
-    ensures octets { result.now ≡ without_needless octets.now }
+    ensures octets { result.now ≡ spec.without_needless octets.now }
     ensures few { length result.now ≤ length octets.now }
 {
     let last = octets.len() - 1;
@@ -141,7 +144,7 @@ pub fn integer_length(value: i64) -> usize
 
 /// How many octets a value takes whose content has so many.
 pub fn element_length(count: u32) -> u64
-    ensures { result ≡ element_length count }
+    ensures { result ≡ spec.element_length count }
 {
     let header = if count < 0x80 {
         2
@@ -151,9 +154,9 @@ pub fn element_length(count: u32) -> u64
     u64::from(count) + header
 }
 
-/// A writer of values one after another, which contracts see as the octets written so far. Each value is written under
-/// a tag whose number is below 31, with the shortest length. Where memory is wanting
-/// nothing is appended.
+/// A writer of values one after another, which contracts see as the octets written so far. Each
+/// value is written under a tag whose number is below 31, with the shortest length. Where memory is
+/// wanting nothing is appended.
 #[derive(Drop)]
 pub struct Writer {
     octets: Vec<u8>,
@@ -187,19 +190,20 @@ impl Writer {
     /// Writes an integer in the fewest octets (X.690 8.3).
     pub fn int(&mut self, tag: Tag, value: i64) -> Result<(), AllocError>
         requires { tag.number < 31 }
-        ensures ok { OnOk result (self.new ≡ self.old ++ element tag (integer_octets value)) }
+        ensures ok { OnOk result (self.new ≡ self.old ++ spec.element tag (integer_octets value)) }
         ensures few { OnOk result (length self.new ≤ length self.old + 14) }
         ensures err { OnErr result (self.new ≡ self.old) }
     {
         self.value(tag, without_needless(&value.to_be_bytes()))
     }
 
-    /// Writes a bit string (X.690 8.6): its bits in the octets that they need, with 0 in the unused bits.
+    /// Writes a bit string (X.690 8.6): its bits in the octets that they need, with 0 in the unused
+    /// bits.
     pub fn bits(&mut self, tag: Tag, bits: Bits<'_>) -> Result<(), AllocError>
         requires tag { tag.number < 31 }
         requires held { bits.count ≤ 8 * length bits.octets.now }
         requires short { bits.count + 16 ≤ 2 ^ 35 }
-        ensures ok { OnOk result (self.new ≡ self.old ++ element tag (bit_string_octets bits.entry.octets.now bits.entry.count)) }
+        ensures ok { OnOk result (self.new ≡ self.old ++ spec.element tag (bit_string_octets bits.entry.octets.now bits.entry.count)) }
         ensures err { OnErr result (self.new ≡ self.old) }
     {
         let (whole, left) = (bits.count / 8, bits.count % 8);
@@ -214,7 +218,7 @@ impl Writer {
     /// Writes a truth value (X.690 8.2): TRUE is FF.
     pub fn boolean(&mut self, tag: Tag, value: bool) -> Result<(), AllocError>
         requires { tag.number < 31 }
-        ensures ok { OnOk result (self.new ≡ self.old ++ element tag (truth_octets value)) }
+        ensures ok { OnOk result (self.new ≡ self.old ++ spec.element tag (truth_octets value)) }
         ensures err { OnErr result (self.new ≡ self.old) }
     {
         let octet = if value { 0xFF } else { 0x00 };
@@ -225,7 +229,7 @@ impl Writer {
     pub fn octets(&mut self, tag: Tag, octets: &[u8]) -> Result<(), AllocError>
         requires tag { tag.number < 31 }
         requires short { length octets.now < 2 ^ 32 }
-        ensures ok { OnOk result (self.new ≡ self.old ++ element tag octets.now) }
+        ensures ok { OnOk result (self.new ≡ self.old ++ spec.element tag octets.now) }
         ensures few { OnOk result (length self.new ≤ length self.old + length octets.now + 6) }
         ensures err { OnErr result (self.new ≡ self.old) }
     {
@@ -236,7 +240,7 @@ impl Writer {
     pub fn text(&mut self, tag: Tag, text: &str) -> Result<(), AllocError>
         requires tag { tag.number < 31 }
         requires short { length text.now < 2 ^ 32 }
-        ensures ok { OnOk result (self.new ≡ self.old ++ element tag text.now) }
+        ensures ok { OnOk result (self.new ≡ self.old ++ spec.element tag text.now) }
         ensures err { OnErr result (self.new ≡ self.old) }
     {
         self.value(tag, text.as_bytes())
@@ -246,14 +250,15 @@ impl Writer {
     pub fn nest(&mut self, tag: Tag, inner: &[u8]) -> Result<(), AllocError>
         requires tag { tag.number < 31 }
         requires short { length inner.now < 2 ^ 32 }
-        ensures ok { OnOk result (self.new ≡ self.old ++ element tag inner.now) }
+        ensures ok { OnOk result (self.new ≡ self.old ++ spec.element tag inner.now) }
         ensures few { OnOk result (length self.new ≤ length self.old + length inner.now + 6) }
         ensures err { OnErr result (self.new ≡ self.old) }
     {
         self.value(tag, inner)
     }
 
-    /// Writes the head of a value, whose content of so many octets is to be written behind it (X.690 8.1.2, 8.1.3).
+    /// Writes the head of a value, whose content of so many octets is to be written behind it
+    /// (X.690 8.1.2, 8.1.3).
     pub fn head(&mut self, tag: Tag, count: u32) -> Result<(), AllocError>
         requires { tag.number < 31 }
         ensures ok { OnOk result (self.new ≡ self.old ++ header tag count) }
@@ -270,13 +275,13 @@ impl Writer {
         }
     }
 
-    /// Makes all that was written since a place the content of one value (X.690 8.9), in place. The place is what `len` was
-    /// there.
+    /// Makes all that was written since a place the content of one value (X.690 8.9), in place. The
+    /// place is what `len` was there.
     pub fn nest_from(&mut self, start: usize, tag: Tag) -> Result<(), AllocError>
         requires tag { tag.number < 31 }
         requires start { start ≤ length self.old }
         requires short { length self.old < start + 2 ^ 32 }
-        ensures ok { OnOk result (self.new ≡ take start self.old ++ element tag (drop start self.old)) }
+        ensures ok { OnOk result (self.new ≡ take start self.old ++ spec.element tag (drop start self.old)) }
         ensures few { OnOk result (length self.new ≤ length self.old + 6) }
         ensures err { OnErr result (self.new ≡ self.old) }
     {
@@ -312,7 +317,7 @@ impl Writer {
     fn value(&mut self, tag: Tag, content: &[u8]) -> Result<(), AllocError>
         requires low { tag.number < 31 }
         requires short { length content.now < 2 ^ 32 }
-        ensures ok { OnOk result (self.new ≡ self.old ++ element tag content.now) }
+        ensures ok { OnOk result (self.new ≡ self.old ++ spec.element tag content.now) }
         ensures few { OnOk result (length self.new ≤ length self.old + length content.now + 6) }
         ensures err { OnErr result (self.new ≡ self.old) }
     {
@@ -336,7 +341,7 @@ impl Writer {
     ) -> Result<(), AllocError>
         requires low { tag.number < 31 }
         requires short { length first.now + length middle.now + length last.now < 2 ^ 32 }
-        ensures ok { OnOk result (self.new ≡ self.old ++ element tag (first.now ++ middle.now ++ last.now)) }
+        ensures ok { OnOk result (self.new ≡ self.old ++ spec.element tag (first.now ++ middle.now ++ last.now)) }
         ensures few { OnOk result (length self.new ≤ length self.old + (length first.now + length middle.now + length last.now) + 6) }
         ensures err { OnErr result (self.new ≡ self.old) }
     {

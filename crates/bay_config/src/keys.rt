@@ -8,7 +8,8 @@ ghost use Rattle.toml.specs.Data.{get_member};
 ghost use Rattle.toml.specs.View.{view, table_view};
 ghost use Rattle.bay_config.specs.declared.fault.BayFault.TheVariants.{OutOfMemory};
 ghost use Rattle.bay_base.specs.Exact.{Gives, judged};
-ghost use Rattle.bay_config.specs.Key.{identifier, description, number, begins_with_letter, is_name_character, is_identifier, is_description, unknown_refusal, key_refusal, text_in, number_in};
+ghost use Rattle.bay_config.specs.Key.{identifier, description, number, unknown_refusal, key_refusal, text_in, number_in};
+ghost use Rattle.bay_config.specs.Key as spec;
 
 use crate::fault::BayFault;
 use bay_base::text::Text;
@@ -47,7 +48,7 @@ pub fn check_keys(table: &Table, known: &[&str]) -> Result<(), BayFault>
 }
 
 fn begins_with_letter(text: &[u8]) -> bool
-    ensures { result ≡ begins_with_letter text.now }
+    ensures { result ≡ spec.begins_with_letter text.now }
 {
     match text {
         [first, ..] => first.is_ascii_alphabetic(),
@@ -56,19 +57,19 @@ fn begins_with_letter(text: &[u8]) -> bool
 }
 
 fn is_name_character(byte: u8) -> bool
-    ensures { result ≡ is_name_character byte }
+    ensures { result ≡ spec.is_name_character byte }
 {
     byte.is_ascii_alphanumeric() || byte == b'_'
 }
 
 fn has_name_characters(text: &[u8]) -> bool
-    ensures { result ≡ list_all is_name_character text.now }
+    ensures { result ≡ list_all spec.is_name_character text.now }
 {
     text.iter().all(|byte| is_name_character(*byte))
 }
 
 fn is_identifier(text: &str, most: usize) -> bool
-    ensures { result ≡ is_identifier most text.now }
+    ensures { result ≡ spec.is_identifier most text.now }
 {
     let bytes = text.as_bytes();
     begins_with_letter(bytes) && has_name_characters(bytes) && bytes.len() <= most
@@ -81,7 +82,7 @@ fn has_printable_characters(text: &[u8]) -> bool
 }
 
 fn is_description(text: &str) -> bool
-    ensures { result ≡ is_description text.now }
+    ensures { result ≡ spec.is_description text.now }
 {
     let bytes = text.as_bytes();
     1 <= bytes.len() && bytes.len() <= 64 && has_printable_characters(bytes)

@@ -3,7 +3,8 @@ ghost use Rattle.std.specs.Prelude.{◌≡◌, ◌∷◌, [], ◌++◌, map, is_
 ghost use Rattle.std.specs.List.{list_any};
 ghost use Rattle.std.specs.Str.{bytes_eq, str_to_ascii_uppercase};
 ghost use Rattle.bay_base.specs.Exact.{judged};
-ghost use Rattle.bay_config.specs.Point.{position_points, enable_points, points_of, points_from, inputs_from, field_point, meter_points, meters_from, points_of_all, has_twin, names_refusal};
+ghost use Rattle.bay_config.specs.Point.{position_points, enable_points, points_from, inputs_from, field_point, meter_points, meters_from, points_of_all, names_refusal};
+ghost use Rattle.bay_config.specs.Point as spec;
 ghost use Rattle.bay_base.specs.Words.{reserved_of};
 
 use crate::bay::{MeterField, Point, Source, Switch, SwitchPoint};
@@ -135,7 +136,7 @@ fn push_points(
     place: usize,
     switch: &Switch,
 ) -> Result<(), AllocError>
-    ensures { IfOk result (λ _. points.new.items ≡ points.old.items ++ points_of place switch.now) }
+    ensures { IfOk result (λ _. points.new.items ≡ points.old.items ++ spec.points_of place switch.now) }
 {
     let id = switch.id.as_str();
     push_position(alloc, points, place, id)?;
@@ -251,7 +252,7 @@ fn has_name(points: &[Point], name: &str) -> bool
 
 /// Whether two points have one name.
 fn has_twin(points: &[Point]) -> bool
-    ensures { result ≡ has_twin (map (λ p. p.name) points.now) }
+    ensures { result ≡ spec.has_twin (map (λ p. p.name) points.now) }
 {
     let mut rest = points;
     while let Some((point, later)) = rest.split_first() {

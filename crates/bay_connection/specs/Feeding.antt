@@ -7,7 +7,8 @@ use Rattle.bay_connection.specs.declared.heard.Heard.{Heard}
 use Rattle.bay_connection.specs.declared.heard.Heard.TheVariants as heard
 use Rattle.bay_connection.specs.Talk.{Talk, terms_of, Indication, answers, tells, releases, ends, fails, Told, indications}
 
--- The octets that are taken come to this and nothing else, and those before the last of them to nothing.
+-- The octets that are taken come to this and nothing else, and those before the last of them to
+-- nothing.
 pub record Completes (t : Talk) (piece : List ℕ) (used : ℕ) (indication : Indication) : Type 0 where
   pub moves : 0 < used
   pub within : used ≤ length piece
@@ -22,8 +23,8 @@ Comes t piece used (releases octets) = Completes t piece used (releases octets)
 Comes t piece used ends = Completes t piece used ends
 Comes t piece used (fails code) = (used ≤ length piece) × (indications t (take used piece) ≡ fails code ∷ [])
 
--- So many octets of the piece are taken, and this is answered, or nothing yet: what the piece comes to first. Where the connection
--- is over no octet is taken, and the end is answered again.
+-- So many octets of the piece are taken, and this is answered, or nothing yet: what the piece comes
+-- to first. Where the connection is over no octet is taken, and the end is answered again.
 abbrev pub FeedsFrom : Left → Talk → List ℕ → ℕ → Option Indication → Type 0
 FeedsFrom (Going link rest) t piece used None = (used ≡ length piece) × (indications t piece ≡ [])
 FeedsFrom (Going link rest) t piece used (Some indication) = Comes t piece used indication
@@ -37,7 +38,8 @@ Feeds t piece used answer = FeedsFrom t.stream.left t piece used answer
 abbrev pub GoesOn : Talk → Talk → List ℕ → ℕ → Indication → Type 0
 GoesOn old new piece used indication = indications old piece ≡ indication ∷ indications new (drop used piece)
 
--- What is heard leaves the connection as it goes on: behind an answer and a PDU of MMS octets are still taken.
+-- What is heard leaves the connection as it goes on: behind an answer and a PDU of MMS octets are
+-- still taken.
 abbrev pub IsContinued : Indication → Type 0
 IsContinued (answers octets) = Unit {0}
 IsContinued (tells terms pdu) = Unit {0}

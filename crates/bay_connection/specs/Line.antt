@@ -11,7 +11,8 @@ use Rattle.bay_connection.specs.declared.line.Line.{Line}
 use Rattle.bay_connection.specs.Talk.{Talk, Indication, told}
 use Rattle.bay_connection.specs.Feeding.{Client}
 
--- An open association has a size of TPDUs agreed; where the stream has ended the association is over, and no stream has failed.
+-- An open association has a size of TPDUs agreed; where the stream has ended the association is
+-- over, and no stream has failed.
 abbrev pub AreJoined : Left → Phase → Type 0
 AreJoined (Going link rest) phase = IfSome (link_of phase) (λ _. IsSome link.size)
 AreJoined Over phase = phase ≡ phases.Over

@@ -1,4 +1,5 @@
--- What the octets of a client come to: each doing of the stream in its order, a TSDU as the association hears it.
+-- What the octets of a client come to: each doing of the stream in its order, a TSDU as the
+-- association hears it.
 use Rattle.std.specs.Prelude.{ℕ, List, [], ◌∷◌, Option, Some, None, unwrap_or, Result, Ok, Err}
 use Rattle.bay_transport.specs.Code.{code_of as transport_code}
 use Rattle.bay_transport.specs.Doings.{Doing, Answers, Delivers, Ends, Fails, Stream, doings, after}
@@ -26,8 +27,9 @@ pub record Terms : Type 0 where
 abbrev pub terms_of : Talk → Terms
 terms_of t = record { size = agreed t.stream; phase = t.phase }
 
--- one thing that octets come to: a request, with the octets that answer it; a PDU of MMS, with the terms on which it can be
--- answered; a request for a release, with the octets that answer it; the end; or a fault, by its number
+-- one thing that octets come to: a request, with the octets that answer it; a PDU of MMS, with the
+-- terms on which it can be answered; a request for a release, with the octets that answer it; the
+-- end; or a fault, by its number
 pub data Indication : Type 0 where
   answers : List ℕ → Indication
   tells : Terms → List ℕ → Indication
@@ -49,7 +51,8 @@ abbrev pub sent : Option ℕ → List ℕ → List ℕ
 sent None tsdu = []
 sent (Some size) tsdu = wrapped size tsdu
 
--- what is heard comes first, and then what is told later; nothing is told behind a release, an abort and a fault
+-- what is heard comes first, and then what is told later; nothing is told behind a release, an
+-- abort and a fault
 abbrev pub on_heard : Stream → Hearing → Terms → Told → Told
 on_heard s (answer tsdu) terms later = record { indications = answers (sent terms.size tsdu) ∷ later.indications; left = later.left }
 on_heard s (mms pdu) terms later = record { indications = tells terms pdu ∷ later.indications; left = later.left }
@@ -60,7 +63,8 @@ abbrev pub on_hearing : Option ℕ → Stream → Result (Hearing × Phase) Asso
 on_hearing size s (Ok x) later = on_heard s x.0 (record { size = size; phase = x.1 }) (later x.1)
 on_hearing size s (Err fault) later = record { indications = fails (unwrap_or (association_code fault) 0) ∷ []; left = closed s }
 
--- What the doings of a stream come to, which leave this stream: in a phase, and where this size of TPDUs was agreed before them.
+-- What the doings of a stream come to, which leave this stream: in a phase, and where this size of
+-- TPDUs was agreed before them.
 abbrev pub told : Stream → List Doing → Option ℕ → Phase → Told
 told s [] size phase = record { indications = []; left = record { stream = s; phase = phase } }
 told s (Answers agreed reply ∷ later) size phase =

@@ -12,8 +12,8 @@ use bay_assoc::hearing::Phase;
 use std::alloc::{AllocError, Global};
 use std::marker::Model;
 
-/// One client, on the association of a number, which contracts see as what its octets leave (of the stream, and the phase of the
-/// association) and the PDU of MMS that was heard last.
+/// One client, on the association of a number, which contracts see as what its octets leave (of the
+/// stream, and the phase of the association) and the PDU of MMS that was heard last.
 #[derive(Drop)]
 pub struct Connection {
     line: Line,
@@ -31,7 +31,8 @@ impl Model for Connection {
 }
 
 impl Connection {
-    /// A connection before its first octet. The number is sent as the reference of this side (X.224 13.4).
+    /// A connection before its first octet. The number is sent as the reference of this side (X.224
+    /// 13.4).
     pub fn new(alloc: Global, number: u16) -> Connection
         ensures { result ≡ record { talk = record { stream = record { number = number; left = start }; phase = Phase.Idle }; pdu = [] } }
     {
@@ -40,15 +41,18 @@ impl Connection {
         }
     }
 
-    /// Takes the octets of the piece up to the end of the first thing that they come to, and says what that is. The caller feeds the
-    /// octets behind them again. Where they come to nothing all octets are taken.
+    /// Takes the octets of the piece up to the end of the first thing that they come to, and says
+    /// what that is. The caller feeds the octets behind them again. Where they come to nothing all
+    /// octets are taken.
     ///
-    /// A release, an end, an abort and a fault are for good: the buffers are given back, and from then on no octet is taken and the
-    /// answer is `Ended`. So it is after want of memory. Before that, no more is kept than 70,000 octets of an unfinished TSDU, an
-    /// unfinished frame, and 70,000 octets of the TSDU that was completed last.
+    /// A release, an end, an abort and a fault are for good: the buffers are given back, and from
+    /// then on no octet is taken and the answer is `Ended`. So it is after want of memory. Before
+    /// that, no more is kept than 70,000 octets of an unfinished TSDU, an unfinished frame, and
+    /// 70,000 octets of the TSDU that was completed last.
     pub fn feed(&mut self, piece: &[u8]) -> Result<Fed, AllocError>
         ensures within { IfOk result (λ fed. fed.used ≤ length piece.now) }
-        // What is answered is what the piece comes to first, and what is left is what the octets that were taken leave.
+        // What is answered is what the piece comes to first, and what is left is what the octets
+        // that were taken leave.
         ensures fed { IfOk result (λ fed. Feeds self.old.talk piece.now fed.used (indication_of fed.heard self.new)) }
         ensures left { IfOk result (λ fed. self.new.talk ≡ left_by self.old.talk (take fed.used piece.now)) }
         // A PDU is heard where it can be answered.
@@ -90,8 +94,9 @@ impl Connection {
         self.line.assoc.pdu_size()
     }
 
-    /// The octets in which a PDU of MMS is sent: a TSDU in the context of MMS, in data TPDUs of the size agreed. The PDU is copied
-    /// once. The association is open, and the PDU has at most 65,000 octets, as one within the size agreed has.
+    /// The octets in which a PDU of MMS is sent: a TSDU in the context of MMS, in data TPDUs of the
+    /// size agreed. The PDU is copied once. The association is open, and the PDU has at most 65,000
+    /// octets, as one within the size agreed has.
     pub fn send(&self, pdu: &[u8]) -> Result<Vec<u8>, AllocError>
         requires open { IsSome (link_of self.now.talk.phase) }
         requires short { length pdu.now ≤ 65_000 }

@@ -13,8 +13,8 @@ pub enum Heard {
     Released(Vec<u8>),
     /// The client has ended the connection or aborted the association. The connection is over.
     Ended,
-    /// The octets were refused, by the fault of this number: 10 to 13 of the transport, 20 to 25 of the association. The
-    /// connection is over.
+    /// The octets were refused, by the fault of this number: 10 to 13 of the transport, 20 to 25 of
+    /// the association. The connection is over.
     Fault(u8),
 }
 

@@ -1,4 +1,5 @@
-// The layers of a connection: octets become TSDUs in the transport, and TSDUs are heard by the association.
+// The layers of a connection: octets become TSDUs in the transport, and TSDUs are heard by the
+// association.
 ghost use Rattle.std.specs.Prelude.{◌≡◌, ◌≤◌, [], Some, IfOk, IsSome, OnErr, OnOk, length, take};
 ghost use Rattle.bay_transport.specs.Doings.{Delivers, start};
 ghost use Rattle.bay_transport.specs.Feeding.{IsGoing, agreed, doing_for};
@@ -26,6 +27,7 @@ pub struct Line {
 }
 
 impl Line {
+    /// A line on which nothing has come.
     pub(crate) fn new(alloc: Global, number: u16) -> Line
         ensures kept { IsKept result }
         ensures client { client_of result ≡ record { talk = record { stream = record { number = number; left = start }; phase = Phase.Idle }; pdu = [] } }

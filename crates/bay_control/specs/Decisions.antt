@@ -1,4 +1,5 @@
--- The decisions on select, operate and cancel (IEC 61850-7-2, 20): their answers, and the controls after them.
+-- The decisions on select, operate and cancel (IEC 61850-7-2, 20): their answers, and the controls
+-- after them.
 use Rattle.std.specs.Prelude.{ℕ, ◌+◌, Bool, false, not, ◌&&◌, ◌||◌, ◌==◌, nat_le, if◌then◌else◌, List, [], ◌∷◌, map, Option, None, Some, Result, Ok, Err, is_ok}
 use Rattle.bay_nodes.specs.declared.switch.Switch.{Switch}
 use Rattle.bay_tree.specs.declared.leaf.Dbpos.{Dbpos}
@@ -13,7 +14,8 @@ use Rattle.bay_control.specs.declared.selection.Execution.{Execution}
 use Rattle.bay_control.specs.declared.selection.Selection.{Selection}
 use Rattle.bay_control.specs.declared.selection.Standing.{Standing}
 
--- the controls of a bay: what its file says of each switch, the selected switch and the operating one
+-- the controls of a bay: what its file says of each switch, the selected switch and the operating
+-- one
 pub record State : Type 0 where
   pub controls : List SwitchControl
   pub selection : Option Selection
@@ -162,7 +164,8 @@ select_outcome a k now s = let t = advanced now s in select_of a k now None (ans
 abbrev pub select_with_outcome : ℕ → ℕ → Ask → ℕ → State → Outcome
 select_with_outcome a k ask now s = let t = advanced now s in select_of a k now (Some (asked_choice ask)) (answer_of (rows_of_select_with a k ask t)) t
 
--- an operate by the association that selected the switch ends the selection, accepted or not; an accepted one starts the execution
+-- an operate by the association that selected the switch ends the selection, accepted or not; an
+-- accepted one starts the execution
 abbrev pub operate_of : ℕ → ℕ → Bool → ℕ → Result (Unit {0}) AddCause → State → Outcome
 operate_of a k on now answer s = record {
   answer = answer;

@@ -8,8 +8,8 @@ use Rattle.bay_control.specs.Requests.{asked_choice}
 use Rattle.bay_control.specs.declared.request.Ask.{Ask}
 use Rattle.bay_control.specs.declared.request.View.{View}
 
--- the calls of the controls: an association a is opened or closed, or asks for something on a switch k; a contact of a switch comes;
--- time alone passes
+-- the calls of the controls: an association a is opened or closed, or asks for something on a
+-- switch k; a contact of a switch comes; time alone passes
 pub data Call : Type 0 where
   Open : (a : ℕ) → Call
   Close : (a : ℕ) → Call
@@ -100,8 +100,8 @@ is_open_after_all is_open (h ∷ hs) b = is_open_after_all (is_open_after is_ope
 
 -- ---- runs
 
--- Some happenings lead controls from one state to another, and these entries are seen of them; which associations are open before and
--- after goes with them.
+-- Some happenings lead controls from one state to another, and these entries are seen of them;
+-- which associations are open before and after goes with them.
 pub record Leads (entries : List Entry) (open_before : ℕ → Bool) (before : State) (open_after : ℕ → Bool) (after : State) : Type 0 where
   pub happened : List Happening
   pub orderly : AreOrderly open_before happened

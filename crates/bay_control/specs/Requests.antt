@@ -1,5 +1,5 @@
--- What a bay file says of a switch's control, what is asked for and what is seen, as tests (IEC 61850-7-2, 20; IEC 61850-7-3: ctlModel,
--- Originator, Dbpos).
+-- What a bay file says of a switch's control, what is asked for and what is seen, as tests (IEC
+-- 61850-7-2, 20; IEC 61850-7-3: ctlModel, Originator, Dbpos).
 use Rattle.std.specs.Prelude.{ℕ, Bool, true, false, not, ◌&&◌, if◌then◌else◌, List, nat_eq, slice_get, Option, None, Some}
 use Rattle.std.specs.Cmp.Lexicographic.{pointwise}
 use Rattle.std.specs.Ordering.{int_eq}

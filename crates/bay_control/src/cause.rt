@@ -4,7 +4,8 @@ ghost use Rattle.bay_control.specs.Causes.{code_of};
 
 use thiserror::Error;
 
-/// Why a control is refused, or why an accepted one ended without its effect (IEC 61850-7-2, 20: AddCause).
+/// Why a control is refused, or why an accepted one ended without its effect (IEC 61850-7-2, 20:
+/// AddCause).
 #[derive(Clone, Copy, Debug, PartialEq, Eq, Error)]
 pub enum AddCause {
     /// The switch has no control of this kind.

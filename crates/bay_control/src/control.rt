@@ -1,6 +1,7 @@
 // What the bay file says of a switch's control.
 ghost use Rattle.std.specs.Prelude.{◌≡◌, ◌+◌, nat_le};
-ghost use Rattle.bay_control.specs.Requests.{is_sbo, no_control};
+ghost use Rattle.bay_control.specs.Requests.{no_control};
+ghost use Rattle.bay_control.specs.Requests as spec;
 
 use bay_config::bay::Control;
 
@@ -18,7 +19,7 @@ pub struct SwitchControl {
 impl SwitchControl {
     /// The switch is selected before it is operated, with normal or enhanced security.
     pub(crate) fn is_sbo(self) -> bool
-        ensures { result ≡ is_sbo self.model }
+        ensures { result ≡ spec.is_sbo self.model }
     {
         matches!(self.model, Control::Sbo | Control::SboEnhanced)
     }

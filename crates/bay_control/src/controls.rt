@@ -1,7 +1,9 @@
 // The controls of one bay.
 ghost use Rattle.std.specs.Prelude.{◌≡◌, ◌≤◌, [], if◌then◌else◌, None, length};
-ghost use Rattle.bay_control.specs.Decisions.{advanced, answer_of, cancel_outcome, contacted, controls_of, dropped, execution_at, initial, is_done, operate_outcome, restored, rows_of_operate, run_out, select_outcome, select_rows, select_with_outcome, selected_switch, selection_at, standing_of};
-ghost use Rattle.bay_control.specs.Requests.{control_of, is_enhanced};
+ghost use Rattle.bay_control.specs.Decisions.{advanced, answer_of, cancel_outcome, contacted, dropped, execution_at, initial, operate_outcome, restored, rows_of_operate, run_out, select_outcome, select_rows, select_with_outcome, selected_switch, selection_at, standing_of};
+ghost use Rattle.bay_control.specs.Decisions as spec;
+ghost use Rattle.bay_control.specs.Requests.{control_of};
+ghost use Rattle.bay_control.specs.Requests as spec_requests;
 
 use crate::cause::AddCause;
 use crate::control::{SwitchControl, is_over};
@@ -15,12 +17,14 @@ use bay_config::bay::{Bay, Control, Switch};
 use bay_tree::leaf::Dbpos;
 use std::marker::Model;
 
-/// The controls of a bay's switches, which contracts see as what the bay file says of each, the selected switch and the operating
-/// one. At most one switch is selected, by one association, and at most one is operating.
+/// The controls of a bay's switches, which contracts see as what the bay file says of each, the
+/// selected switch and the operating one. At most one switch is selected, by one association, and
+/// at most one is operating.
 ///
-/// Switches are named by their places in the bay file, from 0; one that is not there has no control. Moments are in milliseconds
-/// since 1970, and what has run out at a moment counts as ended at it: a selection after `sbo_timeout_ms`, an execution after
-/// `travel_ms`. Each request first ends what has run out; `advance` tells of it.
+/// Switches are named by their places in the bay file, from 0; one that is not there has no
+/// control. Moments are in milliseconds since 1970, and what has run out at a moment counts as
+/// ended at it: a selection after `sbo_timeout_ms`, an execution after `travel_ms`. Each request
+/// first ends what has run out; `advance` tells of it.
 #[derive(Drop)]
 pub struct Controls {
     controls: ArrayVec<SwitchControl, 32>,
@@ -39,7 +43,7 @@ impl Model for Controls {
 /// What the bay file says of each switch's control.
 fn controls_of(switches: &[Switch]) -> ArrayVec<SwitchControl, 32>
     requires { length switches.now ≤ 32 }
-    ensures { result.items ≡ controls_of switches.now }
+    ensures { result.items ≡ spec.controls_of switches.now }
 {
     let mut controls = ArrayVec::new();
     for switch in switches {
@@ -53,10 +57,11 @@ fn controls_of(switches: &[Switch]) -> ArrayVec<SwitchControl, 32>
 }
 
 impl Controls {
-    /// The controls of a bay's switches, of which there are at most 32. Nothing is selected, and nothing is operating.
+    /// The controls of a bay's switches, of which there are at most 32. Nothing is selected, and
+    /// nothing is operating.
     pub fn new(bay: &Bay) -> Self
         requires { length bay.now.switches ≤ 32 }
-        ensures { result ≡ initial (controls_of bay.now.switches) }
+        ensures { result ≡ initial (spec.controls_of bay.now.switches) }
     {
         Controls {
             controls: controls_of(bay.switches.as_slice()),
@@ -141,10 +146,12 @@ impl Controls {
         Ok(())
     }
 
-    /// Selects a switch of a control with normal security (Select). The association that has selected it renews its time.
+    /// Selects a switch of a control with normal security (Select). The association that has
+    /// selected it renews its time.
     ///
-    /// The first of these refuses: the switch is no such one, 1; it is operating, 12; another association has selected it, 3;
-    /// another switch is selected, 14. A refused select leaves what is selected.
+    /// The first of these refuses: the switch is no such one, 1; it is operating, 12; another
+    /// association has selected it, 3; another switch is selected, 14. A refused select leaves what
+    /// is selected.
     pub fn select(&mut self, association: u16, switch: usize, now: u64) -> Result<(), AddCause>
         ensures answer { result ≡ (select_outcome association switch now self.old).answer }
         ensures after { self.new ≡ (select_outcome association switch now self.old).after }
@@ -161,8 +168,9 @@ impl Controls {
         Ok(())
     }
 
-    /// Selects a switch of a control with enhanced security, for the position and the originator that are asked for
-    /// (SelectWithValue). The association that has selected it renews its time, and what it asked for before is forgotten.
+    /// Selects a switch of a control with enhanced security, for the position and the originator
+    /// that are asked for (SelectWithValue). The association that has selected it renews its time,
+    /// and what it asked for before is forgotten.
     ///
     /// It is refused as `select` is, and then where it is a test, 8.
     pub fn select_with(
@@ -230,12 +238,14 @@ impl Controls {
         Ok(())
     }
 
-    /// Operates a switch, as far as the view allows it (Operate). An operate by the association that has selected the switch
-    /// ends the selection, accepted or not; an accepted one starts the execution.
+    /// Operates a switch, as far as the view allows it (Operate). An operate by the association
+    /// that has selected the switch ends the selection, accepted or not; an accepted one starts the
+    /// execution.
     ///
-    /// The first of these refuses: the switch has no control, 1; it is to be selected first and the association has not, or with
-    /// enhanced security for something else, 18; a test, 8; the switch is operating, 12; another switch is, 14; the position is
-    /// reached, 5; the scan is not fresh, or the interlocking does not release the operation, 10.
+    /// The first of these refuses: the switch has no control, 1; it is to be selected first and the
+    /// association has not, or with enhanced security for something else, 18; a test, 8; the switch
+    /// is operating, 12; another switch is, 14; the position is reached, 5; the scan is not fresh,
+    /// or the interlocking does not release the operation, 10.
     pub fn operate(
         &mut self,
         association: u16,
@@ -263,8 +273,9 @@ impl Controls {
 
     /// Ends the association's selection of a switch (Cancel).
     ///
-    /// The first of these refuses: the switch is not selected before it is operated, 1; it is operating, 12; the association has
-    /// not selected it, 18. A refused cancel leaves what is selected.
+    /// The first of these refuses: the switch is not selected before it is operated, 1; it is
+    /// operating, 12; the association has not selected it, 18. A refused cancel leaves what is
+    /// selected.
     pub fn cancel(&mut self, association: u16, switch: usize, now: u64) -> Result<(), AddCause>
         ensures answer { result ≡ (cancel_outcome association switch now self.old).answer }
         ensures after { self.new ≡ (cancel_outcome association switch now self.old).after }
@@ -298,7 +309,7 @@ impl Controls {
 
     /// Takes the position of a switch, and tells whether it ends the switch's execution.
     pub fn contact(&mut self, switch: usize, position: Dbpos) -> bool
-        ensures ended { result ≡ is_done switch position self.old.execution }
+        ensures ended { result ≡ spec.is_done switch position self.old.execution }
         ensures after { self.new ≡ contacted switch position self.old }
     {
         let is_ended = is_done(self.execution, switch, position);
@@ -315,14 +326,16 @@ impl Controls {
         self.selection.as_ref().map(|s| s.switch)
     }
 
-    /// Whether a switch is selected with enhanced security, so that its client is told of what becomes of its requests.
+    /// Whether a switch is selected with enhanced security, so that its client is told of what
+    /// becomes of its requests.
     pub fn is_enhanced(&self, switch: usize) -> bool
-        ensures { result ≡ is_enhanced (control_of self.now.controls switch).model }
+        ensures { result ≡ spec_requests.is_enhanced (control_of self.now.controls switch).model }
     {
         matches!(self.control(switch).model, Control::SboEnhanced)
     }
 
-    /// What is selected and what is operating, to be put back where a request is to have had no effect.
+    /// What is selected and what is operating, to be put back where a request is to have had no
+    /// effect.
     pub fn standing(&self) -> Standing
         ensures { result ≡ standing_of self.now }
     {

@@ -6,8 +6,8 @@ ghost use Rattle.bay_control.specs.Decisions.{State, restored, standing_of};
 ghost use Rattle.bay_control.specs.declared.selection.Standing.{Standing};
 ghost use Rattle.bay_control.specs.Happenings.{Call, Leads, act_of, entries_of, is_open_after, is_orderly_call, outcome_of};
 
-/// Whatever happens to controls with no selection, whichever associations are open, each accepted operate of an SBO switch is
-/// backed by a select.
+/// Whatever happens to controls with no selection, whichever associations are open, each accepted
+/// operate of an SBO switch is backed by a select.
 pub fn operates_are_backed()
     ensures { (entries : List Entry) (open_before open_after : ℕ → Bool) (before after : State) →
         Leads entries open_before before open_after after → before.selection ≡ None → AreBacked before.controls entries }

@@ -1,5 +1,6 @@
-// The controls of a bay's switches: select, operate and cancel (IEC 61850-7-2, 20). They are decided on what the bay file says
-// of each switch, on what is selected and operating, and on what is seen of the switch. Nothing here takes memory.
+// The controls of a bay's switches: select, operate and cancel (IEC 61850-7-2, 20). They are
+// decided on what the bay file says of each switch, on what is selected and operating, and on what
+// is seen of the switch. Nothing here takes memory.
 //
 // - `cause`: why a control is refused.
 // - `control`: what the bay file says of a switch's control.

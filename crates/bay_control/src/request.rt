@@ -1,6 +1,7 @@
 // What a client asks for, and what a decision sees of the switch.
 ghost use Rattle.std.specs.Prelude.{◌≡◌};
-ghost use Rattle.bay_control.specs.Requests.{asked_choice, is_reached, is_released, same_choice, same_origin};
+ghost use Rattle.bay_control.specs.Requests.{asked_choice, same_choice, same_origin};
+ghost use Rattle.bay_control.specs.Requests as spec;
 
 use arrayvec::ArrayVec;
 use bay_tree::leaf::Dbpos;
@@ -88,7 +89,7 @@ pub struct View {
 impl View {
     /// The interlocking releases the operation.
     pub(crate) fn is_released(self, on: bool) -> bool
-        ensures { result ≡ is_released on self }
+        ensures { result ≡ spec.is_released on self }
     {
         if on { self.ena_cls } else { self.ena_opn }
     }
@@ -96,7 +97,7 @@ impl View {
 
 /// The position is the one that is asked for.
 pub(crate) fn is_reached(on: bool, position: Dbpos) -> bool
-    ensures { result ≡ is_reached on position }
+    ensures { result ≡ spec.is_reached on position }
 {
     match position {
         Dbpos::On => on,

@@ -1,6 +1,6 @@
 // Which switch is selected, and which is operating.
 ghost use Rattle.std.specs.Prelude.{◌≡◌};
-ghost use Rattle.bay_control.specs.Decisions.{is_chosen, is_done, is_executing, is_selected_by, is_selected_by_other, other_is_executing, other_is_selected};
+ghost use Rattle.bay_control.specs.Decisions as spec;
 ghost use Rattle.bay_control.specs.Requests.{asked_choice};
 
 use crate::request::{Ask, Choice, is_reached};
@@ -52,7 +52,7 @@ pub struct Standing {
 
 /// The association has selected the switch.
 pub(crate) fn is_selected_by(selection: &Option<Selection>, association: u16, switch: usize) -> bool
-    ensures { result ≡ is_selected_by association switch selection.now }
+    ensures { result ≡ spec.is_selected_by association switch selection.now }
 {
     selection
         .as_ref()
@@ -65,7 +65,7 @@ pub(crate) fn is_selected_by_other(
     association: u16,
     switch: usize,
 ) -> bool
-    ensures { result ≡ is_selected_by_other association switch selection.now }
+    ensures { result ≡ spec.is_selected_by_other association switch selection.now }
 {
     selection
         .as_ref()
@@ -74,14 +74,14 @@ pub(crate) fn is_selected_by_other(
 
 /// Another switch is selected.
 pub(crate) fn other_is_selected(selection: &Option<Selection>, switch: usize) -> bool
-    ensures { result ≡ other_is_selected switch selection.now }
+    ensures { result ≡ spec.other_is_selected switch selection.now }
 {
     selection.as_ref().is_some_and(|s| s.switch != switch)
 }
 
 /// A select with value was granted for what is asked for.
 pub(crate) fn is_chosen(selection: &Option<Selection>, ask: &Ask) -> bool
-    ensures { result ≡ is_chosen (asked_choice ask.now) selection.now }
+    ensures { result ≡ spec.is_chosen (asked_choice ask.now) selection.now }
 {
     match selection {
         Some(
@@ -96,21 +96,21 @@ pub(crate) fn is_chosen(selection: &Option<Selection>, ask: &Ask) -> bool
 
 /// The switch is operating.
 pub(crate) fn is_executing(execution: Option<Execution>, switch: usize) -> bool
-    ensures { result ≡ is_executing switch execution }
+    ensures { result ≡ spec.is_executing switch execution }
 {
     execution.is_some_and(|e| e.switch == switch)
 }
 
 /// Another switch is operating.
 pub(crate) fn other_is_executing(execution: Option<Execution>, switch: usize) -> bool
-    ensures { result ≡ other_is_executing switch execution }
+    ensures { result ≡ spec.other_is_executing switch execution }
 {
     execution.is_some_and(|e| e.switch != switch)
 }
 
 /// A position of the switch tells that its execution is done.
 pub(crate) fn is_done(execution: Option<Execution>, switch: usize, position: Dbpos) -> bool
-    ensures { result ≡ is_done switch position execution }
+    ensures { result ≡ spec.is_done switch position execution }
 {
     execution.is_some_and(|e| e.switch == switch && is_reached(e.on, position))
 }

@@ -97,7 +97,8 @@ controls-with (Some place) x s = refl
 
 -- ---- from one device to another
 
--- What is seen leads the controls and the open associations of a device to those of another, which has as many places for them.
+-- What is seen leads the controls and the open associations of a device to those of another, which
+-- has as many places for them.
 record Led (entries : List Entry) (s t : State) : Type 0 where
   leads : Leads entries (opens s) s.controls (opens t) t.controls
   sized : length t.connections ≡ length s.connections

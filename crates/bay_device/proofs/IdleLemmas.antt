@@ -1,4 +1,5 @@
--- A device as load made it has nothing selected, no association of it is open, and its controls are those of its bay file.
+-- A device as load made it has nothing selected, no association of it is open, and its controls are
+-- those of its bay file.
 use Rattle.std.proofs.Common.{◌≡◌, Result, Ok, Err, IfOk, refl, subst, sym}
 use Rattle.bay_base.specs.Exact.{Gives}
 use Rattle.bay_config.specs.declared.bay.Bay.{Bay}

@@ -31,7 +31,7 @@ use Rattle.il_compile.specs.Senses.{timer_of}
 use Rattle.bay_device.specs.Load.{initial_device}
 use Rattle.bay_process.proofs.SourceLemmas.{IsTyped, bay-typed, points-fit, reads-typed}
 use Rattle.il_compile.specs.Meaning.{Memory}
-use Rattle.il_scan.specs.Scans.{Held, first_input, first_slots, first_value, outputs_of, read_only, type_of_point, with_inputs}
+use Rattle.il_scan.specs.Scans.{Held, first_input, first_slots, default_value, outputs_of, read_only, type_of_point, with_inputs}
 use Rattle.bay_connection.specs.Talk.{Talk, Indication, indications, left_by, answers, tells, releases, ends as ends-heard, fails}
 use Rattle.bay_device.specs.Device.{State, Ran, advanced, ending_at, inputs_of, point_value, ran_at, ran_of, scanned}
 use Rattle.bay_device.specs.Hearing.{Done, Heard, heard, on_heard}
@@ -43,7 +43,7 @@ use Rattle.bay_process.specs.Sources.{type_of_source}
 use Rattle.bay_device.specs.declared.event.Event.{Event}
 use Rattle.bay_device.specs.declared.event.Event.TheVariants.{Open, Recv, Close, Contact, Input, Measure, Scan}
 
-first-of : (t : ElementaryType) → type_of (first_value t) ≡ t
+first-of : (t : ElementaryType) → type_of (default_value t) ≡ t
 first-of elementary.Bool = refl
 first-of elementary.Int = refl
 first-of elementary.Dint = refl

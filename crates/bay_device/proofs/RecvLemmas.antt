@@ -7,7 +7,7 @@ use Rattle.bay_device.specs.Device.{State, advanced, ended_at}
 use Rattle.bay_device.specs.Hearing.{Done}
 use Rattle.bay_device.specs.HearingViews.{ComesTo}
 use Rattle.bay_device.specs.Outcomes.{Outcome, closed_by, connection_at, event_outcome, last_moment, nothing_done, outcome, place_of, refused, recv_after, recv_done, recv_outcome, with_connection, without_owner}
-use Rattle.bay_device.specs.Steps.{Gives, HearsFrom, IsWithoutOctets, Receives, Steps}
+use Rattle.bay_device.specs.Steps.{IsOutcome, HearsFrom, IsWithoutOctets, Receives, Steps}
 use Rattle.bay_device.specs.declared.event.Event.{Event}
 use Rattle.bay_device.specs.declared.event.Event.TheVariants.{Open, Recv, Close, Contact, Input, Measure, Scan}
 use Rattle.bay_device.specs.declared.fault.StepFault.TheVariants.{MomentTooLarge, TimeWentBack}
@@ -124,7 +124,7 @@ one-event choice now (Input k value) s h = refl
 one-event choice now (Measure k field value) s h = refl
 one-event choice now Scan s h = refl
 
-pub one-outcome : (now : ℕ) (event : Event) (s : State) (answer : Result Step StepFault) (new : State) → Steps now event s answer new → IsWithoutOctets event → Gives (outcome None now event s) answer new
+pub one-outcome : (now : ℕ) (event : Event) (s : State) (answer : Result Step StepFault) (new : State) → Steps now event s answer new → IsWithoutOctets event → IsOutcome (outcome None now event s) answer new
 one-outcome now event s answer new steps h =
     let same : outcome steps.choice now event s ≡ outcome None now event s =
     ap (λ (x : Outcome). cond (nat_lt last_moment now) (refused MomentTooLarge s) (cond (nat_lt now s.moment) (refused TimeWentBack s) x)) (one-event steps.choice now event s h) in

@@ -29,7 +29,8 @@ pub told-with : (old new : Bay) (controls : control.State) (told : List (Option 
 told-with old new controls told all is =
     told-shown old.rows new.rows told (selected_switch controls.selection) (length old.switches) all (ap (λ (b : Bay). b.rows) is)
 
--- rows of a bay that, with any selection and execution put back, is the same, and that shows its own selection
+-- rows of a bay that, with any selection and execution put back, is the same, and that shows its
+-- own selection
 pub told-again : (old new : Bay) (told : List (Option Enabled)) → AreTold old.rows told → ((standing : Standing) → standing_again standing new ≡ standing_again standing old)
     → ShowSelection new.controls (length new.switches) new.rows → AreTold new.rows told
 told-again old new told all back shows =

@@ -1,9 +1,11 @@
--- The terms on which a PDU of a client is answered: a size of TPDUs is agreed, and one of PDUs, of at most 65,000 octets.
+-- The terms on which a PDU of a client is answered: a size of TPDUs is agreed, and one of PDUs, of
+-- at most 65,000 octets.
 use Rattle.std.proofs.Common.{◌≡◌, ◌≤◌, ℕ, ℤ, pos, negsuc, Bool, true, false, cond, nat_lt, min, List, [], ◌∷◌, ◌++◌, drop, Option, Some, None, Result, Ok, Err, IsSome, refl, arith, ◌==◌}
 use Rattle.bay_ber.specs.Options.{◌>>=◌}
 use Rattle.bay_mms.specs.declared.request.Proposal.{Proposal}
 use Rattle.bay_mms.specs.declared.response.Agreed.{Agreed}
 use Rattle.bay_mms.specs.Grammar.{initiate_in}
+use Rattle.bay_mms.specs.Spelled.{◌>>◌}
 use Rattle.bay_transport.specs.declared.fault.TransportFault.{TransportFault}
 use Rattle.bay_transport.specs.declared.fault.TransportFault.TheVariants.{BadCotp}
 use Rattle.bay_transport.specs.declared.frame.Front.{Front}
@@ -24,7 +26,7 @@ use Rattle.bay_assoc.specs.declared.presentation.Context.{Context}
 use Rattle.bay_assoc.specs.Acse.{associate_in, release_in}
 use Rattle.bay_assoc.specs.Hearing.{Hearing, answer, mms, released, aborted, accepted_of, acse_value, agreed_of, agreement, connected, finished, heard_idle, heard_open, hearing, mms_value, size_of, transferred}
 use Rattle.bay_assoc.specs.Presentation.{Carried, user_in, request_in}
-use Rattle.bay_assoc.specs.Results.{◌>>◌, wanted}
+use Rattle.bay_assoc.specs.Results.{wanted}
 use Rattle.bay_assoc.specs.Session.{Spdu, connect, accept, finish, disconnect, abort, transfer, spdu_in}
 use Rattle.bay_assoc.specs.Sized.{IsPduSize, IsSized}
 use Rattle.bay_connection.specs.Talk.{Indication, Talk, Told, answers, tells, releases, ends, fails, comes_to, indications, left_by, on_heard, on_hearing, told}

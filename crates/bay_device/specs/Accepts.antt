@@ -7,8 +7,8 @@ use Rattle.il_text.specs.Texts.{ReadsAs}
 use Rattle.il_text.specs.declared.fault.TextFault.{TextFault}
 use Rattle.il_check.specs.RightProgram.{IsRightProgram}
 
--- The first text is a bay file, and there is a program as which the second reads, by the grammar of Instruction List, and which is right
--- with the points of that bay: declared and typed throughout.
+-- The first text is a bay file, and there is a program as which the second reads, by the grammar of
+-- Instruction List, and which is right with the points of that bay: declared and typed throughout.
 pub record IsRight (bay logic : List ℕ) : Type 0 where
   pub read : Bay
   pub file : bay_of bay ≡ Ok read

@@ -11,8 +11,8 @@ use Rattle.bay_device.specs.declared.event.Event.{Event}
 use Rattle.bay_device.specs.declared.event.Step.{Step}
 use Rattle.bay_device.specs.declared.fault.StepFault.{StepFault}
 
--- A switch is operated at a moment while the last scan is fresh, its interlocking value (EnaCls for on, EnaOpn for off) is TRUE in the
--- tree, and no switch of the bay is operating.
+-- A switch is operated at a moment while the last scan is fresh, its interlocking value (EnaCls for
+-- on, EnaOpn for off) is TRUE in the tree, and no switch of the bay is operating.
 pub record IsReleased (now : ℕ) (s : State) (command : Command) : Type 0 where
   pub fresh : is_fresh now s ≡ true
   pub enabled : is_truth true (leaf_of (releasing command.switch command.on) s.rows) ≡ true

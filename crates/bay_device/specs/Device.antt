@@ -1,5 +1,6 @@
--- What a device is: its bay, the program that interlocks it, and its clients; and what is done to it that no client asks for
--- (IEC 61850-7-4: XCBR, XSWI, CSWI, CILO and MMXU; IEC 61850-7-3: status values and measured values).
+-- What a device is: its bay, the program that interlocks it, and its clients; and what is done to
+-- it that no client asks for (IEC 61850-7-4: XCBR, XSWI, CSWI, CILO and MMXU; IEC 61850-7-3: status
+-- values and measured values).
 use Rattle.std.specs.Prelude.{ℕ, ℤ, ◌-◌, Bool, false, not, ◌&&◌, ◌||◌, nat_le, List, [], length, map, slice_get, slice_set, unwrap_or, Option, None, Some, if◌then◌else◌}
 use Rattle.bay_tree.specs.declared.row.Row.{Row}
 use Rattle.bay_tree.specs.declared.leaf.Dbpos.{Dbpos}
@@ -22,12 +23,13 @@ use Rattle.bay_services.specs.Bay.{Bay, with_controls}
 use Rattle.bay_device.specs.declared.due.Due.{Due}
 use Rattle.bay_device.specs.declared.event.Sent.{Sent}
 
--- a device: what its bay file says of the bay, its switches, the names and the values of its inputs, the ids of its
--- meters; what the points stand for that its program only reads, and those that it may write, each in the order of the
--- program's points; the machine that runs the program: its image, its slots and its timers; the rows of its tree; the
--- moment of the last accepted event; the last scan: its moment, and whether what it read has changed since; its controls; what will
--- tell a client of the end of what is operating; and for each of its eight associations what the octets of the client have left, if
--- it is open
+-- a device: what its bay file says of the bay, its switches, the names and the values of its
+-- inputs, the ids of its meters; what the points stand for that its program only reads, and those
+-- that it may write, each in the order of the program's points; the machine that runs the program:
+-- its image, its slots and its timers; the rows of its tree; the moment of the last accepted event;
+-- the last scan: its moment, and whether what it read has changed since; its controls; what will
+-- tell a client of the end of what is operating; and for each of its eight associations what the
+-- octets of the client have left, if it is open
 pub record State : Type 0 where
   pub domain : List ℕ
   pub vendor : List ℕ
@@ -72,7 +74,8 @@ with_bay b s = record s {
   controls = b.controls;
 }
 
--- The last scan is fresh at a moment: there is one, nothing that it read has changed since, and it is not too old.
+-- The last scan is fresh at a moment: there is one, nothing that it read has changed since, and it
+-- is not too old.
 abbrev pub is_recent : ℕ → ℕ → Option ℕ → Bool
 is_recent now age None = false
 is_recent now age (Some scan) = nat_le (now - scan) age

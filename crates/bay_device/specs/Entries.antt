@@ -1,4 +1,5 @@
--- What events ask of a device's controls, and what was accepted of it, as it is seen from outside; and which associations are open.
+-- What events ask of a device's controls, and what was accepted of it, as it is seen from outside;
+-- and which associations are open.
 use Rattle.std.specs.Prelude.{ℕ, ◌≡◌, zero, suc, nat_lt, Bool, true, List, [], ◌∷◌, ◌++◌, Option, None, Some, is_some, replicate, Result, if◌then◌else◌}
 use Rattle.bay_control.specs.Acts.{Act, Opened, Closed, Entry}
 use Rattle.bay_control.specs.Decisions as control
@@ -91,7 +92,8 @@ entries_at choice now event s =
     else if nat_lt now s.moment then []
     else entries_of_event choice now event s
 
--- Of a list of events, one after the other, with a choice for each; where there is none left memory is not refused.
+-- Of a list of events, one after the other, with a choice for each; where there is none left memory
+-- is not refused.
 abbrev pub entries_all : List (Option ℕ) → List (ℕ × Event) → State → List Entry
 entries_all choices [] s = []
 entries_all [] (e ∷ es) s = entries_at None e.0 e.1 s ++ entries_all [] es (outcome None e.0 e.1 s).after
@@ -99,8 +101,8 @@ entries_all (choice ∷ choices) (e ∷ es) s = entries_at choice e.0 e.1 s ++ e
 
 -- ---- steps
 
--- An event is answered so, and leaves this: whatever led to the controls before it, seen as these entries, leads with what is seen of
--- the event to the controls after it.
+-- An event is answered so, and leaves this: whatever led to the controls before it, seen as these
+-- entries, leads with what is seen of the event to the controls after it.
 pub record Leading (now : ℕ) (event : Event) (old : State) (answer : Result Step StepFault) (new : State) : Type 0 where
   pub steps : Steps now event old answer new
   pub leads : (past : List Entry) (open_before : ℕ → Bool) (before : control.State) → Leads past open_before before (opens old) old.controls

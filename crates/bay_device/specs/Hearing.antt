@@ -1,4 +1,5 @@
--- What the octets of a client make of a device: its PDUs in their order, each answered before the next is read.
+-- What the octets of a client make of a device: its PDUs in their order, each answered before the
+-- next is read.
 use Rattle.std.specs.Prelude.{ℕ, zero, suc, List, [], ◌∷◌, ◌++◌, map, Option, None, Some}
 use Rattle.bay_assoc.specs.Hears.{link_of}
 use Rattle.bay_assoc.specs.declared.hearing.Link.{Link}
@@ -13,7 +14,8 @@ use Rattle.bay_device.specs.declared.event.Sent.{Sent}
 use Rattle.bay_device.specs.declared.event.Why.{Why}
 use Rattle.bay_device.specs.declared.event.Why.TheVariants.{Ended, Fault, Memory}
 
--- the device, and what an event has made so far: what is to be sent, and the switches that are to be operated
+-- the device, and what an event has made so far: what is to be sent, and the switches that are to
+-- be operated
 pub record Done : Type 0 where
   pub state : State
   pub sent : List Sent
@@ -68,7 +70,8 @@ pub record Heard : Type 0 where
   pub done : Done
   pub why : Option Why
 
--- one thing that was heard, and then what follows; nothing does behind a release, an end and a fault
+-- one thing that was heard, and then what follows; nothing does behind a release, an end and a
+-- fault
 abbrev pub on_heard : ℕ → ℕ → Indication → Done → (Done → Heard) → Heard
 on_heard now a (answers octets) d later = later (with_sent a octets d)
 on_heard now a (tells terms pdu) d later = later (said now a terms pdu d)
@@ -76,8 +79,8 @@ on_heard now a (releases octets) d later = record { done = with_sent a octets d;
 on_heard now a ends d later = record { done = d; why = Some Ended }
 on_heard now a (fails code) d later = record { done = d; why = Some (Fault code) }
 
--- All that was heard, in its order. The first argument is the free choice: None, memory is never refused; Some n, it is refused behind
--- n things that were heard.
+-- All that was heard, in its order. The first argument is the free choice: None, memory is never
+-- refused; Some n, it is refused behind n things that were heard.
 abbrev pub heard : Option ℕ → ℕ → ℕ → List Indication → Done → Heard
 heard None now a [] d = record { done = d; why = None }
 heard None now a (i ∷ is) d = on_heard now a i d (heard None now a is)

@@ -28,7 +28,8 @@ use Rattle.bay_control.specs.Decisions.{controls_of, initial}
 use Rattle.bay_services.specs.Bay.{shown}
 use Rattle.bay_process.specs.Sources.{sources_of}
 
--- a device before its first event: nothing is selected, which its rows show, and nothing is operating, and no association is open
+-- a device before its first event: nothing is selected, which its rows show, and nothing is
+-- operating, and no association is open
 abbrev pub initial_device : Bay → Image → State
 initial_device bay image = record {
   domain = bay.domain;
@@ -90,8 +91,9 @@ abbrev pub of_program : Bay → Result PlainProgram TextFault → Result State L
 of_program bay (Ok program) = of_checked bay (checked_of bay.points program)
 of_program bay (Err fault) = Err (text_refusal fault)
 
--- the device of a bay file and a program: a fault of the bay file comes before one of the program's text, that before one of
--- its checks, and that before the refusal of an image that would be too long
+-- the device of a bay file and a program: a fault of the bay file comes before one of the program's
+-- text, that before one of its checks, and that before the refusal of an image that would be too
+-- long
 abbrev pub of_bay : Result Bay BayFault → Result PlainProgram TextFault → Result State LoadFault
 of_bay (Ok bay) program = of_program bay program
 of_bay (Err fault) program = Err (bay_refusal fault)
@@ -102,7 +104,8 @@ checked_in (Ok bay) (Ok program) = elim (checked_of bay.points program) [ Ok c �
 checked_in (Ok bay) (Err fault) = Err (text_refusal fault)
 checked_in (Err fault) program = Err (bay_refusal fault)
 
--- The image of a bay is loaded, if it is verified for the bay's points, or refused for its first fault.
+-- The image of a bay is loaded, if it is verified for the bay's points, or refused for its first
+-- fault.
 abbrev pub LoadsImage : Bay → Image → Result State LoadFault → Type 0
 LoadsImage bay image (Ok device) = IsVerified bay.points image × (device ≡ initial_device bay image)
 LoadsImage bay image (Err refusal) = (fault : VerifyFault) × (place : ℕ) × IsRefusal bay.points image fault place × (refusal ≡ verify_refusal fault)
@@ -111,8 +114,8 @@ abbrev pub LoadsRead : Bay → Result Image ImageFault → Result State LoadFaul
 LoadsRead bay (Ok image) result = LoadsImage bay image result
 LoadsRead bay (Err fault) result = result ≡ Err (image_refusal fault)
 
--- A bay file and the octets of an image are loaded, or refused: a fault of the bay file comes before one of the octets, and that
--- before one of the image.
+-- A bay file and the octets of an image are loaded, or refused: a fault of the bay file comes
+-- before one of the octets, and that before one of the image.
 abbrev pub Loads : Result Bay BayFault → Result Image ImageFault → Result State LoadFault → Type 0
 Loads (Ok bay) image result = LoadsRead bay image result
 Loads (Err fault) image result = result ≡ Err (bay_refusal fault)

@@ -1,4 +1,5 @@
--- What the events of a device come to that was loaded from the text of a program: each scan leaves what the text means.
+-- What the events of a device come to that was loaded from the text of a program: each scan leaves
+-- what the text means.
 use Rattle.std.specs.Prelude.{ℕ, ◌≡◌, ◌≤◌, Bool, false, nat_lt, ◌||◌, List, [], ◌∷◌, length, map, take, drop, Option, Some, None, Result}
 use Rattle.il_image.specs.Machine.{Halted}
 use Rattle.il_image.specs.declared.timer.Timer.{Timer}
@@ -60,12 +61,13 @@ pub record Halting (events : List (ℕ × Event)) (old : State) (answers : List 
 abbrev pub memory_of : Checked → List Value → List Timer → Memory
 memory_of c slots timers = record { externals = take (length c.externals) slots; variables = drop (length c.externals) slots; timers = timers }
 
--- those that a scan begins with: what the device keeps, with the values of the points that are only read
+-- those that a scan begins with: what the device keeps, with the values of the points that are only
+-- read
 abbrev pub memory_before : Checked → State → Memory
 memory_before c s = let start = started s.machine (inputs_of s) in memory_of c start.slots start.timers
 
--- The scan does what the text means: what the program means on these values is what the device keeps, and the interlocking values
--- in the tree are those of its externals.
+-- The scan does what the text means: what the program means on these values is what the device
+-- keeps, and the interlocking values in the tree are those of its externals.
 pub record Means (c : Checked) (now : ℕ) (s : State) : Type 0 where
   pub after : Memory
   pub is : mean now c.items (memory_before c s) ≡ Some after
@@ -90,8 +92,9 @@ AllMean c (choice ∷ choices) (e ∷ es) s = MeansAt c e.0 e.1 s × AllMean c c
 
 -- ---- which device runs a text
 
--- The device runs the program: its image has the program's externals as points and code that does what the text means, its slots
--- and timers hold values of the program's types, and the points that it only reads have their types.
+-- The device runs the program: its image has the program's externals as points and code that does
+-- what the text means, its slots and timers hold values of the program's types, and the points that
+-- it only reads have their types.
 pub record Runs (c : Checked) (s : State) : Type 0 where
   pub points : s.machine.image.points ≡ map point_of c.externals
   pub does : DoesTheText c s.machine.image.code

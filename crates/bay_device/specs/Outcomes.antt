@@ -143,15 +143,17 @@ event_outcome choice now Scan s = scan_outcome now s
 abbrev pub last_moment : ℕ
 last_moment = 4294967295999
 
--- Of an event at a moment, which is neither too large nor before the last event's. The first argument is the free choice: Some n, to a
--- Recv memory is refused behind n of the things that its octets come to; None, it never is.
+-- Of an event at a moment, which is neither too large nor before the last event's. The first
+-- argument is the free choice: Some n, to a Recv memory is refused behind n of the things that its
+-- octets come to; None, it never is.
 abbrev pub outcome : Option ℕ → ℕ → Event → State → Outcome
 outcome choice now event s =
     if nat_lt last_moment now then refused MomentTooLarge s
     else if nat_lt now s.moment then refused TimeWentBack s
     else event_outcome choice now event s
 
--- what a list of events does, one after the other, with a choice for each; where there is none left memory is not refused
+-- what a list of events does, one after the other, with a choice for each; where there is none left
+-- memory is not refused
 pub record Outcomes : Type 0 where
   pub answers : List (Result Step StepFault)
   pub after : State

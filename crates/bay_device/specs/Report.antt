@@ -9,8 +9,8 @@ use Rattle.bay_device.specs.declared.report.Report.{Report}
 abbrev pub IsCount : List ℕ → ℕ → Type 0
 IsCount code count = place_of code count ≡ Some (length code)
 
--- The instructions of the code, the length of a longest list of each table that agrees with it, and the number of places of a
--- longest path through it.
+-- The instructions of the code, the length of a longest list of each table that agrees with it, and
+-- the number of places of a longest path through it.
 pub record IsReport (image : Image) (report : Report) : Type 0 where
   pub instructions : IsCount image.code report.instructions
   pub depth : IsDepth image report.depth

@@ -11,7 +11,7 @@ use Rattle.bay_device.specs.declared.event.Step.{Step}
 use Rattle.bay_device.specs.declared.fault.StepFault.{StepFault}
 
 -- the answer and the device after it are those of an outcome
-pub record Gives (o : Outcome) (answer : Result Step StepFault) (new : State) : Type 0 where
+pub record IsOutcome (o : Outcome) (answer : Result Step StepFault) (new : State) : Type 0 where
   pub answered : answer ≡ o.answer
   pub left : new ≡ o.after
 
@@ -24,7 +24,8 @@ pub record IsQuiet (answer : Result (Option Sent) StepFault) (new : State) (o : 
   pub answered : quiet_answer answer ≡ o.answer
   pub left : new ≡ o.after
 
--- An event at a moment is answered so, and leaves this: there is a choice with which that is its outcome.
+-- An event at a moment is answered so, and leaves this: there is a choice with which that is its
+-- outcome.
 pub record Steps (now : ℕ) (event : Event) (old : State) (answer : Result Step StepFault) (new : State) : Type 0 where
   pub choice : Option ℕ
   pub answered : answer ≡ (outcome choice now event old).answer
@@ -55,7 +56,8 @@ IsWithoutOctets (Input k value) = Unit {0}
 IsWithoutOctets (Measure k field value) = Unit {0}
 IsWithoutOctets Scan = Unit {0}
 
--- A list of events is answered so, and leaves this: there are choices, one for each event, with which that is their outcome.
+-- A list of events is answered so, and leaves this: there are choices, one for each event, with
+-- which that is their outcome.
 pub record AllSteps (events : List (ℕ × Event)) (old : State) (answers : List (Result Step StepFault)) (new : State) : Type 0 where
   pub choices : List (Option ℕ)
   pub each : length choices ≡ length events

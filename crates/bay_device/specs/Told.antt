@@ -1,5 +1,5 @@
--- What clients ask of a device's controls, and what is accepted of it, by events and answers alone: by the octets that come and those
--- that are sent. Nothing here looks at the device behind them.
+-- What clients ask of a device's controls, and what is accepted of it, by events and answers alone:
+-- by the octets that come and those that are sent. Nothing here looks at the device behind them.
 use Rattle.std.specs.Prelude.{ℕ, ◌≡◌, Bool, List, [], ◌∷◌, ◌++◌, map, slice_get, slice_set, unwrap_or, Option, None, Some, Result, Ok, Err}
 use Rattle.bay_ber.specs.Options.{◌>>=◌}
 use Rattle.bay_ber.specs.Values.{under, value_in, values_in}
@@ -67,8 +67,8 @@ abbrev pub behind_one : List (List ℕ) → List (List ℕ)
 behind_one [] = []
 behind_one (pdu ∷ pdus) = pdus
 
--- What was heard, in its order, with the PDUs of what was sent: each request and each PDU of MMS has its answer there. Where nothing
--- was sent, nothing was accepted.
+-- What was heard, in its order, with the PDUs of what was sent: each request and each PDU of MMS
+-- has its answer there. Where nothing was sent, nothing was accepted.
 abbrev pub told_heard : ℕ → ℕ → Bay → List Indication → List (List ℕ) → List Entry
 told_heard now a names [] pdus = []
 told_heard now a names (answers octets ∷ is) pdus = told_heard now a names is (behind_one pdus)
@@ -141,8 +141,8 @@ told_answer now event names talks answer = of_answer [] (told_step now event nam
 abbrev pub talks_answer : Event → List (Option Talk) → Result Step StepFault → List (Option Talk)
 talks_answer event talks answer = of_answer talks (talks_step event talks) answer
 
--- What events and their answers tell, one after the other, of a bay whose variables have these names, where the octets before them have
--- left this of each association.
+-- What events and their answers tell, one after the other, of a bay whose variables have these
+-- names, where the octets before them have left this of each association.
 abbrev pub told_all : Bay → List (Option Talk) → List (ℕ × Event) → List (Result Step StepFault) → List Entry
 told_all names talks [] replies = []
 told_all names talks (e ∷ es) [] = []
@@ -154,8 +154,9 @@ told_all names talks (e ∷ es) (reply ∷ replies) = told_answer e.0 e.1 names 
 abbrev pub AreTalks : List (Option Talk) → Type 0
 AreTalks talks = (place : ℕ) (t : Talk) → unwrap_or (slice_get talks place) None ≡ Some t → IsSized t.phase
 
--- An event is answered so, and leaves this: whatever led to the controls before it, seen as these entries, leads with what the event and
--- its answer tell to the controls after it. They tell what is left of each talk, and the names stay.
+-- An event is answered so, and leaves this: whatever led to the controls before it, seen as these
+-- entries, leads with what the event and its answer tell to the controls after it. They tell what
+-- is left of each talk, and the names stay.
 pub record Telling (names : Bay) (now : ℕ) (event : Event) (old : State) (answer : Result Step StepFault) (new : State) : Type 0 where
   pub leads : (past : List Entry) (open_before : ℕ → Bool) (before : control.State) → Leads past open_before before (opens old) old.controls
       → Leads (past ++ told_answer now event names old.connections answer) open_before before (opens new) new.controls

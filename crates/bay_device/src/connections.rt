@@ -3,17 +3,15 @@ ghost use Rattle.std.specs.Prelude.{◌≡◌, ◌<◌, None, IfSome, is_none, i
 ghost use Rattle.bay_transport.specs.Feeding.{IsGoing};
 ghost use Rattle.bay_device.specs.Connections.{talk_in};
 
+use crate::event::ASSOCIATIONS;
 use bay_connection::connection::Connection;
 use std::marker::Model;
 
-/// How many associations there are.
-const PLACES: usize = 8;
-
-/// The connections of the associations that are open, which contracts see as what the octets of each have left. Octets are taken of
-/// each.
+/// The connections of the associations that are open, which contracts see as what the octets of
+/// each have left. Octets are taken of each.
 #[derive(Drop)]
 pub struct Connections {
-    places: [Option<Connection>; PLACES],
+    places: [Option<Connection>; ASSOCIATIONS],
 }
 
 impl Model for Connections {
@@ -29,7 +27,7 @@ impl Model for Connections {
 }
 
 /// The lowest place at which there is no connection.
-fn free_place_in(places: &[Option<Connection>; PLACES]) -> Option<usize>
+fn free_place_in(places: &[Option<Connection>; ASSOCIATIONS]) -> Option<usize>
     ensures lowest { result ≡ position is_none places.now }
     ensures within { IfSome result (λ place. place < 8) }
 {
@@ -37,7 +35,7 @@ fn free_place_in(places: &[Option<Connection>; PLACES]) -> Option<usize>
 }
 
 /// Takes the connection at a place out.
-fn take_at(places: &mut [Option<Connection>; PLACES], place: usize) -> Option<Connection>
+fn take_at(places: &mut [Option<Connection>; ASSOCIATIONS], place: usize) -> Option<Connection>
     requires { place < 8 }
     ensures value { result ≡ slice_index_or places.old place None }
     ensures rest { places.new ≡ slice_set places.old place None }
@@ -46,7 +44,11 @@ fn take_at(places: &mut [Option<Connection>; PLACES], place: usize) -> Option<Co
 }
 
 /// Puts a connection at a place, or none.
-fn put_at(places: &mut [Option<Connection>; PLACES], place: usize, connection: Option<Connection>)
+fn put_at(
+    places: &mut [Option<Connection>; ASSOCIATIONS],
+    place: usize,
+    connection: Option<Connection>,
+)
     requires { place < 8 }
     ensures { places.new ≡ slice_set places.old place connection }
 {

@@ -13,10 +13,11 @@ ghost use Rattle.bay_device.specs.Device.{bay_of};
 ghost use Rattle.bay_device.specs.Entries.{IsIdle, Leading, entries_all};
 ghost use Rattle.bay_device.specs.LookUps.{switch_place, input_place, meter_place, enabled_of};
 ghost use Rattle.bay_device.specs.Meaning.{AllMean, Halting, HaltsAt, MeansAt, Runs, is_refused};
-ghost use Rattle.bay_device.specs.Outcomes.{closed, closed_by, connection_at, event_outcome, outcome, place_of, recv_after};
+ghost use Rattle.bay_device.specs.Outcomes.{closed, connection_at, event_outcome, outcome, recv_after};
+ghost use Rattle.bay_device.specs.Outcomes as spec;
 ghost use Rattle.bay_device.specs.Report.{IsReport};
 ghost use Rattle.bay_device.specs.StateView.{state_view};
-ghost use Rattle.bay_device.specs.Steps.{Gives, Hears, IsWithoutOctets, Receives, Steps};
+ghost use Rattle.bay_device.specs.Steps.{IsOutcome, Hears, IsWithoutOctets, Receives, Steps};
 ghost use Rattle.bay_device.specs.Told.{AreTalks, Telling, told_all};
 ghost use Rattle.bay_device.specs.declared.event.Event.TheVariants.{Open, Recv, Close, Contact, Input, Measure, Scan};
 
@@ -37,8 +38,9 @@ use il_image::encode::encode;
 use std::alloc::{AllocError, Global};
 use std::marker::Model;
 
-/// A device, which contracts see as its state: what the bay file says, the rows of its tree, the values of its inputs, the machine with
-/// its program, its controls, the moments of the last event and the last scan, and what the octets of its clients have left.
+/// A device, which contracts see as its state: what the bay file says, the rows of its tree, the
+/// values of its inputs, the machine with its program, its controls, the moments of the last event
+/// and the last scan, and what the octets of its clients have left.
 #[derive(Drop)]
 pub struct Device {
     alloc: Global,
@@ -60,7 +62,7 @@ impl Model for Device {
 
 // What the device tells of a closing.
 fn closed_by(association: u16, why: Option<Why>) -> Option<(u16, Why)>
-    ensures { result ≡ closed_by association why }
+    ensures { result ≡ spec.closed_by association why }
 {
     match why {
         Some(why) => Some((association, why)),
@@ -109,7 +111,7 @@ impl Device {
 
     // A client connects.
     fn open(&mut self, now: u64, association: u16) -> Result<Step, StepFault>
-        ensures { Gives (event_outcome None now (Open association) self.old) result self.new }
+        ensures { IsOutcome (event_outcome None now (Open association) self.old) result self.new }
     {
         let place = match place_of(association) {
             Some(place) => place,
@@ -126,7 +128,7 @@ impl Device {
 
     // Closes an association, which ends its selection.
     fn drop_connection(&mut self, association: u16, place: usize)
-        requires { place_of association ≡ Some place }
+        requires { spec.place_of association ≡ Some place }
         ensures { self.new ≡ closed association self.old }
     {
         self.connections.put(place, None);
@@ -135,7 +137,7 @@ impl Device {
 
     // A client has closed its connection.
     fn close(&mut self, now: u64, association: u16) -> Result<Step, StepFault>
-        ensures { Gives (event_outcome None now (Close association) self.old) result self.new }
+        ensures { IsOutcome (event_outcome None now (Close association) self.old) result self.new }
     {
         let place = match place_of(association) {
             Some(place) => place,
@@ -151,7 +153,7 @@ impl Device {
 
     // Puts the connection of an association back, or closes the association.
     fn finish(&mut self, association: u16, place: usize, connection: Connection, why: Option<Why>)
-        requires here { place_of association ≡ Some place }
+        requires here { spec.place_of association ≡ Some place }
         requires going { why ≡ None → IsGoing connection.talk.stream.left }
         ensures { self.new ≡ recv_after association connection.talk self.old why }
     {
@@ -170,7 +172,7 @@ impl Device {
         octets: &[u8],
         ended: Option<Sent>,
     ) -> Step
-        requires here { place_of association ≡ Some place }
+        requires here { spec.place_of association ≡ Some place }
         requires open { IsSome (connection_at (Some place) self.old) }
         requires some { 0 < length octets.now }
         ensures { Hears now association octets.now ended self.old result self.new }
@@ -220,7 +222,7 @@ impl Device {
 
     // The switch at a place reports a position.
     fn contact(&mut self, now: u64, switch: usize, position: Dbpos) -> Result<Step, StepFault>
-        ensures { Gives (event_outcome None now (Contact switch position) self.old) result self.new }
+        ensures { IsOutcome (event_outcome None now (Contact switch position) self.old) result self.new }
     {
         let ended = self.state.contact(now, switch, position)?;
         Ok(self.quiet(ended))
@@ -228,7 +230,7 @@ impl Device {
 
     // The input at a place has a value.
     fn take_input(&mut self, now: u64, input: usize, value: bool) -> Result<Step, StepFault>
-        ensures { Gives (event_outcome None now (Input input value) self.old) result self.new }
+        ensures { IsOutcome (event_outcome None now (Input input value) self.old) result self.new }
     {
         let ended = self.state.input(now, input, value)?;
         Ok(self.quiet(ended))
@@ -242,7 +244,7 @@ impl Device {
         field: MeterField,
         value: i32,
     ) -> Result<Step, StepFault>
-        ensures { Gives (event_outcome None now (Measure meter field value) self.old) result self.new }
+        ensures { IsOutcome (event_outcome None now (Measure meter field value) self.old) result self.new }
     {
         let ended = self.state.measure(now, meter, field, value)?;
         Ok(self.quiet(ended))
@@ -250,7 +252,7 @@ impl Device {
 
     // The program runs once.
     fn scan(&mut self, now: u64) -> Result<Step, StepFault>
-        ensures gives { Gives (event_outcome None now Scan self.old) result self.new }
+        ensures gives { IsOutcome (event_outcome None now Scan self.old) result self.new }
         ensures halts { HaltsAt now Scan self.old }
     {
         let ended = self.state.advance(now);
@@ -300,19 +302,23 @@ impl Device {
         }
     }
 
-    /// Does one event, at a moment in milliseconds since 1970. A refused event changes nothing. Want of memory closes the association
-    /// whose octets came, and changes nothing else: the PDUs before it stand, and the one that it comes in does nothing.
+    /// Does one event, at a moment in milliseconds since 1970. A refused event changes nothing.
+    /// Want of memory closes the association whose octets came, and changes nothing else: the PDUs
+    /// before it stand, and the one that it comes in does nothing.
     ///
-    /// The first of these refuses: the moment is too large, 114; it is before the last event's, 110; the association's number is not 1
-    /// to 8, or it is not open, 111; it is open, 112; there is no such switch, input or meter, 113.
+    /// The first of these refuses: the moment is too large, 114; it is before the last event's,
+    /// 110; the association's number is not 1 to 8, or it is not open, 111; it is open, 112; there
+    /// is no such switch, input or meter, 113.
     pub fn step(&mut self, now: u64, event: Event<'_>) -> Result<Step, StepFault>
         // There is a choice with which the answer and the device are the outcome;
         ensures steps { Steps now event.entry self.old result self.new }
         // an event without octets has none, and takes no memory.
-        ensures sure { IsWithoutOctets event.entry → Gives (outcome None now event.entry self.old) result self.new }
-        // Each command is one that the interlocking releases, on a fresh scan, while no switch is operating, and comes with its reply.
+        ensures sure { IsWithoutOctets event.entry → IsOutcome (outcome None now event.entry self.old) result self.new }
+        // Each command is one that the interlocking releases, on a fresh scan, while no switch is
+        // operating, and comes with its reply.
         ensures commanded { IfOk result (AreCommanded now self.old) }
-        // There is one at most, on a device whose switches take some time, as load makes it; and that stays.
+        // There is one at most, on a device whose switches take some time, as load makes it; and
+        // that stays.
         ensures single { AreTimed self.old.controls.controls → IsSingle result }
         ensures timed { AreTimed self.old.controls.controls → AreTimed self.new.controls.controls }
         // What is seen of the event leads its controls on, with such a choice.
@@ -328,25 +334,29 @@ impl Device {
         self.do_event(now, event)
     }
 
-    /// Does a list of events, one after the other, and keeps each answer. Where there is no room for
-    /// the answers, no event is done.
+    /// Does a list of events, one after the other, and keeps each answer. Where there is no room
+    /// for the answers, no event is done.
     pub fn run(
         &mut self,
         events: &[(u64, Event<'_>)],
     ) -> Result<Vec<Result<Step, StepFault>>, AllocError>
-        // There are choices with which the answers and the device are the outcome, and each scan halts without a trap within the budget;
+        // There are choices with which the answers and the device are the outcome, and each scan
+        // halts without a trap within the budget;
         ensures ok { IfOk result (λ answers. Halting events.now self.old answers.items self.new) }
         ensures err { OnErr result (self.new ≡ self.old) }
-        // each command is one that the interlocking releases, on a fresh scan, while no switch is operating, and comes with its reply,
-        // whatever the choices;
+        // each command is one that the interlocking releases, on a fresh scan, while no switch is
+        // operating, and comes with its reply, whatever the choices;
         ensures commanded { (choices : List (Option ℕ)) → AllCommanded choices events.now self.old }
-        // there is one at most for each event, on a device whose switches take some time, as load makes it;
+        // there is one at most for each event, on a device whose switches take some time, as load
+        // makes it;
         ensures single { IfOk result (λ answers. AreTimed self.old.controls.controls → All IsSingle answers.items) }
         ensures timed { AreTimed self.old.controls.controls → AreTimed self.new.controls.controls }
-        // and on a device that runs a text the tree then holds what the text means, whatever the choices.
+        // and on a device that runs a text the tree then holds what the text means, whatever the
+        // choices.
         ensures means { (c : Checked) → Runs c self.old → (choices : List (Option ℕ)) → AllMean c choices events.now self.old }
         ensures runs { (c : Checked) → Runs c self.old → Runs c self.new }
-        // From no selection on each accepted operate of an SBO switch is backed by a select, whatever the choices.
+        // From no selection on each accepted operate of an SBO switch is backed by a select,
+        // whatever the choices.
         ensures backed { self.old.controls.selection ≡ None → (choices : List (Option ℕ)) → AreBacked self.old.controls.controls (entries_all choices events.now self.old) }
         // On a device as load made it the octets of the events and of the answers tell so.
         ensures told { IfOk result (λ answers. IsIdle self.old → AreBacked self.old.controls.controls (told_all (bay_of self.old) self.old.connections events.now answers.items)) }
@@ -369,7 +379,7 @@ impl Device {
 
     /// Whether the association with this number is open.
     pub fn is_open(&self, association: u16) -> bool
-        ensures { result ≡ is_some (connection_at (place_of association) self.now) }
+        ensures { result ≡ is_some (connection_at (spec.place_of association) self.now) }
     {
         match place_of(association) {
             Some(place) => self.connections.is_open(place),
@@ -435,7 +445,8 @@ impl Device {
         self.state.id(switch)
     }
 
-    /// Whether the switch at a place may be opened, and whether it may be closed (IEC 61850-7-4, CILO).
+    /// Whether the switch at a place may be opened, and whether it may be closed (IEC 61850-7-4,
+    /// CILO).
     pub fn ena(&self, switch: usize) -> Option<(bool, bool)>
         ensures { result ≡ enabled_of self.now switch }
     {

@@ -1,13 +1,14 @@
-// What will tell a client of the end of what it operates with enhanced security (IEC 61850-7-2, CommandTermination).
+// What will tell a client of the end of what it operates with enhanced security (IEC 61850-7-2,
+// CommandTermination).
 ghost use Rattle.std.specs.Prelude.{◌≡◌, None};
-ghost use Rattle.bay_device.specs.Device.{sent_to, reached, missed};
+ghost use Rattle.bay_device.specs.Device as spec;
 ghost use Rattle.bay_device.specs.Outcomes.{due_without};
 
 use crate::event::Sent;
 use bay_base::listing::Listing;
 
-/// The octets that tell the client of an association of the end of what is operating; each is left out where its PDU has more octets
-/// than are agreed.
+/// The octets that tell the client of an association of the end of what is operating; each is left
+/// out where its PDU has more octets than are agreed.
 #[derive(Debug, Drop)]
 pub struct Due {
     /// The number of the association that operates.
@@ -20,7 +21,7 @@ pub struct Due {
 
 /// What is sent to an association, if it is anything.
 fn sent_to(association: u16, octets: Option<Listing<u8>>) -> Option<Sent>
-    ensures { result ≡ sent_to association octets }
+    ensures { result ≡ spec.sent_to association octets }
 {
     match octets {
         Some(octets) => Some(Sent {
@@ -33,7 +34,7 @@ fn sent_to(association: u16, octets: Option<Listing<u8>>) -> Option<Sent>
 
 /// Tells that the switch has reached its position. Nothing is due then.
 pub fn reached(due: &mut Option<Due>) -> Option<Sent>
-    ensures sent { result ≡ reached due.old }
+    ensures sent { result ≡ spec.reached due.old }
     ensures none { due.new ≡ None }
 {
     match due.take() {
@@ -44,7 +45,7 @@ pub fn reached(due: &mut Option<Due>) -> Option<Sent>
 
 /// Tells that it has not reached it in time. Nothing is due then.
 pub fn missed(due: &mut Option<Due>) -> Option<Sent>
-    ensures sent { result ≡ missed due.old }
+    ensures sent { result ≡ spec.missed due.old }
     ensures none { due.new ≡ None }
 {
     match due.take() {

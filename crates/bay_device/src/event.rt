@@ -1,15 +1,18 @@
 // What happens to a device, and what is answered.
 ghost use Rattle.std.specs.Prelude.{◌≡◌, ◌<◌, IfSome};
-ghost use Rattle.bay_device.specs.Outcomes.{place_of};
+ghost use Rattle.bay_device.specs.Outcomes as spec;
 
 use bay_base::listing::Listing;
 use bay_config::bay::MeterField;
 use bay_services::answer::Command;
 use bay_tree::leaf::Dbpos;
 
-/// The last moment that an event may have, in milliseconds since 1970: the end of the last second that
-/// a time stamp of 32 bits of seconds can tell (IEC 61850-8-1, UtcTime).
-pub(crate) const LAST_MOMENT: u64 = 4_294_967_295_999;
+/// The last moment that an event may have, in milliseconds since 1970: the end of the last second
+/// that a time stamp of 32 bits of seconds can tell (IEC 61850-8-1, UtcTime).
+pub const LAST_MOMENT: u64 = 4_294_967_295_999;
+
+/// How many associations may be open at a time; their numbers are 1 to this.
+pub const ASSOCIATIONS: usize = 8;
 
 /// What happens to a device at a moment. Associations have the numbers 1 to 8.
 #[derive(Clone, Copy, Debug)]
@@ -49,7 +52,7 @@ pub enum Event<'a> {
 
 /// Where an association stands among the eight: none has another number than 1 to 8.
 pub fn place_of(association: u16) -> Option<usize>
-    ensures value { result ≡ place_of association }
+    ensures value { result ≡ spec.place_of association }
     ensures within { IfSome result (λ place. place < 8) }
 {
     if 0 < association && association < 9 {
@@ -72,9 +75,11 @@ pub struct Sent {
 pub enum Why {
     /// Its client has ended or released it.
     Ended,
-    /// Its octets are refused, by the fault of this number: 10 to 13 of the transport, 20 to 25 of the association.
+    /// Its octets are refused, by the fault of this number: 10 to 13 of the transport, 20 to 25 of
+    /// the association.
     Fault(u8),
-    /// There was not enough memory. What its client asked for in the PDU for which there was none was not done.
+    /// There was not enough memory. What its client asked for in the PDU for which there was none
+    /// was not done.
     Memory,
 }
 

@@ -16,7 +16,8 @@ use thiserror::Error;
 /// Why a bay and a program or an image are not loaded.
 #[derive(Clone, Copy, Debug, PartialEq, Eq, Error)]
 pub enum LoadFault {
-    /// The number of the fault, and for a fault of the program (60 to 79) its line, counted from 1; else 0.
+    /// The number of the fault, and for a fault of the program (60 to 79) its line, counted from 1;
+    /// else 0.
     #[error("fault {code} at line {line}")]
     Refused { code: u8, line: usize },
     /// There is not enough memory.
@@ -133,7 +134,8 @@ pub enum StepFault {
 }
 
 impl StepFault {
-    /// The fault's number: 114 moment too large, 110 time went back, 111 no such association, 112 already open, 113 no such point.
+    /// The fault's number: 114 moment too large, 110 time went back, 111 no such association, 112
+    /// already open, 113 no such point.
     pub fn code(self) -> u8
         ensures { result ≡ step_code_of self }
     {

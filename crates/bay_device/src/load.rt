@@ -205,18 +205,19 @@ fn load_texts(alloc: Global, bay: &str, logic: &str) -> Result<Device, LoadFault
     load_text(alloc, bay, logic)
 }
 
-/// The device of a bay file and a program, before its first event. A fault of the bay file (50 to 55) comes
-/// before one of the program's text (60 to 64), that before one of its checks (70 to 79), and that before 85, where the
-/// program's image would be too long.
+/// The device of a bay file and a program, before its first event. A fault of the bay file (50 to
+/// 55) comes before one of the program's text (60 to 64), that before one of its checks (70 to 79),
+/// and that before 85, where the program's image would be too long.
 pub fn load(alloc: Global, bay: &str, logic: &str) -> Result<Device, LoadFault>
     ensures device { Gives OutOfMemory (λ device. device) result (of_bay (bay_of bay.now) (program_of logic.now)) }
-    // Accepted is exactly what is right: a bay file, and a text that reads as a program which is right with its points; but for
-    // memory, and for an image that would be too long.
+    // Accepted is exactly what is right: a bay file, and a text that reads as a program which is
+    // right with its points; but for memory, and for an image that would be too long.
     ensures accepted { IfOk result (λ _. IsRight bay.now logic.now) }
     ensures refused { IfErr result (λ e. e ≢ OutOfMemory → IsRight bay.now logic.now → e ≡ Refused 85 0) }
     // The device runs the program that the text comes to.
     ensures runs { IfOk result (λ device. (c : Checked) × (checked_in (bay_of bay.now) (program_of logic.now) ≡ Ok c) × Runs c device) }
-    // Nothing is selected, and no association is open; each switch that can be operated takes some time.
+    // Nothing is selected, and no association is open; each switch that can be operated takes some
+    // time.
     ensures idle { IfOk result IsIdle }
     ensures timed { IfOk result (λ device. AreTimed device.controls.controls) }
 {
@@ -244,12 +245,14 @@ fn load_octets(alloc: Global, bay: Bay, image: &[u8]) -> Result<Device, LoadFaul
     load_decoded(alloc, bay, image)
 }
 
-/// The device of a bay file and the octets of an image, before its first event. A fault of the bay file (50 to 55) comes before
-/// one of the octets (80 to 83), and that before one of the image (90 to 100).
+/// The device of a bay file and the octets of an image, before its first event. A fault of the bay
+/// file (50 to 55) comes before one of the octets (80 to 83), and that before one of the image (90
+/// to 100).
 pub fn load_image(alloc: Global, bay: &str, image: &[u8]) -> Result<Device, LoadFault>
     ensures ok { IfOk result (λ device. Loads (bay_of bay.now) (decoded image.now) (Ok device)) }
     ensures refused { IfErr result (λ e. e ≢ OutOfMemory → Loads (bay_of bay.now) (decoded image.now) (Err e)) }
-    // Nothing is selected, and no association is open; each switch that can be operated takes some time.
+    // Nothing is selected, and no association is open; each switch that can be operated takes some
+    // time.
     ensures idle { IfOk result IsIdle }
     ensures timed { IfOk result (λ device. AreTimed device.controls.controls) }
 {

@@ -4,7 +4,8 @@ ghost use Rattle.bay_connection.specs.Talk.{Talk};
 ghost use Rattle.bay_tree.specs.Rows.{leaf_of};
 ghost use Rattle.bay_process.specs.Values.{is_truth};
 ghost use Rattle.bay_process.specs.Layout.{layout_of, status_in, switches_of, AreSwitchRows};
-ghost use Rattle.bay_device.specs.LookUps.{switch_place, input_place, meter_place, enabled_of};
+ghost use Rattle.bay_device.specs.LookUps.{switch_place, enabled_of};
+ghost use Rattle.bay_device.specs.LookUps as spec;
 ghost use Rattle.bay_device.specs.StateView.{state_view};
 
 use crate::state::DeviceState;
@@ -27,14 +28,14 @@ fn enabled_at(tree: &Tree, rows: &SwitchRows) -> Enabled
 impl DeviceState {
     /// The place of the input with this name, whatever the case of its letters.
     pub fn input_place(&self, name: &str) -> Option<usize>
-        ensures { (connections : List (Option Talk)) → result ≡ input_place (state_view connections self.now) name.now }
+        ensures { (connections : List (Option Talk)) → result ≡ spec.input_place (state_view connections self.now) name.now }
     {
         self.tables.inputs.place_of(self.inputs.as_slice(), name)
     }
 
     /// The place of the meter with this id, whatever the case of its letters.
     pub fn meter_place(&self, id: &str) -> Option<usize>
-        ensures { (connections : List (Option Talk)) → result ≡ meter_place (state_view connections self.now) id.now }
+        ensures { (connections : List (Option Talk)) → result ≡ spec.meter_place (state_view connections self.now) id.now }
     {
         self.tables.meters.place_of(self.meters.as_slice(), id)
     }

@@ -6,7 +6,8 @@ ghost use Rattle.bay_control.specs.declared.selection.Standing.{Standing};
 ghost use Rattle.bay_services.specs.Answers.{answered};
 ghost use Rattle.bay_services.specs.Controls.{AreShort, IsShort};
 ghost use Rattle.bay_device.specs.Device.{bay_of};
-ghost use Rattle.bay_device.specs.Hearing.{answered_with, due_if, due_of, later_due, said, sending_if, sent_on};
+ghost use Rattle.bay_device.specs.Hearing.{answered_with, later_due, said, sending_if, sent_on};
+ghost use Rattle.bay_device.specs.Hearing as spec;
 ghost use Rattle.bay_device.specs.HearingViews.{done_of, put_back};
 ghost use Rattle.bay_device.specs.StateView.{state_view};
 
@@ -71,7 +72,7 @@ fn framed_report(
 fn due_of(connection: &Connection, association: u16, ending: &Ending) -> Result<Due, AllocError>
     requires open { IsSome (link_of connection.now.talk.phase) }
     requires short { AreShort ending.now }
-    ensures { IfOk result (λ due. due ≡ due_of association (terms_of connection.now.talk) ending.now) }
+    ensures { IfOk result (λ due. due ≡ spec.due_of association (terms_of connection.now.talk) ending.now) }
 {
     let positive = framed_report(connection, &ending.positive)?;
     let negative = framed_report(connection, &ending.negative)?;
@@ -90,7 +91,7 @@ fn due_if(
 ) -> Result<Option<Due>, AllocError>
     requires open { IsSome (link_of connection.now.talk.phase) }
     requires short { IsShort ending.now }
-    ensures { IfOk result (λ due. due ≡ due_if association (terms_of connection.now.talk) ending.now) }
+    ensures { IfOk result (λ due. due ≡ spec.due_if association (terms_of connection.now.talk) ending.now) }
 {
     match ending {
         Some(ending) => {
@@ -132,8 +133,8 @@ fn send_all(
     Ok(())
 }
 
-/// Makes of an answer what is to be sent and done, and gives what will tell of the end of what it operates. Where there is no memory,
-/// more may be made than before.
+/// Makes of an answer what is to be sent and done, and gives what will tell of the end of what it
+/// operates. Where there is no memory, more may be made than before.
 fn reply(
     connection: &Connection,
     association: u16,
@@ -143,7 +144,7 @@ fn reply(
     requires open { IsSome (link_of connection.now.talk.phase) }
     requires short { All (λ pdu. length pdu ≤ 65_000) answer.now.sent.items }
     requires ending { IsShort answer.now.ending }
-    ensures due { IfOk result (λ due. due ≡ due_if association (terms_of connection.now.talk) answer.now.ending) }
+    ensures due { IfOk result (λ due. due ≡ spec.due_if association (terms_of connection.now.talk) answer.now.ending) }
     ensures sent { OnOk result (output.new.sent.items ≡ output.old.sent.items ++ map (λ pdu. sent_on association (sending (terms_of connection.now.talk) pdu)) answer.now.sent.items) }
     ensures commands { OnOk result (output.new.commands.items ≡ output.old.commands.items ++ answer.now.commands.items) }
     ensures sent_before { take (length output.old.sent.items) output.new.sent.items ≡ output.old.sent.items }
@@ -162,8 +163,8 @@ fn reply(
     Ok(due)
 }
 
-/// Answers a PDU and does what it asks for; where there is no memory, the selection and the execution may be changed, and more be
-/// made than before.
+/// Answers a PDU and does what it asks for; where there is no memory, the selection and the
+/// execution may be changed, and more be made than before.
 fn answer(
     alloc: Global,
     state: &mut DeviceState,
@@ -177,7 +178,9 @@ fn answer(
     ensures ok { OnOk result ((connections : List (Option Talk)) → done_of (state_view connections state.new) output.new
         ≡ answered_with client.association (terms_of connection.now.talk) (answered client connection.now.pdu (bay_of (state_view connections state.old)))
         (done_of (state_view connections state.old) output.old)) }
-    ensures back { OnErr result ((connections : List (Option Talk)) (standing : Standing) → put_back standing (state_view connections state.new) ≡ put_back standing (state_view connections state.old)) }
+    ensures back { OnErr result ((connections : List (Option Talk)) (standing : Standing)
+        → put_back standing (state_view connections state.new)
+        ≡ put_back standing (state_view connections state.old)) }
     ensures sent { take (length output.old.sent.items) output.new.sent.items ≡ output.old.sent.items }
     ensures commands { take (length output.old.commands.items) output.new.commands.items ≡ output.old.commands.items }
 {
@@ -187,7 +190,8 @@ fn answer(
     Ok(())
 }
 
-/// Answers a PDU of an association and does what it asks for. Where there is no memory it changes nothing.
+/// Answers a PDU of an association and does what it asks for. Where there is no memory it changes
+/// nothing.
 pub fn message(
     alloc: Global,
     now: u64,

@@ -49,10 +49,19 @@ fn hear(
     output: &mut Output,
 ) -> Result<(), Why>
     requires { IsOpenFor heard connection.now.talk.phase }
-    ensures ok { OnOk result ((connections : List (Option Talk)) (later : Done → HeardSo) → on_heard_if now association (indication_of heard connection.now) (done_of (state_view connections state.old) output.old) later ≡ later (done_of (state_view connections state.new) output.new)) }
+    ensures ok { OnOk result ((connections : List (Option Talk)) (later : Done → HeardSo)
+        → on_heard_if now association (indication_of heard connection.now)
+        (done_of (state_view connections state.old) output.old) later
+        ≡ later (done_of (state_view connections state.new) output.new)) }
     ensures goes { OnOk result (IsContinuedIf (indication_of heard connection.now)) }
-    ensures memory { IfErr result (λ why. why ≡ Memory → (connections : List (Option Talk)) → done_of (state_view connections state.new) output.new ≡ done_of (state_view connections state.old) output.old) }
-    ensures stops { IfErr result (λ why. why ≢ Memory → (connections : List (Option Talk)) (later : Done → HeardSo) → on_heard_if now association (indication_of heard connection.now) (done_of (state_view connections state.old) output.old) later ≡ record { done = done_of (state_view connections state.new) output.new; why = Some why }) }
+    ensures memory { IfErr result (λ why. why ≡ Memory → (connections : List (Option Talk))
+        → done_of (state_view connections state.new) output.new
+        ≡ done_of (state_view connections state.old) output.old) }
+    ensures stops { IfErr result (λ why. why ≢ Memory
+        → (connections : List (Option Talk)) (later : Done → HeardSo)
+        → on_heard_if now association (indication_of heard connection.now)
+        (done_of (state_view connections state.old) output.old) later
+        ≡ record { done = done_of (state_view connections state.new) output.new; why = Some why }) }
 {
     match heard {
         Heard::Nothing => Ok(()),
@@ -73,7 +82,8 @@ fn hear(
     }
 }
 
-/// Takes octets up to the end of what they come to first and does it, or takes all of them, and says how many.
+/// Takes octets up to the end of what they come to first and does it, or takes all of them, and
+/// says how many.
 fn turn(
     alloc: Global,
     now: u64,
@@ -89,8 +99,14 @@ fn turn(
     ensures moves { IfOk result (λ used. 0 < used) }
     ensures left { IfOk result (λ used. connection.new.talk ≡ left_by connection.old.talk (take used rest.now)) }
     ensures going { OnOk result (IsGoing connection.new.talk.stream.left) }
-    ensures ok { IfOk result (λ used. (connections : List (Option Talk)) → Moves now association connection.old.talk rest.now (done_of (state_view connections state.old) output.old) connection.new.talk (drop used rest.now) (done_of (state_view connections state.new) output.new)) }
-    ensures err { IfErr result (λ why. (connections : List (Option Talk)) → ComesTo now association connection.old.talk rest.now (done_of (state_view connections state.old) output.old) (Some why) (done_of (state_view connections state.new) output.new)) }
+    ensures ok { IfOk result (λ used. (connections : List (Option Talk))
+        → Moves now association connection.old.talk rest.now
+        (done_of (state_view connections state.old) output.old) connection.new.talk
+        (drop used rest.now) (done_of (state_view connections state.new) output.new)) }
+    ensures err { IfErr result (λ why. (connections : List (Option Talk))
+        → ComesTo now association connection.old.talk rest.now
+        (done_of (state_view connections state.old) output.old) (Some why)
+        (done_of (state_view connections state.new) output.new)) }
 {
     let fed = connection.feed(rest)?;
     hear(
@@ -119,8 +135,14 @@ pub fn drain(
     requires some { 0 < length octets.now }
     ensures left { OnOk result (connection.new.talk ≡ left_by connection.old.talk octets.now) }
     ensures going { OnOk result (IsGoing connection.new.talk.stream.left) }
-    ensures ok { OnOk result ((connections : List (Option Talk)) → ComesTo now association connection.old.talk octets.now (done_of (state_view connections state.old) output.old) None (done_of (state_view connections state.new) output.new)) }
-    ensures err { IfErr result (λ why. (connections : List (Option Talk)) → ComesTo now association connection.old.talk octets.now (done_of (state_view connections state.old) output.old) (Some why) (done_of (state_view connections state.new) output.new)) }
+    ensures ok { OnOk result ((connections : List (Option Talk))
+        → ComesTo now association connection.old.talk octets.now
+        (done_of (state_view connections state.old) output.old) None
+        (done_of (state_view connections state.new) output.new)) }
+    ensures err { IfErr result (λ why. (connections : List (Option Talk))
+        → ComesTo now association connection.old.talk octets.now
+        (done_of (state_view connections state.old) output.old) (Some why)
+        (done_of (state_view connections state.new) output.new)) }
 {
     let mut at = 0;
     while at < octets.len() {

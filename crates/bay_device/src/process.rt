@@ -1,4 +1,5 @@
-// What contacts, measures and scans do to a bay that clients see: its rows go on showing which switch is selected.
+// What contacts, measures and scans do to a bay that clients see: its rows go on showing which
+// switch is selected.
 ghost use Rattle.std.specs.Prelude.{◌≡◌, ◌<◌, Some, length, not, slice_get};
 ghost use Rattle.bay_control.specs.Decisions.{contacted, is_done};
 ghost use Rattle.bay_nodes.specs.Names.{meter_names, switch_names};
@@ -19,11 +20,18 @@ use bay_services::bay::ServedBay;
 use bay_tree::leaf::Dbpos;
 use il_scan::points::Outputs;
 
-/// Takes the position of the switch at a place, and answers whether that changed its value or its quality.
+/// Takes the position of the switch at a place, and answers whether that changed its value or its
+/// quality.
 pub fn contact(bay: &mut ServedBay, now: u64, switch: usize, position: Dbpos) -> bool
     requires { switch < length bay.old.switches }
-    ensures changed { (s : Switch) → slice_get (switches_of bay.old.switches) switch ≡ Some s → result ≡ not (tells (switch_names (switches_of bay.old.switches) switch s).position position bay.old.tree) }
-    ensures after { (s : Switch) → slice_get (switches_of bay.old.switches) switch ≡ Some s → bay_view bay.new ≡ record (bay_view bay.old) { rows = rows_after_contact (switch_names (switches_of bay.old.switches) switch s) position now bay.old.tree } }
+    ensures changed { (s : Switch) → slice_get (switches_of bay.old.switches) switch ≡ Some s
+        → result ≡ not (tells (switch_names (switches_of bay.old.switches) switch s).position
+        position bay.old.tree) }
+    ensures after { (s : Switch) → slice_get (switches_of bay.old.switches) switch ≡ Some s
+        → bay_view bay.new ≡ record (bay_view bay.old) {
+          rows = rows_after_contact
+              (switch_names (switches_of bay.old.switches) switch s) position now bay.old.tree;
+        } }
     ensures switches { bay.new.switches ≡ bay.old.switches }
     ensures layout { layout_of bay.new.tree ≡ layout_of bay.old.tree }
 {
@@ -31,7 +39,8 @@ pub fn contact(bay: &mut ServedBay, now: u64, switch: usize, position: Dbpos) ->
     take_position(&mut bay.tree, &rows, position, now)
 }
 
-/// Tells the controls of the position of the switch at a place, and answers whether that ends its execution.
+/// Tells the controls of the position of the switch at a place, and answers whether that ends its
+/// execution.
 pub fn reach(bay: &mut ServedBay, switch: usize, position: Dbpos) -> bool
     ensures done { result ≡ is_done switch position bay.old.controls.execution }
     ensures after { bay_view bay.new ≡ record (bay_view bay.old) { controls = contacted switch position bay.old.controls } }
@@ -41,7 +50,8 @@ pub fn reach(bay: &mut ServedBay, switch: usize, position: Dbpos) -> bool
     bay.controls.contact(switch, position)
 }
 
-/// Takes a measured value of the meter at a place, and answers whether that changed it or its quality.
+/// Takes a measured value of the meter at a place, and answers whether that changed it or its
+/// quality.
 pub fn measure(
     bay: &mut ServedBay,
     now: u64,

@@ -16,8 +16,8 @@ use bay_process::values::{ToldValues, Truths};
 use bay_services::bay::ServedBay;
 use il_scan::machine::Machine;
 
-/// A device, as load makes it and steps change it. No part of it hands out an allocator or can grow, so a
-/// step takes no memory.
+/// A device, as load makes it and steps change it. No part of it hands out an allocator or can
+/// grow, so a step takes no memory.
 #[derive(Drop)]
 pub struct DeviceState {
     /// The bay as its clients see it.
@@ -33,7 +33,8 @@ pub struct DeviceState {
     pub told: ToldValues,
     /// Where the ids of the switches, the names of the inputs and the ids of the meters stand.
     pub tables: NameTables,
-    /// What the points stand for that the program only reads, and those that it may write, in the order of its points.
+    /// What the points stand for that the program only reads, and those that it may write, in the
+    /// order of its points.
     pub reads: Listing<Source>,
     pub writes: Listing<Source>,
     pub machine: Machine,
@@ -41,7 +42,8 @@ pub struct DeviceState {
     pub moment: u64,
     /// The moment of the last scan.
     pub last_scan: Option<u64>,
-    /// Whether a value or a quality of a contact, an input or a measure has changed since the last scan.
+    /// Whether a value or a quality of a contact, an input or a measure has changed since the last
+    /// scan.
     pub is_stale: bool,
     /// What will tell a client of the end of what is operating.
     pub due: Option<Due>,

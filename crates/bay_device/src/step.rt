@@ -1,4 +1,5 @@
-// What an event of the process does to a device's state: a contact, an input, a measure, a scan, and time.
+// What an event of the process does to a device's state: a contact, an input, a measure, a scan,
+// and time.
 ghost use Rattle.std.specs.Prelude.{◌≡◌, ◌<◌, List, Option, Some, None, length, map, slice_get};
 ghost use Rattle.il_scan.specs.Scans.{Scans, outputs_of, read_only, type_of_point};
 ghost use Rattle.bay_connection.specs.Talk.{Talk};
@@ -6,9 +7,11 @@ ghost use Rattle.bay_nodes.specs.declared.switch.Switch.{Switch};
 ghost use Rattle.bay_process.specs.Layout.{AreKinded, AreMeterKinded, layout_of, switches_of};
 ghost use Rattle.bay_process.specs.Scans.{bound_value};
 ghost use Rattle.bay_process.specs.Sources.{type_of_source};
-ghost use Rattle.bay_device.specs.Device.{advanced, contact_taken, ended_at, is_fresh, ran_at, reached_at, scanned};
+ghost use Rattle.bay_device.specs.Device.{advanced, contact_taken, ended_at, ran_at, reached_at, scanned};
+ghost use Rattle.bay_device.specs.Device as spec;
 ghost use Rattle.bay_device.specs.Meaning.{Halts};
-ghost use Rattle.bay_device.specs.Outcomes.{event_outcome, or_else, without_owner};
+ghost use Rattle.bay_device.specs.Outcomes.{event_outcome, without_owner};
+ghost use Rattle.bay_device.specs.Outcomes as spec_outcomes;
 ghost use Rattle.bay_device.specs.StateView.{state_view};
 ghost use Rattle.bay_device.specs.Steps.{IsQuiet};
 ghost use Rattle.bay_device.specs.declared.event.Event.TheVariants.{Contact, Input, Measure};
@@ -28,7 +31,7 @@ use il_scan::machine::Machine;
 
 /// The first of two.
 fn or_else(first: Option<Sent>, later: Option<Sent>) -> Option<Sent>
-    ensures { result ≡ or_else first later }
+    ensures { result ≡ spec_outcomes.or_else first later }
 {
     match first {
         Some(sent) => Some(sent),
@@ -36,7 +39,8 @@ fn or_else(first: Option<Sent>, later: Option<Sent>) -> Option<Sent>
     }
 }
 
-/// Runs the program once on the positions, the inputs and the measures as they stand, and counts its steps.
+/// Runs the program once on the positions, the inputs and the measures as they stand, and counts
+/// its steps.
 fn run_program(
     machine: &mut Machine,
     bay: &ServedBay,
@@ -61,9 +65,10 @@ fn run_program(
 }
 
 impl DeviceState {
-    /// Whether the last scan is fresh at a moment: nothing that it read has changed since, and it is not too old.
+    /// Whether the last scan is fresh at a moment: nothing that it read has changed since, and it
+    /// is not too old.
     pub fn is_fresh(&self, now: u64) -> bool
-        ensures { (connections : List (Option Talk)) → result ≡ is_fresh now (state_view connections self.now) }
+        ensures { (connections : List (Option Talk)) → result ≡ spec.is_fresh now (state_view connections self.now) }
     {
         let is_recent = match self.last_scan {
             Some(scan) => now.saturating_sub(scan) <= u64::from(self.scan_max_age_ms),
@@ -91,7 +96,10 @@ impl DeviceState {
     fn take_contact(&mut self, now: u64, switch: usize, position: Dbpos) -> Option<Sent>
         requires { switch < length self.old.bay.switches }
         ensures sent { (connections : List (Option Talk)) → result ≡ reached_at switch position (state_view connections self.old) }
-        ensures after { (connections : List (Option Talk)) (s : Switch) → slice_get (switches_of self.old.bay.switches) switch ≡ Some s → state_view connections self.new ≡ contact_taken now switch s position (state_view connections self.old) }
+        ensures after { (connections : List (Option Talk)) (s : Switch)
+            → slice_get (switches_of self.old.bay.switches) switch ≡ Some s
+            → state_view connections self.new
+            ≡ contact_taken now switch s position (state_view connections self.old) }
     {
         let changed = process::contact(&mut self.bay, now, switch, position);
         self.is_stale |= changed;
@@ -154,7 +162,8 @@ impl DeviceState {
         Ok(over)
     }
 
-    /// Runs the program once on the positions, the inputs and the measures as they stand, and counts its steps.
+    /// Runs the program once on the positions, the inputs and the measures as they stand, and
+    /// counts its steps.
     pub fn scan(&mut self, now: u64) -> u32
         ensures after { (connections : List (Option Talk)) → state_view connections self.new ≡ scanned now (state_view connections self.old) }
         ensures steps { (connections : List (Option Talk)) → result ≡ (ran_at now (state_view connections self.old)).steps }

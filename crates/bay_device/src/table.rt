@@ -1,7 +1,8 @@
 // Where names stand, found without going over all of them.
 ghost use Rattle.std.specs.Prelude.{◌≡◌, ◌<◌, length, map, position};
 ghost use Rattle.bay_base.specs.Names.{same_name};
-ghost use Rattle.bay_device.specs.Table.{IsTable, AreTables, key_of, noted};
+ghost use Rattle.bay_device.specs.Table.{IsTable, AreTables, noted};
+ghost use Rattle.bay_device.specs.Table as spec;
 
 use bay_base::names::same_name;
 use bay_base::text::Text;
@@ -48,7 +49,7 @@ impl Named for BoundMeter {
 
 /// The key of a name, which is the same whatever the case of its letters.
 fn key_of(name: &str) -> usize
-    ensures key { result ≡ key_of name.now }
+    ensures key { result ≡ spec.key_of name.now }
     ensures within { result < 64 }
 {
     let mut key = 0;
@@ -58,7 +59,8 @@ fn key_of(name: &str) -> usize
     key
 }
 
-/// Whether a name is this name, whatever the case of its letters. Mostly it is spelled alike, which is seen at once.
+/// Whether a name is this name, whatever the case of its letters. Mostly it is spelled alike, which
+/// is seen at once.
 fn is_named(own: &str, name: &str) -> bool
     ensures { result ≡ same_name own.now name.now }
 {
@@ -117,7 +119,8 @@ pub struct NameTables {
     pub meters: NameTable,
 }
 
-/// The tables of the ids of these switches, of these names of inputs, and of the ids of these meters.
+/// The tables of the ids of these switches, of these names of inputs, and of the ids of these
+/// meters.
 pub fn tables_of(switches: &[BoundSwitch], inputs: &[Text], meters: &[BoundMeter]) -> NameTables
     ensures { AreTables switches.now inputs.now meters.now result }
 {

@@ -9,8 +9,9 @@ use std::io::{Read, Write};
 
 /// Where octets are read from.
 ///
-/// Its meaning is `does old call new`: this call, with what it gave, may have led from the one state to the other. A source in memory gives its own;
-/// of another nothing is known, and it keeps the default. Who is proved for every source makes just the calls that it tells.
+/// Its meaning is `does old call new`: this call, with what it gave, may have led from the one
+/// state to the other. A source in memory gives its own; of another nothing is known, and it keeps
+/// the default. Who is proved for every source makes just the calls that it tells.
 pub trait Source {
     ghost remaining: { Self → Option (List ℕ) } = { λ _. None };
 

@@ -23,8 +23,8 @@ pub enum ReadFault {
     OutOfMemory,
 }
 
-/// All octets that the reader has left, if they are at most so many. It is read once more than that at most; a reader of
-/// which a read has failed is not read again.
+/// All octets that the reader has left, if they are at most so many. It is read once more than that
+/// at most; a reader of which a read has failed is not read again.
 pub fn read_all<R: Source>(
     alloc: Global,
     reader: &mut WatchedReader<R>,

@@ -22,7 +22,8 @@ const SHORT: usize = 4;
 #[error("a write failed")]
 pub struct WriteFault;
 
-/// Writes all of the text, or a front of it. A writer of which a write has failed is not written to again.
+/// Writes all of the text, or a front of it. A writer of which a write has failed is not written to
+/// again.
 fn write_out<W: Sink>(writer: &mut WatchedWriter<W>, text: &[u8]) -> Result<(), WriteFault>
     ensures ok { OnOk result (Appends (W.contents writer.old.inner) (W.contents writer.new.inner) text.now) }
     ensures err { OnErr result (SendsPart (W.contents writer.old.inner) (W.contents writer.new.inner) text.now) }
@@ -99,7 +100,8 @@ fn keep_short(pending: &mut ArrayVec<u8, ROOM>, text: &[u8]) -> bool
 #[derive(Drop)]
 pub struct Outbox {
     pending: ArrayVec<u8, ROOM>,
-    // Where a number's digits are made; it stays, so that it is emptied once and not for each number.
+    // Where a number's digits are made; it stays, so that it is emptied once and not for each
+    // number.
     digits: Buffer,
 }
 
@@ -114,6 +116,7 @@ impl Model for Outbox {
 }
 
 impl Outbox {
+    /// A buffer with nothing in it.
     pub fn new() -> Self
         ensures { result ≡ [] }
     {
@@ -131,7 +134,8 @@ impl Outbox {
         self.pending.try_extend_from_slice(text).is_ok()
     }
 
-    /// Adds a number's decimal digits where the buffer has room for them, and answers whether it had.
+    /// Adds a number's decimal digits where the buffer has room for them, and answers whether it
+    /// had.
     #[inline(always)]
     fn keep_number(&mut self, number: u64) -> bool
         ensures { self.new ≡ (if result then self.old ++ decimal number else self.old) }
@@ -150,7 +154,8 @@ impl Outbox {
         Ok(())
     }
 
-    /// Adds the text to the buffer that was just emptied, or writes out a text that is longer than the buffer.
+    /// Adds the text to the buffer that was just emptied, or writes out a text that is longer than
+    /// the buffer.
     fn put_first<W: Sink>(
         &mut self,
         writer: &mut WatchedWriter<W>,
@@ -195,7 +200,8 @@ impl Outbox {
         self.put_after_flush(writer, text)
     }
 
-    /// Adds a text that is mostly short, like the id of a switch: of up to four octets faster than `put`.
+    /// Adds a text that is mostly short, like the id of a switch: of up to four octets faster than
+    /// `put`.
     pub fn put_short<W: Sink>(
         &mut self,
         writer: &mut WatchedWriter<W>,

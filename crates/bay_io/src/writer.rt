@@ -3,14 +3,14 @@ ghost use Rattle.std.specs.Prelude.{◌≡◌, ◌||◌, true, false, is_ok, is_
 ghost use Rattle.std.specs.Io.{WritesAtMost};
 ghost use Rattle.std.specs.Io.KnownBytes.{WriteAppends, Keeps};
 ghost use Rattle.bay_io.specs.Calls.{writes, flushes};
-ghost use Rattle.bay_io.specs.Watched.{write_fails};
+ghost use Rattle.bay_io.specs.Watched as spec;
 
 use crate::calls::Sink;
 use std::io;
 use std::marker::Model;
 
-/// A writer that knows whether a write or a flush has failed, or a write took nothing of what it was given,
-/// and whether it was flushed since its last write.
+/// A writer that knows whether a write or a flush has failed, or a write took nothing of what it
+/// was given, and whether it was flushed since its last write.
 #[derive(Drop)]
 pub struct WatchedWriter<W> {
     inner: W,
@@ -55,7 +55,7 @@ impl<W> WatchedWriter<W> {
 
 /// Whether a write of a text failed, or took nothing of it.
 fn write_fails(text: &[u8], outcome: &io::Result<usize>) -> bool
-    ensures { result ≡ write_fails text.now outcome.now }
+    ensures { result ≡ spec.write_fails text.now outcome.now }
 {
     match outcome {
         Ok(taken) => *taken == 0 && !text.is_empty(),
@@ -70,7 +70,7 @@ impl<W: Sink> WatchedWriter<W> {
         ensures bytes { WriteAppends (W.contents self.old.inner) (W.contents self.new.inner) result octets.now }
         // The sink was offered these octets once, and took so many.
         ensures call { W.does self.old.inner (writes octets.now result) self.new.inner }
-        ensures failed { self.new.has_failed ≡ (self.old.has_failed || write_fails octets.now result) }
+        ensures failed { self.new.has_failed ≡ (self.old.has_failed || spec.write_fails octets.now result) }
         ensures flushed { self.new.is_flushed ≡ false }
     {
         let outcome = self.inner.write_octets(octets);

@@ -125,7 +125,8 @@ next_part rows handle part next below is after =
 
 -- ---- what was written of them
 
--- What was written since a front, and the text of the parts that are left, are the text of all parts.
+-- What was written since a front, and the text of the parts that are left, are the text of all
+-- parts.
 pub record Written (rows : List Row) (handle : ℕ) (text : Nodes → List ℕ) (front writer : List ℕ) (next : Option ℕ) : Type 0 where
   pub is : writer ++ text (nodes_since rows (name_at rows handle) next) ≡ front ++ text (parts_at rows handle)
   pub grown : length front ≤ length writer

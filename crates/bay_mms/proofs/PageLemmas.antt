@@ -112,7 +112,8 @@ room_iff id taken names found most size name n f m =
 
 -- ---- the names that are listed
 
--- So many of the names from a row on are listed, and fit; the others are those from the next row on.
+-- So many of the names from a row on are listed, and fit; the others are those from the next row
+-- on.
 pub record Listed (rows : List Row) (first : Option ℕ) (id size : ℕ) (old writer : List ℕ) (count : ℕ) (next : Option ℕ) : Type 0 where
   pub is : writer ≡ old ++ names_text (take count (names_from rows first))
   pub rest : names_from rows next ≡ drop count (names_from rows first)

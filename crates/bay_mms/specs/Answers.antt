@@ -22,8 +22,9 @@ pub record TakesMemory (octets : List ℕ) : Type 0 where
   pub parts : SpellAll content (id ∷ service ∷ [])
   pub list : IsTrue (has_list service)
 
--- The request that the octets ask; or that they ask for what is not served, or for too many variables; or none of these, with the
--- invoke id at their front. Want of memory may stand in the place of any of it, where they take memory.
+-- The request that the octets ask; or that they ask for what is not served, or for too many
+-- variables; or none of these, with the invoke id at their front. Want of memory may stand in the
+-- place of any of it, where they take memory.
 abbrev pub IsAnswer : List ℕ → Result Request MmsFault → Type 0
 IsAnswer octets (Ok request) = Asks (message request) octets
 IsAnswer octets (Err (UnknownService id)) = AsksUnknown id octets

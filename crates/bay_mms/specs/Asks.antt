@@ -1,4 +1,5 @@
--- What octets ask: a relation between a request and octets (ISO 9506-2, with the profile of IEC 61850-8-1).
+-- What octets ask: a relation between a request and octets (ISO 9506-2, with the profile of IEC
+-- 61850-8-1).
 use Rattle.std.specs.Prelude.{ℕ, pos, ◌<◌, ◌^◌, List, [], ◌∷◌, Option, Some, None}
 use Rattle.bay_ber.specs.Content.{IsInteger}
 use Rattle.bay_ber.specs.Reading.{Begins}
@@ -8,8 +9,8 @@ use Rattle.bay_mms.specs.Requests.{Message, initiate, conclude, confirmed}
 use Rattle.bay_mms.specs.SpelledInitiate.{IsInitiate}
 use Rattle.bay_mms.specs.SpelledServices.{IsService, IsUnserved, IsOverfull}
 
--- The octets are one value under A0, whose content is an invoke id of 32 bits and a service, and nothing else (ISO 9506-2,
--- confirmed-RequestPDU).
+-- The octets are one value under A0, whose content is an invoke id of 32 bits and a service, and
+-- nothing else (ISO 9506-2, confirmed-RequestPDU).
 pub record IsConfirmed (octets : List ℕ) (id : ℕ) (service : Part) : Type 0 where
   pub content : List ℕ
   pub number : List ℕ
@@ -32,7 +33,8 @@ AsksUnknown id octets = (service : Part) × IsConfirmed octets id service × IsU
 abbrev pub AsksMany : ℕ → List ℕ → Type 0
 AsksMany id octets = (service : Part) × IsConfirmed octets id service × IsOverfull service
 
--- A value under A0 stands at the front of the octets, and an invoke id of 32 bits at the front of its content.
+-- A value under A0 stands at the front of the octets, and an invoke id of 32 bits at the front of
+-- its content.
 pub record HasId (octets : List ℕ) (id : ℕ) : Type 0 where
   pub content : List ℕ
   pub number : List ℕ

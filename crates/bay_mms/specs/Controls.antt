@@ -1,5 +1,5 @@
--- What a control is asked for, and the data that this is (IEC 61850-7-2, Select, SelectWithValue, Operate and Cancel; IEC 61850-8-1,
--- their mapping to SBOw, Oper and Cancel).
+-- What a control is asked for, and the data that this is (IEC 61850-7-2, Select, SelectWithValue,
+-- Operate and Cancel; IEC 61850-8-1, their mapping to SBOw, Oper and Cancel).
 use Rattle.std.specs.Prelude.{ℕ, ℤ, pos, negsuc, ◌≡◌, ◌*◌, ◌/◌, ◌==◌, ◌&&◌, Bool, false, List, [], ◌∷◌, length, Option, Some, None, Result, Ok, Err, nat_lt, if◌then◌else◌}
 use Rattle.bay_ber.specs.Options.{◌>>=◌}
 use Rattle.bay_tree.specs.declared.leaf.Dbpos.{Dbpos}

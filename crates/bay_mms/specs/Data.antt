@@ -53,7 +53,8 @@ position_octet position.Off = 0x40
 position_octet position.On = 0x80
 position_octet position.Bad = 0xC0
 
--- the thirteen bits of a quality: the validity stands in the first two (IEC 61850-8-1, the mapping of Quality)
+-- the thirteen bits of a quality: the validity stands in the first two (IEC 61850-8-1, the mapping
+-- of Quality)
 abbrev pub quality_octet : Quality → ℕ
 quality_octet quality.Good = 0x00
 quality_octet quality.Invalid = 0x40

@@ -1,4 +1,5 @@
--- How requests are spelled (ISO 9506-2, with the profile of IEC 61850-8-1), by the values that octets are.
+-- How requests are spelled (ISO 9506-2, with the profile of IEC 61850-8-1), by the values that
+-- octets are.
 use Rattle.std.specs.Prelude.{ℕ, zero, suc, ℤ, pos, negsuc, ◌*◌, ◌/◌, ◌==◌, ◌&&◌, ◌||◌, Bool, true, false, not, Option, Some, None, Result, Ok, Err, List, [], ◌∷◌, length, map, nat_lt, if◌then◌else◌}
 use Rattle.bay_ber.specs.declared.fault.BerFault.{BerFault}
 use Rattle.bay_ber.specs.declared.tag.Class.TheVariants.{ContextSpecific}
@@ -45,7 +46,8 @@ name_as part =
 unfoldable pub name_in : List ℕ → Option Naming
 name_in octets = value_in octets >>= name_as
 
--- a variable: its name, and behind it the part of it that is asked for, whose content is not looked at
+-- a variable: its name, and behind it the part of it that is asked for, whose content is not looked
+-- at
 abbrev pub variable_of : List Part → Option Variable
 variable_of (name ∷ []) = do
   octets ← under (constructed 0) name
@@ -79,7 +81,8 @@ judged (variables vs) = if any_alternate vs then Err Unknown else (if nat_lt 32 
 
 -- ---- data
 
--- A listed kind with its content; a kind that is not listed is taken as it is. A moment that has not eight octets is none.
+-- A listed kind with its content; a kind that is not listed is taken as it is. A moment that has
+-- not eight octets is none.
 unfoldable pub utc_as : Part → Datum
 utc_as part = if length part.content == 8 then mms.utc part.content else mms.other part.tag part.content
 
@@ -306,7 +309,8 @@ abbrev pub front_of : Result Reading BerFault → Option Part
 front_of (Ok r) = Some (part_in r)
 front_of (Err e) = None
 
--- the invoke id, where a value of a confirmed request stands at the front, and an id at the front of its content
+-- the invoke id, where a value of a confirmed request stands at the front, and an id at the front
+-- of its content
 unfoldable pub id_in : List ℕ → Option ℕ
 id_in octets = front_of (tlv_at octets) >>= under (constructed 0) >>= λ content. front_of (tlv_at content) >>= id_as
 

@@ -51,7 +51,8 @@ pub record IsHeld (held : List ℕ) (count : ℕ) : Type 0 where
   pub short : count < 2 ^ 35
   pub whole : bit_octets held count ≡ held
 
--- Data that stand in their text as they are: integers of 64 bits, such bit strings, moments of eight octets, and no kind that is not listed.
+-- Data that stand in their text as they are: integers of 64 bits, such bit strings, moments of
+-- eight octets, and no kind that is not listed.
 abbrev mutual
   pub IsPlain : Datum → Type 0
   IsPlain (structure parts) = ArePlain parts

@@ -1,5 +1,5 @@
--- What stands below a row of the tree: a leaf's value, or the structure of the rows that are named by the row's name, `$` and
--- one word, in order.
+-- What stands below a row of the tree: a leaf's value, or the structure of the rows that are named
+-- by the row's name, `$` and one word, in order.
 use Rattle.std.specs.Prelude.{ℕ, ◌+◌, Option, Some, None, List, [], ◌∷◌, drop, if◌then◌else◌}
 use Rattle.bay_tree.specs.declared.row.Row.{Row}
 use Rattle.bay_tree.specs.declared.leaf.Leaf.{Leaf}
@@ -23,7 +23,8 @@ abbrev pub node_of : Option Leaf → Nodes → Node
 node_of (Some leaf) parts = value leaf
 node_of None parts = structure parts
 
--- The nodes of the rows in a list that are below a name, in order. A structure's rows stand behind it.
+-- The nodes of the rows in a list that are below a name, in order. A structure's rows stand behind
+-- it.
 abbrev pub nodes_in : List ℕ → List Row → Nodes
 nodes_in parent [] = no_nodes
 nodes_in parent (row ∷ later) =

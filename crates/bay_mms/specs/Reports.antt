@@ -1,5 +1,5 @@
--- The reports of controls (IEC 61850-8-1, LastApplError and CommandTermination): information reports (ISO 9506-2) with
--- variables, by their names, and their data.
+-- The reports of controls (IEC 61850-8-1, LastApplError and CommandTermination): information
+-- reports (ISO 9506-2) with variables, by their names, and their data.
 use Rattle.std.specs.Prelude.{ℕ, pos, List, [], ◌∷◌, ◌++◌, codes}
 use Rattle.bay_ber.specs.Writing.{element, truth_octets, integer_octets, bit_string_octets}
 use Rattle.bay_mms.specs.declared.control.Origin.{Origin}

@@ -26,7 +26,8 @@ abbrev pub names_text : List (List ℕ) → List ℕ
 names_text [] = []
 names_text (name ∷ names) = element visible_tag name ++ names_text names
 
--- the results of a read (ISO 9506-2, AccessResult), one behind another: data, a text in the place of a row's own, or the number of an error
+-- the results of a read (ISO 9506-2, AccessResult), one behind another: data, a text in the place
+-- of a row's own, or the number of an error
 abbrev pub text_result : List ℕ → List ℕ
 text_result text = element (context 10) text
 
@@ -117,8 +118,8 @@ limits_text a =
 abbrev pub parameters_text : ℕ → List ℕ
 parameters_text parameters = element (context 1) (bit_string_octets (parameters / 32 * 32 ∷ 0 ∷ []) 11)
 
--- of 85 services those that are offered: getNameList, identify, read, write, getVariableAccessAttributes, informationReport and
--- conclude (ISO 9506-2, ServiceSupportOptions)
+-- of 85 services those that are offered: getNameList, identify, read, write,
+-- getVariableAccessAttributes, informationReport and conclude (ISO 9506-2, ServiceSupportOptions)
 abbrev pub services_text : List ℕ
 services_text = element (context 2) (bit_string_octets (0x6E ∷ 0 ∷ 0 ∷ 0 ∷ 0 ∷ 0 ∷ 0 ∷ 0 ∷ 0 ∷ 0x01 ∷ 0x10 ∷ []) 85)
 

@@ -1,4 +1,5 @@
--- How data that are received are spelled (ISO 9506-2, Data), by the relation of bay_ber, and how deep they are.
+-- How data that are received are spelled (ISO 9506-2, Data), by the relation of bay_ber, and how
+-- deep they are.
 use Rattle.std.specs.Prelude.{ℕ, suc, ◌≡◌, ◌≤◌, ◌⊎◌, false, max, List, [], ◌∷◌, length}
 use Rattle.bay_ber.specs.declared.tag.Tag.{Tag}
 use Rattle.bay_ber.specs.Content.{IsInteger, IsBits, IsTruth}
@@ -33,7 +34,8 @@ abbrev mutual
   AreData (part ∷ parts) no_data = ⊥
   AreData (part ∷ parts) (datum first later) = IsDatum part first × AreData parts later
 
--- how deep data are: what is no structure is 1 deep, and a structure one deeper than its deepest part
+-- how deep data are: what is no structure is 1 deep, and a structure one deeper than its deepest
+-- part
 abbrev mutual
   pub depth_of : Datum → ℕ
   depth_of (structure parts) = suc (depth_in parts)

@@ -1,4 +1,5 @@
--- How the request that opens an association is spelled (ISO 9506-2, InitiateRequestPDU), by the relation of bay_ber.
+-- How the request that opens an association is spelled (ISO 9506-2, InitiateRequestPDU), by the
+-- relation of bay_ber.
 use Rattle.std.specs.Prelude.{ℕ, ℤ, pos, ◌≡◌, ◌*◌, ◌/◌, ◌<◌, ◌≤◌, List, [], ◌∷◌, ◌++◌, filter, Option, Some, None}
 use Rattle.bay_ber.specs.declared.tag.Tag.{Tag}
 use Rattle.bay_ber.specs.Content.{IsInteger, IsBits}
@@ -22,8 +23,8 @@ IsNumber (Some content) (Some z) = IsInteger content z
 abbrev pub IsPositive : List ℕ → ℤ → Type 0
 IsPositive content z = (n : ℕ) × (z ≡ pos n) × (0 < n) × IsInteger content z
 
--- The octets are details: among other fields a version, parameter conformance blocks of three bits or more, of which these are
--- the first three, and services, in this order.
+-- The octets are details: among other fields a version, parameter conformance blocks of three bits
+-- or more, of which these are the first three, and services, in this order.
 pub record IsDetail (octets : List ℕ) (parameters : ℕ) : Type 0 where
   pub fields : List Part
   pub version : List ℕ
@@ -43,8 +44,8 @@ pub record IsDetail (octets : List ℕ) (parameters : ℕ) : Type 0 where
   pub is : parameters ≡ first / 32 * 32
   pub are_services : IsBits services held served
 
--- The octets are an initiate: a size that may be left out, how many requests may be outstanding on either side, a nesting that may
--- be left out, and the details.
+-- The octets are an initiate: a size that may be left out, how many requests may be outstanding on
+-- either side, a nesting that may be left out, and the details.
 pub record IsInitiate (octets : List ℕ) (p : Proposal) : Type 0 where
   pub content : List ℕ
   pub size : Option (List ℕ)

@@ -1,18 +1,20 @@
--- How the names and the variables of requests are spelled (ISO 9506-2, ObjectName and VariableAccessSpecification), by the relation of
--- bay_ber: octets spell exactly these values.
+-- How the names and the variables of requests are spelled (ISO 9506-2, ObjectName and
+-- VariableAccessSpecification), by the relation of bay_ber: octets spell exactly these values.
 use Rattle.std.specs.Prelude.{ℕ, ◌≡◌, ◌<◌, ◌≤◌, Bool, true, false, List, [], ◌∷◌, length, map}
 use Rattle.std.specs.List.{list_any}
 use Rattle.bay_ber.specs.Values.{Part, value, SpellAll}
 use Rattle.bay_mms.specs.Tags.{context, constructed, sequence, visible_tag}
 use Rattle.bay_mms.specs.Requests.{Naming, vmd, domain, association, Variable, Access, variables, named_list}
 
--- The octets are a name: of the device's own, a domain and an item of it, or a name of the association.
+-- The octets are a name: of the device's own, a domain and an item of it, or a name of the
+-- association.
 abbrev pub IsName : List ℕ → Naming → Type 0
 IsName octets (vmd text) = SpellAll octets (value (context 0) text ∷ [])
 IsName octets (domain d item) = (content : List ℕ) × SpellAll octets (value (constructed 1) content ∷ []) × SpellAll content (value visible_tag d ∷ value visible_tag item ∷ [])
 IsName octets (association text) = SpellAll octets (value (context 2) text ∷ [])
 
--- what may follow a name: nothing, or the part of the variable that is asked for, whose content is not looked at
+-- what may follow a name: nothing, or the part of the variable that is asked for, whose content is
+-- not looked at
 abbrev pub IsPartial : List Part → Bool → Type 0
 IsPartial [] false = Unit {0}
 IsPartial [] true = ⊥

@@ -1,4 +1,5 @@
--- How the services that are asked for are spelled (ISO 9506-2, ConfirmedServiceRequest), by the relation of bay_ber.
+-- How the services that are asked for are spelled (ISO 9506-2, ConfirmedServiceRequest), by the
+-- relation of bay_ber.
 use Rattle.std.specs.Prelude.{ℕ, ℤ, ◌≡◌, ◌⊎◌, List, [], ◌∷◌, ◌++◌, length, Option}
 use Rattle.bay_ber.specs.declared.tag.Class.TheVariants.{ContextSpecific}
 use Rattle.bay_ber.specs.declared.tag.Tag.{Tag}
@@ -90,7 +91,8 @@ pub record IsUnlisted (tag : Tag) : Type 0 where
   pub not_write : tag.number ≡ 5 → ⊥
   pub not_attributes : tag.number ≡ 6 → ⊥
 
--- The value is a service that is not served: one that is not listed, or one that is, of a list by its name or of parts of variables.
+-- The value is a service that is not served: one that is not listed, or one that is, of a list by
+-- its name or of parts of variables.
 abbrev pub IsUnserved : Part → Type 0
 IsUnserved part =
     IsUnlisted part.tag

@@ -15,8 +15,9 @@ mutual
     no_components : Components
     component : List ℕ → TypeSpec → Components → Components
 
--- The canonical text. A simple type is its tag and its size, a number of bits or octets; a size below 0 is one that a value
--- may fall short of. A structure is the names and the types of its components.
+-- The canonical text. A simple type is its tag and its size, a number of bits or octets; a size
+-- below 0 is one that a value may fall short of. A structure is the names and the types of its
+-- components.
 abbrev mutual
   pub type_text : TypeSpec → List ℕ
   type_text (structure parts) = element (constructed 2) (element (constructed 1) (components_text parts))
@@ -27,7 +28,8 @@ abbrev mutual
   components_text no_components = []
   components_text (component name first later) = element sequence (element (context 0) name ++ element (constructed 1) (type_text first)) ++ components_text later
 
--- the type of a leaf: numbers by their bits, bit strings by theirs, octets and texts by the most that they may have
+-- the type of a leaf: numbers by their bits, bit strings by theirs, octets and texts by the most
+-- that they may have
 abbrev pub leaf_type : Leaf → TypeSpec
 leaf_type (leaf.Truth value) = plain 3
 leaf_type (leaf.Dbpos value) = sized 4 (pos 2)

@@ -4,7 +4,7 @@ ghost use Rattle.std.specs.List.{list_any};
 ghost use Rattle.bay_base.specs.Exact.{Gives};
 ghost use Rattle.bay_ber.specs.Values.{part_of, each_in};
 ghost use Rattle.bay_mms.specs.Spelled.{spelled};
-ghost use Rattle.bay_mms.specs.Grammar.{domain_name, name_as, name_in, variable_of, variable_as, access_as, judged};
+ghost use Rattle.bay_mms.specs.Grammar as spec;
 ghost use Rattle.bay_mms.specs.RequestViews.{naming, variable, accessed};
 
 use crate::fault::Refusal;
@@ -34,7 +34,7 @@ pub enum Access<'a> {
 
 // The name of an item in a domain.
 fn domain_name<'a>(parts: &[Value<'a>]) -> Option<Name<'a>>
-    ensures { option_map naming result ≡ domain_name (map part_of parts.now) }
+    ensures { option_map naming result ≡ spec.domain_name (map part_of parts.now) }
 {
     match parts {
         [domain, item] => {
@@ -49,7 +49,7 @@ fn domain_name<'a>(parts: &[Value<'a>]) -> Option<Name<'a>>
 // The name that a value is.
 #[tactic(auto, unfolding(crate::specs::Grammar::name_as))]
 fn name_as<'a>(value: &Value<'a>) -> Option<Name<'a>>
-    ensures { option_map naming result ≡ name_as (part_of value.now) }
+    ensures { option_map naming result ≡ spec.name_as (part_of value.now) }
 {
     if value.tag.is(Tag::context(0)) {
         Some(Name::Vmd(value.content))
@@ -66,7 +66,7 @@ fn name_as<'a>(value: &Value<'a>) -> Option<Name<'a>>
 /// The name that octets are.
 #[tactic(auto, unfolding(crate::specs::Grammar::name_in))]
 pub(crate) fn name_in(octets: &[u8]) -> Option<Name<'_>>
-    ensures { option_map naming result ≡ name_in octets.now }
+    ensures { option_map naming result ≡ spec.name_in octets.now }
 {
     let value = whole_value(octets)?;
     name_as(&value)
@@ -74,7 +74,7 @@ pub(crate) fn name_in(octets: &[u8]) -> Option<Name<'_>>
 
 // The variable of a name, and of what may follow it.
 fn variable_of<'a>(parts: &[Value<'a>]) -> Option<Variable<'a>>
-    ensures { option_map variable result ≡ variable_of (map part_of parts.now) }
+    ensures { option_map variable result ≡ spec.variable_of (map part_of parts.now) }
 {
     let (name, is_alternate) = match parts {
         [name] => (name, false),
@@ -85,14 +85,16 @@ fn variable_of<'a>(parts: &[Value<'a>]) -> Option<Variable<'a>>
     Some(Variable { name, is_alternate })
 }
 
+// The variable of a list that a value is.
 #[tactic(auto, unfolding(crate::specs::Grammar::variable_as))]
 fn variable_as<'a>(value: &Value<'a>) -> Option<Variable<'a>>
-    ensures { option_map variable result ≡ variable_as (part_of value.now) }
+    ensures { option_map variable result ≡ spec.variable_as (part_of value.now) }
 {
     let parts = few_values(value.under(Tag::sequence())?)?;
     variable_of(parts.as_slice())
 }
 
+// Keeps one variable more.
 fn push_variable<'a>(variables: &mut Vec<Variable<'a>>, one: Variable<'a>) -> Result<(), AllocError>
     ensures { OnOk result (map variable variables.new.items ≡ map variable variables.old.items ++ variable one.entry ∷ []) }
 {
@@ -102,7 +104,7 @@ fn push_variable<'a>(variables: &mut Vec<Variable<'a>>, one: Variable<'a>) -> Re
 
 // The variables that octets are, one after another.
 fn read_variables<'a>(alloc: Global, octets: &'a [u8]) -> Result<Vec<Variable<'a>>, Refusal>
-    ensures { Gives Refusal.OutOfMemory (λ v. map variable v.items) result (spelled (each_in variable_as octets.now)) }
+    ensures { Gives Refusal.OutOfMemory (λ v. map variable v.items) result (spelled (each_in spec.variable_as octets.now)) }
 {
     let mut variables = Vec::new(alloc);
     let mut values = Values::new(octets);
@@ -123,7 +125,7 @@ fn read_variables<'a>(alloc: Global, octets: &'a [u8]) -> Result<Vec<Variable<'a
 /// The variables that a value names.
 #[tactic(auto, unfolding(crate::specs::Grammar::access_as))]
 pub(crate) fn access_as<'a>(alloc: Global, value: &Value<'a>) -> Result<Access<'a>, Refusal>
-    ensures { Gives Refusal.OutOfMemory accessed result (access_as (part_of value.now)) }
+    ensures { Gives Refusal.OutOfMemory accessed result (spec.access_as (part_of value.now)) }
 {
     if value.tag.is(Tag::context_constructed(0)) {
         let variables = read_variables(alloc, value.content)?;
@@ -155,7 +157,7 @@ fn names_of<'a>(alloc: Global, variables: &[Variable<'a>]) -> Result<Vec<Name<'a
 /// The names that are asked for.
 #[tactic(auto, unfolding(crate::specs::Grammar::judged))]
 pub(crate) fn judged<'a>(alloc: Global, access: Access<'a>) -> Result<Vec<Name<'a>>, Refusal>
-    ensures { Gives Refusal.OutOfMemory (λ v. map naming v.items) result (judged (accessed access.entry)) }
+    ensures { Gives Refusal.OutOfMemory (λ v. map naming v.items) result (spec.judged (accessed access.entry)) }
 {
     let variables = match access {
         Access::Variables(variables) => variables,

@@ -1,5 +1,5 @@
-// Confirmed responses around a content whose length is known: the heads by their lengths, into room that is taken once, and behind
-// them the content, which is moved once.
+// Confirmed responses around a content whose length is known: the heads by their lengths, into room
+// that is taken once, and behind them the content, which is moved once.
 ghost use Rattle.std.specs.Prelude.{◌≡◌, ◌≤◌, ◌<◌, ◌^◌, ◌++◌, ◌+◌, pos, length, OnOk, IfOk, IfErr};
 ghost use Rattle.bay_base.specs.Exact.{Gives};
 ghost use Rattle.bay_ber.specs.Writing.{element, element_length, header, integer_octets};
@@ -96,7 +96,8 @@ fn put_flag(writer: &mut Writer, flag: Option<bool>) -> Result<(), AllocError>
     Ok(())
 }
 
-/// The response of the service of this number whose content is a list under a tag, and a truth value behind it, where there is one.
+/// The response of the service of this number whose content is a list under a tag, and a truth
+/// value behind it, where there is one.
 pub(crate) fn write_list(
     alloc: Global,
     id: u32,

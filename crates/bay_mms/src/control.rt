@@ -1,4 +1,5 @@
-// Controls: what a client asks of them, out of the data that it writes (IEC 61850-8-1, SBOw, Oper and Cancel).
+// Controls: what a client asks of them, out of the data that it writes (IEC 61850-8-1, SBOw, Oper
+// and Cancel).
 ghost use Rattle.std.specs.Prelude.{◌≡◌, option_map, Some, None, if◌then◌else◌};
 ghost use Rattle.bay_mms.specs.Views.{datum_of};
 ghost use Rattle.bay_mms.specs.Controls.{is_in_range, operate_in, cancel_in};
@@ -68,9 +69,10 @@ fn in_range<'a>(shape: &Shape<'a>) -> Option<Cancel<'a>>
     })
 }
 
-/// The operate, or the enhanced select, that data are. WrongShape where they are of another shape: no six parts, a part of
-/// another kind, a T that has not eight octets, a Check that has not two bits. Then OutOfRange, where ctlNum is outside 0 to 255,
-/// orCat outside -128 to 127, or orIdent longer than 64 octets.
+/// The operate, or the enhanced select, that data are. WrongShape where they are of another shape:
+/// no six parts, a part of another kind, a T that has not eight octets, a Check that has not two
+/// bits. Then OutOfRange, where ctlNum is outside 0 to 255, orCat outside -128 to 127, or orIdent
+/// longer than 64 octets.
 pub fn operate_of<'a>(given: &Data<'a>) -> Result<Operate<'a>, ControlFault>
     ensures { seen operating result ≡ operate_in (datum_of given.now) }
 {
@@ -86,7 +88,8 @@ pub fn operate_of<'a>(given: &Data<'a>) -> Result<Operate<'a>, ControlFault>
     })
 }
 
-/// The cancel that data are; with the faults of `operate_of`, over five parts, since a cancel has no Check.
+/// The cancel that data are; with the faults of `operate_of`, over five parts, since a cancel has
+/// no Check.
 pub fn cancel_of<'a>(given: &Data<'a>) -> Result<Cancel<'a>, ControlFault>
     ensures { seen cancelling result ≡ cancel_in (datum_of given.now) }
 {

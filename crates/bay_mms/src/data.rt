@@ -2,7 +2,7 @@
 ghost use Rattle.std.specs.Prelude.{◌≡◌, [], ◌∷◌, ◌++◌, IfOk, OnOk};
 ghost use Rattle.bay_tree.specs.Rows.{IsHandle};
 ghost use Rattle.bay_mms.specs.Data.{leaf_datum};
-ghost use Rattle.bay_mms.specs.Types.{leaf_type};
+ghost use Rattle.bay_mms.specs.Types as spec;
 ghost use Rattle.bay_mms.specs.Nodes.{data_at, type_at};
 ghost use Rattle.bay_mms.specs.Views.{datum_of, data_in, type_of, components_in};
 
@@ -63,7 +63,8 @@ pub(crate) fn push_data<'a>(parts: &mut Vec<Data<'a>>, part: Data<'a>) -> Result
     Ok(())
 }
 
-/// The data of a row (IEC 61850-8-1, the mapping of values to MMS data): a leaf's value, or those of the rows below it.
+/// The data of a row (IEC 61850-8-1, the mapping of values to MMS data): a leaf's value, or those
+/// of the rows below it.
 pub fn data_of<'a>(alloc: Global, tree: &'a Tree, handle: Handle) -> Result<Data<'a>, AllocError>
     requires { IsHandle tree.now handle }
     ensures { IfOk result (λ found. datum_of found ≡ data_at tree.now handle) }
@@ -90,12 +91,14 @@ pub enum TypeSpec<'a> {
     Structure(Vec<(&'a str, TypeSpec<'a>)>),
     /// A simple type without a size: the number of its tag.
     Plain(u8),
-    /// A simple type of a size: the number of its tag, and so many bits, octets or characters; below 0, at most so many.
+    /// A simple type of a size: the number of its tag, and so many bits, octets or characters;
+    /// below 0, at most so many.
     Sized(u8, i16),
 }
 
+// The type of a leaf: its tag's number, and its size where it has one.
 fn leaf_type(leaf: &Leaf) -> TypeSpec<'_>
-    ensures { type_of result ≡ leaf_type leaf.now }
+    ensures { type_of result ≡ spec.leaf_type leaf.now }
 {
     match leaf {
         Leaf::Truth(_) => TypeSpec::Plain(3),
@@ -124,8 +127,8 @@ fn push_component<'a>(
     Ok(())
 }
 
-/// The type of a row (IEC 61850-8-1): a leaf's, or a structure of the types of the rows below it, each under the last word of
-/// its name.
+/// The type of a row (IEC 61850-8-1): a leaf's, or a structure of the types of the rows below it,
+/// each under the last word of its name.
 pub fn type_spec_of<'a>(
     alloc: Global,
     tree: &'a Tree,

@@ -32,7 +32,8 @@ pub enum MmsFault {
     /// The octets are not spelled as a request. With the invoke id, where one can be read.
     #[error("the octets are no request")]
     BadPdu(Option<u32>),
-    /// The service is none that is served, or it asks for alternate access or a named list. With the invoke id.
+    /// The service is none that is served, or it asks for alternate access or a named list. With
+    /// the invoke id.
     #[error("the service is not known")]
     UnknownService(u32),
     /// More than 32 variables are read or written. With the invoke id.
@@ -69,7 +70,8 @@ pub enum ControlFault {
 }
 
 impl ControlFault {
-    /// The number of the error that a write is answered with: 7 (type-inconsistent) or 11 (object-value-invalid).
+    /// The number of the error that a write is answered with: 7 (type-inconsistent) or 11
+    /// (object-value-invalid).
     pub fn code(self) -> u8
         ensures { result ≡ control_code_of self }
     {

@@ -3,7 +3,7 @@ ghost use Rattle.std.specs.Prelude.{◌≡◌, map, option_map};
 ghost use Rattle.std.specs.Option.{option_copied};
 ghost use Rattle.bay_ber.specs.Content.{bits_of};
 ghost use Rattle.bay_ber.specs.Values.{part_of};
-ghost use Rattle.bay_mms.specs.Grammar.{some_of, integer_under, outstanding_as, parameters_of, parameters_as, services_as, detail_of, detail_in, size_of, nesting_of, proposal_of, initiate_of};
+ghost use Rattle.bay_mms.specs.Grammar as spec;
 
 use crate::request::Proposal;
 use bay_ber::content::{Bits, bits_of, int_of};
@@ -14,14 +14,15 @@ use bay_ber::values::Value;
 /// The integer under a tag.
 #[tactic(auto, unfolding(crate::specs::Grammar::integer_under))]
 pub(crate) fn integer_under(tag: Tag, value: &Value<'_>) -> Option<i64>
-    ensures { result ≡ integer_under tag (part_of value.now) }
+    ensures { result ≡ spec.integer_under tag (part_of value.now) }
 {
     let content = value.under(tag)?;
     int_of(content).ok()
 }
 
+// A number of at least 1.
 fn some_of(number: i64) -> Option<i64>
-    ensures { result ≡ some_of number }
+    ensures { result ≡ spec.some_of number }
 {
     if number > 0 { Some(number) } else { None }
 }
@@ -29,7 +30,7 @@ fn some_of(number: i64) -> Option<i64>
 // How many requests may be outstanding.
 #[tactic(auto, unfolding(crate::specs::Grammar::outstanding_as))]
 fn outstanding_as(tag: Tag, value: &Value<'_>) -> Option<i64>
-    ensures { result ≡ outstanding_as tag (part_of value.now) }
+    ensures { result ≡ spec.outstanding_as tag (part_of value.now) }
 {
     let number = integer_under(tag, value)?;
     some_of(number)
@@ -37,7 +38,7 @@ fn outstanding_as(tag: Tag, value: &Value<'_>) -> Option<i64>
 
 // The first three of the bits.
 fn parameters_of(bits: Bits<'_>) -> Option<u8>
-    ensures { result ≡ parameters_of (bits_of bits.entry) }
+    ensures { result ≡ spec.parameters_of (bits_of bits.entry) }
 {
     if bits.count < 3 {
         return None;
@@ -51,7 +52,7 @@ fn parameters_of(bits: Bits<'_>) -> Option<u8>
 // The first three parameter conformance blocks.
 #[tactic(auto, unfolding(crate::specs::Grammar::parameters_as))]
 fn parameters_as(value: &Value<'_>) -> Option<u8>
-    ensures { result ≡ parameters_as (part_of value.now) }
+    ensures { result ≡ spec.parameters_as (part_of value.now) }
 {
     let bits = bits_of(value.under(Tag::context(1))?).ok()?;
     parameters_of(bits)
@@ -60,13 +61,14 @@ fn parameters_as(value: &Value<'_>) -> Option<u8>
 // The services that the one who calls has.
 #[tactic(auto, unfolding(crate::specs::Grammar::services_as))]
 fn services_as<'a>(value: &Value<'a>) -> Option<Bits<'a>>
-    ensures { option_map bits_of result ≡ services_as (part_of value.now) }
+    ensures { option_map bits_of result ≡ spec.services_as (part_of value.now) }
 {
     bits_of(value.under(Tag::context(2))?).ok()
 }
 
+// The parameters of the three parts of an InitRequestDetail.
 fn detail_of(parts: &[Value<'_>]) -> Option<u8>
-    ensures { result ≡ detail_of (map part_of parts.now) }
+    ensures { result ≡ spec.detail_of (map part_of parts.now) }
 {
     match parts {
         [version, parameters, services] => {
@@ -82,7 +84,7 @@ fn detail_of(parts: &[Value<'_>]) -> Option<u8>
 // The version, the parameters and the services (ISO 9506-2, InitRequestDetail), among other fields.
 #[tactic(auto, unfolding(crate::specs::Grammar::detail_in))]
 fn detail_in(octets: &[u8]) -> Option<u8>
-    ensures { result ≡ detail_in octets.now }
+    ensures { result ≡ spec.detail_in octets.now }
 {
     let tags = [Tag::context(0), Tag::context(1), Tag::context(2)];
     let known = known_values(octets, &tags)?;
@@ -91,7 +93,7 @@ fn detail_in(octets: &[u8]) -> Option<u8>
 
 // The size that is proposed, if one is.
 fn size_of(value: Option<&Value<'_>>) -> Option<Option<i64>>
-    ensures { result ≡ size_of (option_map part_of (option_copied value.entry)) }
+    ensures { result ≡ spec.size_of (option_map part_of (option_copied value.entry)) }
 {
     match value {
         Some(value) => Some(Some(integer_under(Tag::context(0), value)?)),
@@ -101,7 +103,7 @@ fn size_of(value: Option<&Value<'_>>) -> Option<Option<i64>>
 
 // The nesting that is proposed, if one is.
 fn nesting_of(value: Option<&Value<'_>>) -> Option<Option<i64>>
-    ensures { result ≡ nesting_of (option_map part_of (option_copied value.entry)) }
+    ensures { result ≡ spec.nesting_of (option_map part_of (option_copied value.entry)) }
 {
     match value {
         Some(value) => Some(Some(integer_under(Tag::context(3), value)?)),
@@ -109,6 +111,8 @@ fn nesting_of(value: Option<&Value<'_>>) -> Option<Option<i64>>
     }
 }
 
+// What an initiate proposes, by its fields: a size, how many requests are outstanding either way, a
+// nesting, and the detail.
 #[tactic(auto, unfolding(crate::specs::Grammar::proposal_of))]
 fn proposal_of(
     size: Option<&Value<'_>>,
@@ -117,7 +121,9 @@ fn proposal_of(
     nesting: Option<&Value<'_>>,
     detail: &Value<'_>,
 ) -> Option<Proposal>
-    ensures { result ≡ proposal_of (option_map part_of (option_copied size.entry)) (part_of calling.now) (part_of called.now) (option_map part_of (option_copied nesting.entry)) (part_of detail.now) }
+    ensures { result ≡ spec.proposal_of (option_map part_of (option_copied size.entry))
+        (part_of calling.now) (part_of called.now)
+        (option_map part_of (option_copied nesting.entry)) (part_of detail.now) }
 {
     let size = size_of(size)?;
     let calling = outstanding_as(Tag::context(1), calling)?;
@@ -135,7 +141,7 @@ fn proposal_of(
 
 /// The proposal that values are.
 pub(crate) fn initiate_of(parts: &[Value<'_>]) -> Option<Proposal>
-    ensures { result ≡ initiate_of (map part_of parts.now) }
+    ensures { result ≡ spec.initiate_of (map part_of parts.now) }
 {
     match parts {
         [calling, called, detail] => proposal_of(None, calling, called, None, detail),

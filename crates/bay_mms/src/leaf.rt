@@ -1,7 +1,7 @@
 // The data and the type of a leaf.
 ghost use Rattle.std.specs.Prelude.{[], ◌∷◌, ◌≡◌, ◌<◌, ℤ, OnOk};
 ghost use Rattle.bay_ber.specs.Writing.{element, integer_octets};
-ghost use Rattle.bay_mms.specs.Utc.{utc_octets};
+ghost use Rattle.bay_mms.specs.Utc as spec;
 ghost use Rattle.bay_mms.specs.Tags.{context};
 ghost use Rattle.bay_mms.specs.Data.{position_octet, quality_octet, datum_text, leaf_datum};
 ghost use Rattle.bay_mms.specs.Types.{type_text, leaf_type};
@@ -14,10 +14,11 @@ use bay_ber::tag::Tag;
 use bay_ber::writer::Writer;
 use bay_tree::leaf::{Dbpos, Leaf, Quality};
 
-/// A moment in milliseconds since 1970 as a utc-time (IEC 61850-8-1, the mapping of TimeStamp): four octets of seconds, three
-/// of the fraction of a second rounded down, and the quality 2A. Seconds past 2^32 are counted from 0 again.
+/// A moment in milliseconds since 1970 as a utc-time (IEC 61850-8-1, the mapping of TimeStamp):
+/// four octets of seconds, three of the fraction of a second rounded down, and the quality 2A.
+/// Seconds past 2^32 are counted from 0 again.
 pub(crate) fn utc_octets(ms: u64) -> [u8; 8]
-    ensures { result ≡ utc_octets ms }
+    ensures { result ≡ spec.utc_octets ms }
 {
     let seconds = (ms / 1000 % 0x1_0000_0000) as u32;
     let fraction = (ms % 1000 * 0x100_0000 / 1000) as u32;

@@ -1,10 +1,12 @@
-// The Manufacturing Message Specification (ISO 9506-2) in the profile of IEC 61850-8-1: data and types of named variables,
-// and their canonical texts in the Basic Encoding Rules.
+// The Manufacturing Message Specification (ISO 9506-2) in the profile of IEC 61850-8-1: data and
+// types of named variables, and their canonical texts in the Basic Encoding Rules.
 //
-// `request`: what a client asks, read from octets. `data`: data and types as trees. `value`: those of a row of the tree, written
-// as they stand. `control`: what data ask of a control. `response`: responses and their texts, and `results` those to reads and writes. `report`: the reports of controls. `page`: how long a page of names is.
-// `fault`: why nothing is read or written. `laws`: what is written is read back. Within the crate `service`, `access`, `received`
-// and `initiate` read the parts of requests.
+// `request`: what a client asks, read from octets. `data`: data and types as trees. `value`: those
+// of a row of the tree, written as they stand. `control`: what data ask of a control. `response`:
+// responses and their texts, and `results` those to reads and writes. `report`: the reports of
+// controls. `page`: how long a page of names is. `fault`: why nothing is read or written. `laws`:
+// what is written is read back. Within the crate `service`, `access`, `received` and `initiate`
+// read the parts of requests.
 #![tactic(auto)]
 
 mod access;

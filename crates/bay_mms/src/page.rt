@@ -5,7 +5,8 @@ ghost use Rattle.bay_base.specs.Exact.{Gives};
 ghost use Rattle.bay_ber.specs.Writing.{element, integer_octets};
 ghost use Rattle.bay_tree.specs.Page.{rows_after, IsUnknown};
 ghost use Rattle.bay_tree.specs.Rows.{IsHandle, names_of};
-ghost use Rattle.bay_mms.specs.Pages.{page_count, first_page, names_from, page_length};
+ghost use Rattle.bay_mms.specs.Pages.{page_count, first_page, names_from};
+ghost use Rattle.bay_mms.specs.Pages as spec;
 ghost use Rattle.bay_mms.specs.Responses.{names_text};
 ghost use Rattle.bay_mms.specs.Tags.{visible_tag};
 ghost use Rattle.bay_mms.specs.Writing.{written};
@@ -32,7 +33,7 @@ fn id_length(id: u32) -> usize
 // How many octets the response has whose names take so many.
 fn page_length(id: u32, names: u32) -> u64
     requires { names < 2 ^ 31 }
-    ensures { result ≡ page_length id names }
+    ensures { result ≡ spec.page_length id names }
 {
     let list = element_length(names);
     let service = element_length((list + 3) as u32);
@@ -44,7 +45,7 @@ fn page_length(id: u32, names: u32) -> u64
 fn has_room(id: u32, taken: usize, name: &str, size: u32) -> bool
     requires size { size < 2 ^ 31 }
     requires taken { taken ≤ size }
-    ensures { IsTrue result ↔ (page_length id (taken + length (element visible_tag name.now)) ≤ size) }
+    ensures { IsTrue result ↔ (spec.page_length id (taken + length (element visible_tag name.now)) ≤ size) }
 {
     if name.len() > size as usize {
         return false;
@@ -120,8 +121,9 @@ fn first_after(tree: &Tree, after: Option<&[u8]>) -> Result<Option<Handle>, Name
     }
 }
 
-/// The response, under an invoke id, that lists the names behind a name, or from the first on: as many as fit a PDU of this size,
-/// and at most 100; and whether more follow. NoSuchName where no row has the name. It has at most as many octets as its size says.
+/// The response, under an invoke id, that lists the names behind a name, or from the first on: as
+/// many as fit a PDU of this size, and at most 100; and whether more follow. NoSuchName where no
+/// row has the name. It has at most as many octets as its size says.
 pub fn write_page(
     alloc: Global,
     id: u32,

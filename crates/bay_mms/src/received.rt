@@ -4,7 +4,8 @@ ghost use Rattle.bay_base.specs.Exact.{Gives};
 ghost use Rattle.bay_ber.specs.Values.{part_of, each_in};
 ghost use Rattle.bay_mms.specs.Spelled.{spelled};
 ghost use Rattle.bay_mms.specs.Views.{datum_of, data_in};
-ghost use Rattle.bay_mms.specs.Grammar.{utc_as, string_as, simple_as, datum_as};
+ghost use Rattle.bay_mms.specs.Grammar.{datum_as};
+ghost use Rattle.bay_mms.specs.Grammar as spec;
 
 use crate::data::{Data, push_data};
 use crate::fault::Refusal;
@@ -29,7 +30,7 @@ fn eight(octets: &[u8]) -> Option<[u8; 8]>
 // A moment.
 #[tactic(auto, unfolding(crate::specs::Grammar::utc_as))]
 fn utc_as<'a>(value: &Value<'a>) -> Data<'a>
-    ensures { datum_of result ≡ utc_as (part_of value.now) }
+    ensures { datum_of result ≡ spec.utc_as (part_of value.now) }
 {
     match eight(value.content) {
         Some(octets) => Data::Utc(octets),
@@ -40,7 +41,7 @@ fn utc_as<'a>(value: &Value<'a>) -> Data<'a>
 // Data whose content is taken as it is.
 #[tactic(auto, unfolding(crate::specs::Grammar::string_as))]
 fn string_as<'a>(value: &Value<'a>) -> Data<'a>
-    ensures { datum_of result ≡ string_as (part_of value.now) }
+    ensures { datum_of result ≡ spec.string_as (part_of value.now) }
 {
     if value.tag.is(Tag::context(9)) {
         Data::Octets(value.content)
@@ -56,7 +57,7 @@ fn string_as<'a>(value: &Value<'a>) -> Data<'a>
 // Data that is no structure.
 #[tactic(auto, unfolding(crate::specs::Grammar::simple_as))]
 fn simple_as<'a>(value: &Value<'a>) -> Option<Data<'a>>
-    ensures { option_map datum_of result ≡ simple_as (part_of value.now) }
+    ensures { option_map datum_of result ≡ spec.simple_as (part_of value.now) }
 {
     if value.tag.is(Tag::context(3)) {
         let truth = bool_of(value.content).ok()?;

@@ -42,7 +42,8 @@ fn put_both_around(
     put_around(writer, start, outer)
 }
 
-// Makes a report of the variables that were written since a place, and of the data from the second place on.
+// Makes a report of the variables that were written since a place, and of the data from the second
+// place on.
 fn put_report_around(writer: &mut Writer, start: usize, inner: usize) -> Result<(), WriteFault>
     requires start { start ≤ inner }
     requires inner { inner ≤ length writer.old }
@@ -54,7 +55,7 @@ fn put_report_around(writer: &mut Writer, start: usize, inner: usize) -> Result<
     put_both_around(writer, start, list, Tag::context_constructed(3))
 }
 
-// Writes a small number under a context-specific tag.
+// Writes a small number under the context-specific tag of a number.
 fn put_small(writer: &mut Writer, number: u8, value: u8) -> Result<(), WriteFault>
     requires { number < 31 }
     ensures { Appends writer.old result writer.new (element (context number) (integer_octets (pos value))) }
@@ -62,12 +63,14 @@ fn put_small(writer: &mut Writer, number: u8, value: u8) -> Result<(), WriteFaul
     put_integer(writer, number, i64::from(value))
 }
 
+// Writes the category of an originator.
 fn put_category(writer: &mut Writer, origin: &Origin<'_>) -> Result<(), WriteFault>
     ensures { Appends writer.old result writer.new (element (context 5) (integer_octets origin.now.or_cat)) }
 {
     put_integer(writer, 5, i64::from(origin.or_cat))
 }
 
+// Writes the category and the identity of an originator.
 fn put_origin_parts(writer: &mut Writer, origin: &Origin<'_>) -> Result<(), WriteFault>
     ensures { Adds writer.old result writer.new (origin_parts origin.now) }
 {
@@ -75,6 +78,7 @@ fn put_origin_parts(writer: &mut Writer, origin: &Origin<'_>) -> Result<(), Writ
     put_octets(writer, Tag::context(9), origin.or_ident)
 }
 
+// Writes an originator, a structure of the two.
 fn put_origin(writer: &mut Writer, origin: &Origin<'_>) -> Result<(), WriteFault>
     ensures { Adds writer.old result writer.new (origin_text origin.now) }
 {
@@ -83,6 +87,7 @@ fn put_origin(writer: &mut Writer, origin: &Origin<'_>) -> Result<(), WriteFault
     put_around(writer, start, Tag::context_constructed(2))
 }
 
+// Writes what is asked for, the originator and the control number.
 fn put_operate_front(writer: &mut Writer, operate: &Operate<'_>) -> Result<(), WriteFault>
     ensures { Adds writer.old result writer.new (operate_front operate.now) }
 {
@@ -91,6 +96,7 @@ fn put_operate_front(writer: &mut Writer, operate: &Operate<'_>) -> Result<(), W
     put_small(writer, 6, operate.ctl_num)
 }
 
+// Writes the moment, whether it is a test, and the checks.
 fn put_operate_back(writer: &mut Writer, operate: &Operate<'_>) -> Result<(), WriteFault>
     ensures { Adds writer.old result writer.new (operate_back operate.now) }
 {
@@ -103,6 +109,7 @@ fn put_operate_back(writer: &mut Writer, operate: &Operate<'_>) -> Result<(), Wr
     put_bits(writer, 4, check)
 }
 
+// Writes the parts of an operate, one behind the other.
 fn put_operate_parts(writer: &mut Writer, operate: &Operate<'_>) -> Result<(), WriteFault>
     ensures { Adds writer.old result writer.new (operate_front operate.now ++ operate_back operate.now) }
 {
@@ -119,6 +126,7 @@ fn put_operate(writer: &mut Writer, operate: &Operate<'_>) -> Result<(), WriteFa
     put_around(writer, start, Tag::context_constructed(2))
 }
 
+// Writes the object that was refused, and the error, which is 0 for none.
 fn put_failure_front(writer: &mut Writer, failure: &ControlError<'_>) -> Result<(), WriteFault>
     ensures { Adds writer.old result writer.new (failure_front failure.now) }
 {
@@ -126,6 +134,7 @@ fn put_failure_front(writer: &mut Writer, failure: &ControlError<'_>) -> Result<
     put_integer(writer, 5, 0)
 }
 
+// Writes the originator, the control number and the cause (IEC 61850-7-2, AddCause).
 fn put_failure_back(writer: &mut Writer, failure: &ControlError<'_>) -> Result<(), WriteFault>
     ensures { Adds writer.old result writer.new (failure_back failure.now) }
 {
@@ -134,6 +143,7 @@ fn put_failure_back(writer: &mut Writer, failure: &ControlError<'_>) -> Result<(
     put_small(writer, 5, failure.add_cause)
 }
 
+// Writes the parts of a failure, one behind the other.
 fn put_failure_parts(writer: &mut Writer, failure: &ControlError<'_>) -> Result<(), WriteFault>
     ensures { Adds writer.old result writer.new (failure_front failure.now ++ failure_back failure.now) }
 {
@@ -150,12 +160,14 @@ fn put_failure(writer: &mut Writer, failure: &ControlError<'_>) -> Result<(), Wr
     put_around(writer, start, Tag::context_constructed(2))
 }
 
+// The name under which a failure is reported.
 fn failure_object() -> &'static str
     ensures { result.now ≡ codes "LastApplError" }
 {
     "LastApplError"
 }
 
+// Writes the variable of that name, which is in no domain.
 fn put_failure_name(writer: &mut Writer) -> Result<(), WriteFault>
     ensures { Adds writer.old result writer.new (variable_text failure_name) }
 {
@@ -164,6 +176,7 @@ fn put_failure_name(writer: &mut Writer) -> Result<(), WriteFault>
     put_both_around(writer, start, Tag::context_constructed(0), Tag::sequence())
 }
 
+// Writes the two parts of a name in a domain.
 fn put_item_parts(writer: &mut Writer, domain: &str, item: &str) -> Result<(), WriteFault>
     ensures { Adds writer.old result writer.new (element visible_tag domain.now ++ element visible_tag item.now) }
 {
@@ -171,6 +184,7 @@ fn put_item_parts(writer: &mut Writer, domain: &str, item: &str) -> Result<(), W
     put_octets(writer, Tag::universal(26), item.as_bytes())
 }
 
+// Writes a name in a domain.
 fn put_item(writer: &mut Writer, domain: &str, item: &str) -> Result<(), WriteFault>
     ensures { Adds writer.old result writer.new (item_name domain.now item.now) }
 {
@@ -179,6 +193,7 @@ fn put_item(writer: &mut Writer, domain: &str, item: &str) -> Result<(), WriteFa
     put_around(writer, start, Tag::context_constructed(1))
 }
 
+// Writes the variable of a name in a domain.
 fn put_item_name(writer: &mut Writer, domain: &str, item: &str) -> Result<(), WriteFault>
     ensures { Adds writer.old result writer.new (variable_text (item_name domain.now item.now)) }
 {
@@ -196,6 +211,7 @@ fn put_failure_list(writer: &mut Writer) -> Result<(), WriteFault>
     put_around(writer, start, Tag::context_constructed(0))
 }
 
+// Writes a list of that variable alone.
 fn put_item_list(writer: &mut Writer, domain: &str, item: &str) -> Result<(), WriteFault>
     ensures { Adds writer.old result writer.new (element (constructed 0) (variable_text (item_name domain.now item.now))) }
 {
@@ -204,6 +220,7 @@ fn put_item_list(writer: &mut Writer, domain: &str, item: &str) -> Result<(), Wr
     put_around(writer, start, Tag::context_constructed(0))
 }
 
+// Writes the variables of a failure and of what was operated.
 fn put_both_names(writer: &mut Writer, domain: &str, item: &str) -> Result<(), WriteFault>
     ensures { Adds writer.old result writer.new (variable_text failure_name ++ variable_text (item_name domain.now item.now)) }
 {
@@ -211,6 +228,7 @@ fn put_both_names(writer: &mut Writer, domain: &str, item: &str) -> Result<(), W
     put_item_name(writer, domain, item)
 }
 
+// Writes the list of both.
 fn put_both_list(writer: &mut Writer, domain: &str, item: &str) -> Result<(), WriteFault>
     ensures { Adds writer.old result writer.new (element (constructed 0) (variable_text failure_name ++ variable_text (item_name domain.now item.now))) }
 {
@@ -219,6 +237,7 @@ fn put_both_list(writer: &mut Writer, domain: &str, item: &str) -> Result<(), Wr
     put_around(writer, start, Tag::context_constructed(0))
 }
 
+// Writes the data of both.
 fn put_both(
     writer: &mut Writer,
     failure: &ControlError<'_>,
@@ -274,8 +293,8 @@ fn put_failed(
     put_report_around(writer, start, inner)
 }
 
-/// The text of the report that a control was refused (IEC 61850-8-1, LastApplError; ISO 9506-2, informationReport); TooLong where
-/// it would have 2^32 octets or more, which no PDU has.
+/// The text of the report that a control was refused (IEC 61850-8-1, LastApplError; ISO 9506-2,
+/// informationReport); TooLong where it would have 2^32 octets or more, which no PDU has.
 pub fn write_failure(alloc: Global, failure: &ControlError<'_>) -> Result<Vec<u8>, WriteFault>
     ensures { Gives WriteFault.OutOfMemory (λ octets. octets.items) result (written (failure_text failure.now)) }
 {
@@ -284,8 +303,9 @@ pub fn write_failure(alloc: Global, failure: &ControlError<'_>) -> Result<Vec<u8
     Ok(writer.finish())
 }
 
-/// The text of the report that a control of this item of a domain has done what it was asked for (IEC 61850-8-1, the positive
-/// CommandTermination): the operate, as it was written. TooLong where it would have 2^32 octets or more.
+/// The text of the report that a control of this item of a domain has done what it was asked for
+/// (IEC 61850-8-1, the positive CommandTermination): the operate, as it was written. TooLong where
+/// it would have 2^32 octets or more.
 pub fn write_termination(
     alloc: Global,
     domain: &str,
@@ -299,9 +319,9 @@ pub fn write_termination(
     Ok(writer.finish())
 }
 
-/// The text of the report that a control of this item of a domain has failed (IEC 61850-8-1, the negative CommandTermination): one
-/// report of two variables, LastApplError and then the operate, as it was written. TooLong where it would have 2^32 octets or
-/// more.
+/// The text of the report that a control of this item of a domain has failed (IEC 61850-8-1, the
+/// negative CommandTermination): one report of two variables, LastApplError and then the operate,
+/// as it was written. TooLong where it would have 2^32 octets or more.
 pub fn write_failed_termination(
     alloc: Global,
     failure: &ControlError<'_>,

@@ -5,7 +5,8 @@ ghost use Rattle.bay_ber.specs.Reading.{tlv_at};
 ghost use Rattle.bay_ber.specs.Values.{part_of, value_in};
 ghost use Rattle.bay_mms.specs.Answers.{IsAnswer, has_list, lists_of, lists_as, lists_at};
 ghost use Rattle.bay_mms.specs.Requests as asked;
-ghost use Rattle.bay_mms.specs.Grammar.{or_bad, front_of, proposal_in, initiate_in, service_as, nothing, id_of, id_as, fault_of, with_id, confirmed_of, message_as, id_in, answer_to};
+ghost use Rattle.bay_mms.specs.Grammar.{or_bad, initiate_in, nothing};
+ghost use Rattle.bay_mms.specs.Grammar as spec;
 ghost use Rattle.bay_mms.specs.RequestViews.{asking, message};
 
 use crate::data::Data;
@@ -85,8 +86,9 @@ pub enum Request<'a> {
     Confirmed { id: u32, call: Call<'a> },
 }
 
+// An invoke id: a number of 32 bits without a sign.
 fn id_of(number: i64) -> Option<u32>
-    ensures { result ≡ id_of number }
+    ensures { result ≡ spec.id_of number }
 {
     u32::try_from(number).ok()
 }
@@ -94,7 +96,7 @@ fn id_of(number: i64) -> Option<u32>
 // The invoke id that a value is.
 #[tactic(auto, unfolding(crate::specs::Grammar::id_as))]
 fn id_as(value: &Value<'_>) -> Option<u32>
-    ensures { result ≡ id_as (part_of value.now) }
+    ensures { result ≡ spec.id_as (part_of value.now) }
 {
     let number = int_of(value.under(Tag::universal(2))?).ok()?;
     id_of(number)
@@ -102,7 +104,7 @@ fn id_as(value: &Value<'_>) -> Option<u32>
 
 // The value at the front of octets.
 fn front_of(octets: &[u8]) -> Option<Value<'_>>
-    ensures { option_map part_of result ≡ front_of (tlv_at octets.now) }
+    ensures { option_map part_of result ≡ spec.front_of (tlv_at octets.now) }
 {
     let tlv = read_tlv(octets).ok()?;
     Some(Value {
@@ -114,15 +116,16 @@ fn front_of(octets: &[u8]) -> Option<Value<'_>>
 // The invoke id, where one can be read.
 #[tactic(auto, unfolding(crate::specs::Grammar::id_in))]
 fn id_in(octets: &[u8]) -> Option<u32>
-    ensures { result ≡ id_in octets.now }
+    ensures { result ≡ spec.id_in octets.now }
 {
     let pdu = front_of(octets)?;
     let id = front_of(pdu.under(Tag::context_constructed(0))?)?;
     id_as(&id)
 }
 
+// Why a request is refused, with the invoke id that the answer is to have.
 fn fault_of(known: Option<u32>, id: u32, refusal: Refusal) -> MmsFault
-    ensures { result ≡ fault_of known id refusal }
+    ensures { result ≡ spec.fault_of known id refusal }
 {
     match refusal {
         Refusal::Bad => MmsFault::BadPdu(known),
@@ -139,7 +142,7 @@ fn with_id<'a>(
     id: u32,
     service: &Value<'a>,
 ) -> Result<Request<'a>, MmsFault>
-    ensures asked { Gives MmsFault.OutOfMemory message result (with_id known id (service_as (part_of service.now))) }
+    ensures asked { Gives MmsFault.OutOfMemory message result (spec.with_id known id (spec.service_as (part_of service.now))) }
     ensures memory { IsErrOf result MmsFault.OutOfMemory → IsTrue (has_list (part_of service.now)) }
 {
     match service_as(alloc, service) {
@@ -154,7 +157,7 @@ fn confirmed_of<'a>(
     known: Option<u32>,
     parts: &[Value<'a>],
 ) -> Result<Request<'a>, MmsFault>
-    ensures asked { Gives MmsFault.OutOfMemory message result (confirmed_of known (map part_of parts.now)) }
+    ensures asked { Gives MmsFault.OutOfMemory message result (spec.confirmed_of known (map part_of parts.now)) }
     ensures memory { IsErrOf result MmsFault.OutOfMemory → IsTrue (lists_of (map part_of parts.now)) }
 {
     match parts {
@@ -166,14 +169,16 @@ fn confirmed_of<'a>(
     }
 }
 
+// What the content of an initiate proposes.
 fn proposal_in(content: &[u8]) -> Option<Proposal>
-    ensures { result ≡ proposal_in content.now }
+    ensures { result ≡ spec.proposal_in content.now }
 {
     let parts = few_values(content)?;
     initiate_of(parts.as_slice())
 }
 
-/// What an initiate that the octets are proposes (ISO 9506-2, InitiateRequestPDU); None where they are none. It takes no memory.
+/// What an initiate that the octets are proposes (ISO 9506-2, InitiateRequestPDU); None where they
+/// are none. It takes no memory.
 #[tactic(auto, unfolding(crate::specs::Grammar::initiate_in))]
 pub fn read_initiate(octets: &[u8]) -> Option<Proposal>
     ensures { result ≡ initiate_in octets.now }
@@ -182,6 +187,7 @@ pub fn read_initiate(octets: &[u8]) -> Option<Proposal>
     proposal_in(value.under(Tag::context_constructed(8))?)
 }
 
+// A conclude, which has no content.
 fn conclude(known: Option<u32>, content: &[u8]) -> Result<Request<'_>, MmsFault>
     ensures asked { Gives MmsFault.OutOfMemory message result (or_bad known (nothing content.now asked.conclude)) }
     ensures memory { IsErrOf result MmsFault.OutOfMemory → ⊥ }
@@ -193,13 +199,14 @@ fn conclude(known: Option<u32>, content: &[u8]) -> Result<Request<'_>, MmsFault>
     }
 }
 
+// The request that a PDU is, by its tag: confirmed, initiate or conclude.
 #[tactic(auto, unfolding(crate::specs::Grammar::message_as))]
 fn message_as<'a>(
     alloc: Global,
     known: Option<u32>,
     value: &Value<'a>,
 ) -> Result<Request<'a>, MmsFault>
-    ensures asked { Gives MmsFault.OutOfMemory message result (message_as known (part_of value.now)) }
+    ensures asked { Gives MmsFault.OutOfMemory message result (spec.message_as known (part_of value.now)) }
     ensures memory { IsErrOf result MmsFault.OutOfMemory → IsTrue (lists_as (part_of value.now)) }
 {
     if value.tag.is(Tag::context_constructed(0)) {
@@ -220,7 +227,7 @@ fn message_as<'a>(
 // The request that octets are, as it is read.
 #[tactic(auto, unfolding(crate::specs::Grammar::answer_to))]
 fn answer_to<'a>(alloc: Global, octets: &'a [u8]) -> Result<Request<'a>, MmsFault>
-    ensures asked { Gives MmsFault.OutOfMemory message result (answer_to octets.now) }
+    ensures asked { Gives MmsFault.OutOfMemory message result (spec.answer_to octets.now) }
     ensures memory { IsErrOf result MmsFault.OutOfMemory → IsTrue (lists_at (value_in octets.now)) }
 {
     let known = id_in(octets);
@@ -228,10 +235,11 @@ fn answer_to<'a>(alloc: Global, octets: &'a [u8]) -> Result<Request<'a>, MmsFaul
     message_as(alloc, known, &value)
 }
 
-/// The request that octets are (ISO 9506-2, in the profile of IEC 61850-8-1), whose names, texts and data are slices of the
-/// octets. BadPdu where they are spelled as none, with the invoke id where one stands at their front; UnknownService for a
-/// service that is not served, for alternate access and for a named list; TooMany for more than 32 variables in a request that
-/// is spelled in all else. Data nests at most 10 deep. Only a read or a write takes memory.
+/// The request that octets are (ISO 9506-2, in the profile of IEC 61850-8-1), whose names, texts
+/// and data are slices of the octets. BadPdu where they are spelled as none, with the invoke id
+/// where one stands at their front; UnknownService for a service that is not served, for alternate
+/// access and for a named list; TooMany for more than 32 variables in a request that is spelled in
+/// all else. Data nests at most 10 deep. Only a read or a write takes memory.
 pub fn read_request<'a>(alloc: Global, octets: &'a [u8]) -> Result<Request<'a>, MmsFault>
     ensures { IsAnswer octets.now result }
 {

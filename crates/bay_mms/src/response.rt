@@ -59,7 +59,8 @@ pub enum Service<'a> {
     },
 }
 
-/// What is agreed of an association (ISO 9506-2, InitiateResponsePDU), in version 1 of the protocol.
+/// What is agreed of an association (ISO 9506-2, InitiateResponsePDU), in version 1 of the
+/// protocol.
 #[derive(Clone, Copy)]
 pub struct Agreed {
     /// The octets of the largest PDU.
@@ -69,7 +70,8 @@ pub struct Agreed {
     pub called: u32,
     /// How deep data may nest, where it was proposed.
     pub nesting: Option<i64>,
-    /// The first three parameter conformance blocks, in the three highest bits. The other bits are not looked at.
+    /// The first three parameter conformance blocks, in the three highest bits. The other bits are
+    /// not looked at.
     pub parameters: u8,
 }
 
@@ -97,6 +99,7 @@ pub enum Response<'a> {
     },
 }
 
+// Writes who made the device, its model and its revision (ISO 9506-2, Identify).
 fn put_identity(
     writer: &mut Writer,
     vendor: &str,
@@ -110,6 +113,7 @@ fn put_identity(
     put_octets(writer, Tag::context(2), revision.as_bytes())
 }
 
+// Writes names, one behind the other.
 fn put_names(writer: &mut Writer, names: &[Text]) -> Result<(), WriteFault>
     ensures { Adds writer.old result writer.new (names_text names.now) }
 {
@@ -119,6 +123,7 @@ fn put_names(writer: &mut Writer, names: &[Text]) -> Result<(), WriteFault>
     Ok(())
 }
 
+// Writes that a variable can't be deleted, and its type.
 fn put_attributes(writer: &mut Writer, tree: &Tree, handle: &Handle) -> Result<(), WriteFault>
     requires { IsHandle tree.now handle.now }
     ensures { Adds writer.old result writer.new (element (context 0) (truth_octets false) ++ element (constructed 2) (type_text (type_at tree.now handle.now))) }
@@ -176,7 +181,10 @@ fn write_attributes(
     handle: &Handle,
 ) -> Result<Vec<u8>, WriteFault>
     requires { IsHandle tree.now handle.now }
-    ensures { Gives WriteFault.OutOfMemory (λ octets. octets.items) result (written (confirmed id (element (constructed 6) (element (context 0) (truth_octets false) ++ element (constructed 2) (type_text (type_at tree.now handle.now)))))) }
+    ensures { Gives WriteFault.OutOfMemory (λ octets. octets.items) result
+        (written (confirmed id (element (constructed 6)
+        (element (context 0) (truth_octets false)
+        ++ element (constructed 2) (type_text (type_at tree.now handle.now)))))) }
 {
     let mut content = Writer::new(alloc);
     put_attributes(&mut content, tree, handle)?;
@@ -211,6 +219,7 @@ fn error_octets(class: ErrorClass) -> &'static [u8]
     }
 }
 
+// Writes the PDU of an error.
 fn put_error(writer: &mut Writer, id: u32, class: ErrorClass) -> Result<(), WriteFault>
     ensures { Appends writer.old result writer.new (error_text id class) }
 {
@@ -220,6 +229,7 @@ fn put_error(writer: &mut Writer, id: u32, class: ErrorClass) -> Result<(), Writ
     put_around(writer, start, Tag::context_constructed(2))
 }
 
+// Writes the PDU of a reject, with the invoke id where it is known.
 fn put_reject(writer: &mut Writer, id: Option<u32>, reason: RejectReason) -> Result<(), WriteFault>
     ensures { Appends writer.old result writer.new (reject_text id reason) }
 {
@@ -235,6 +245,7 @@ fn put_reject(writer: &mut Writer, id: Option<u32>, reason: RejectReason) -> Res
     put_around(writer, start, Tag::context_constructed(4))
 }
 
+// Writes the agreed nesting, if one was proposed.
 fn put_nesting(writer: &mut Writer, nesting: Option<i64>) -> Result<(), AllocError>
     ensures { OnOk result (writer.new ≡ writer.old ++ nesting_text nesting) }
 {
@@ -269,6 +280,7 @@ fn put_services(writer: &mut Writer) -> Result<(), AllocError>
     Ok(())
 }
 
+// Writes the agreed size, how many requests are outstanding either way, and the nesting.
 fn put_limits(writer: &mut Writer, agreed: Agreed) -> Result<(), AllocError>
     ensures { OnOk result (writer.new ≡ writer.old ++ limits_text agreed) }
 {
@@ -289,6 +301,7 @@ fn put_detail(writer: &mut Writer, parameters: u8) -> Result<(), AllocError>
     Ok(())
 }
 
+// Writes the PDU of an initiate's response.
 fn put_agreed(writer: &mut Writer, agreed: Agreed) -> Result<(), WriteFault>
     ensures { Appends writer.old result writer.new (agreed_text agreed) }
 {
@@ -300,8 +313,8 @@ fn put_agreed(writer: &mut Writer, agreed: Agreed) -> Result<(), WriteFault>
     put_around(writer, start, Tag::context_constructed(9))
 }
 
-/// The text of a response, which is the one canonical spelling (ISO 9506-2); TooLong where it would have 2^32 octets or
-/// more. The handles in it are of its trees.
+/// The text of a response, which is the one canonical spelling (ISO 9506-2); TooLong where it would
+/// have 2^32 octets or more. The handles in it are of its trees.
 pub fn write_response(alloc: Global, response: &Response<'_>) -> Result<Vec<u8>, WriteFault>
     requires { IsAnswerable response.now }
     ensures { Gives WriteFault.OutOfMemory (λ octets. octets.items) result (written (response_text response.now)) }
@@ -315,7 +328,8 @@ pub fn write_response(alloc: Global, response: &Response<'_>) -> Result<Vec<u8>,
     }
 }
 
-/// The answer to an initiate (ISO 9506-2, InitiateResponsePDU), which is the one canonical spelling and has at most 200 octets.
+/// The answer to an initiate (ISO 9506-2, InitiateResponsePDU), which is the one canonical spelling
+/// and has at most 200 octets.
 pub fn write_agreed(alloc: Global, agreed: Agreed) -> Result<Vec<u8>, AllocError>
     ensures text { IfOk result (λ octets. octets.items ≡ agreed_text agreed) }
     ensures few { IfOk result (λ octets. length octets.items ≤ 200) }
@@ -328,7 +342,8 @@ pub fn write_agreed(alloc: Global, agreed: Agreed) -> Result<Vec<u8>, AllocError
     }
 }
 
-/// A confirmed error under an invoke id (ISO 9506-2, Confirmed-ErrorPDU), which has at most 60 octets.
+/// A confirmed error under an invoke id (ISO 9506-2, Confirmed-ErrorPDU), which has at most 60
+/// octets.
 pub fn write_error(alloc: Global, id: u32, class: ErrorClass) -> Result<Vec<u8>, AllocError>
     ensures text { IfOk result (λ octets. octets.items ≡ error_text id class) }
     ensures few { IfOk result (λ octets. length octets.items ≤ 60) }
@@ -341,7 +356,8 @@ pub fn write_error(alloc: Global, id: u32, class: ErrorClass) -> Result<Vec<u8>,
     }
 }
 
-/// A reject, with the invoke id where it was read (ISO 9506-2, RejectPDU), which has at most 60 octets.
+/// A reject, with the invoke id where it was read (ISO 9506-2, RejectPDU), which has at most 60
+/// octets.
 pub fn write_reject(
     alloc: Global,
     id: Option<u32>,

@@ -1,4 +1,5 @@
-// The responses to reads and writes, made variable by variable (ISO 9506-2, Read-Response and Write-Response).
+// The responses to reads and writes, made variable by variable (ISO 9506-2, Read-Response and
+// Write-Response).
 ghost use Rattle.std.specs.Prelude.{◌≡◌, ◌<◌, ◌++◌, []};
 ghost use Rattle.bay_base.specs.Exact.{Gives};
 ghost use Rattle.bay_tree.specs.Rows.{IsHandle};
@@ -17,8 +18,8 @@ use bay_tree::tree::{Handle, Tree};
 use std::alloc::Global;
 use std::marker::Model;
 
-/// The results of a read so far, which contracts see as their octets. Each call appends one result, in the order of the
-/// variables; after a call that fails the results are given up.
+/// The results of a read so far, which contracts see as their octets. Each call appends one result,
+/// in the order of the variables; after a call that fails the results are given up.
 #[derive(Drop)]
 pub struct ReadResponse {
     alloc: Global,
@@ -66,8 +67,8 @@ impl ReadResponse {
         put_integer(&mut self.results, 0, i64::from(cause))
     }
 
-    /// The response under an invoke id; TooLong where it would have 2^32 octets or more, which is answered as a response over
-    /// the size of a PDU is.
+    /// The response under an invoke id; TooLong where it would have 2^32 octets or more, which is
+    /// answered as a response over the size of a PDU is.
     pub fn finish(self, id: u32) -> Result<Vec<u8>, WriteFault>
         ensures { Gives WriteFault.OutOfMemory (λ octets. octets.items) result (written (read_text id self)) }
     {
@@ -76,8 +77,8 @@ impl ReadResponse {
     }
 }
 
-/// The results of a write so far, which contracts see as their octets. Each call appends one result, in the order of the
-/// variables; after a call that fails the results are given up.
+/// The results of a write so far, which contracts see as their octets. Each call appends one
+/// result, in the order of the variables; after a call that fails the results are given up.
 #[derive(Drop)]
 pub struct WriteResponse {
     alloc: Global,

@@ -5,7 +5,8 @@ ghost use Rattle.bay_ber.specs.Values.{part_of};
 ghost use Rattle.bay_mms.specs.Answers.{has_list};
 ghost use Rattle.bay_mms.specs.Requests as asked;
 ghost use Rattle.bay_mms.specs.Views.{data_in};
-ghost use Rattle.bay_mms.specs.Grammar.{inner_value, nothing, listing_in, place_as, class_as, scope_as, names_of, attributes_as, read_as, read_of, written_with, write_of, is_unlisted, other_as, service_as};
+ghost use Rattle.bay_mms.specs.Grammar.{nothing, listing_in};
+ghost use Rattle.bay_mms.specs.Grammar as spec;
 ghost use Rattle.bay_mms.specs.RequestViews.{place, accessed, asking};
 
 use crate::access::{Access, access_as, judged, name_in};
@@ -23,14 +24,15 @@ const DEPTH_MAX: u8 = 10;
 
 // The one value inside a value of this tag.
 fn inner_value<'a>(tag: Tag, value: &Value<'a>) -> Option<Value<'a>>
-    ensures { option_map part_of result ≡ inner_value tag (part_of value.now) }
+    ensures { option_map part_of result ≡ spec.inner_value tag (part_of value.now) }
 {
     whole_value(value.under(tag)?)
 }
 
+// Where names are asked for, by its tag: of the device (VMD), of a domain, or of the association.
 #[tactic(auto, unfolding(crate::specs::Grammar::place_as))]
 fn place_as<'a>(value: &Value<'a>) -> Option<Scope<'a>>
-    ensures { option_map place result ≡ place_as (part_of value.now) }
+    ensures { option_map place result ≡ spec.place_as (part_of value.now) }
 {
     if value.tag.is(Tag::context(0)) {
         if value.content.is_empty() {
@@ -51,17 +53,19 @@ fn place_as<'a>(value: &Value<'a>) -> Option<Scope<'a>>
     }
 }
 
+// The number of the class of objects whose names are asked for.
 #[tactic(auto, unfolding(crate::specs::Grammar::class_as, crate::specs::Grammar::integer_under))]
 fn class_as(value: &Value<'_>) -> Option<i64>
-    ensures { result ≡ class_as (part_of value.now) }
+    ensures { result ≡ spec.class_as (part_of value.now) }
 {
     let class = inner_value(Tag::context_constructed(0), value)?;
     integer_under(Tag::context(0), &class)
 }
 
+// Where names are asked for, under its tag.
 #[tactic(auto, unfolding(crate::specs::Grammar::scope_as))]
 fn scope_as<'a>(value: &Value<'a>) -> Option<Scope<'a>>
-    ensures { option_map place result ≡ scope_as (part_of value.now) }
+    ensures { option_map place result ≡ spec.scope_as (part_of value.now) }
 {
     let scope = inner_value(Tag::context_constructed(1), value)?;
     place_as(&scope)
@@ -69,7 +73,7 @@ fn scope_as<'a>(value: &Value<'a>) -> Option<Scope<'a>>
 
 // The names that are asked for (ISO 9506-2, GetNameList).
 fn names_of<'a>(parts: &[Value<'a>]) -> Option<Call<'a>>
-    ensures { option_map asking result ≡ names_of (map part_of parts.now) }
+    ensures { option_map asking result ≡ spec.names_of (map part_of parts.now) }
 {
     let (class, scope, after) = match parts {
         [class, scope] => (class, scope, None),
@@ -88,7 +92,7 @@ fn names_of<'a>(parts: &[Value<'a>]) -> Option<Call<'a>>
 // The variable whose type is asked for (ISO 9506-2, GetVariableAccessAttributes).
 #[tactic(auto, unfolding(crate::specs::Grammar::attributes_as))]
 fn attributes_as<'a>(value: &Value<'a>) -> Result<Call<'a>, Refusal>
-    ensures asked { Gives Refusal.OutOfMemory asking result (attributes_as (part_of value.now)) }
+    ensures asked { Gives Refusal.OutOfMemory asking result (spec.attributes_as (part_of value.now)) }
     ensures memory { IsErrOf result Refusal.OutOfMemory → ⊥ }
 {
     match name_in(value.content) {
@@ -98,9 +102,10 @@ fn attributes_as<'a>(value: &Value<'a>) -> Result<Call<'a>, Refusal>
     }
 }
 
+// The variables that are read, by the specification of their access.
 #[tactic(auto, unfolding(crate::specs::Grammar::read_as))]
 fn read_as<'a>(alloc: Global, value: &Value<'a>) -> Result<Call<'a>, Refusal>
-    ensures { Gives Refusal.OutOfMemory asking result (read_as (part_of value.now)) }
+    ensures { Gives Refusal.OutOfMemory asking result (spec.read_as (part_of value.now)) }
 {
     let spec = inner_value(Tag::context_constructed(1), value).ok_or(Refusal::Bad)?;
     let access = access_as(alloc, &spec)?;
@@ -110,7 +115,7 @@ fn read_as<'a>(alloc: Global, value: &Value<'a>) -> Result<Call<'a>, Refusal>
 
 // The variables that are read.
 fn read_of<'a>(alloc: Global, parts: &[Value<'a>]) -> Result<Call<'a>, Refusal>
-    ensures { Gives Refusal.OutOfMemory asking result (read_of (map part_of parts.now)) }
+    ensures { Gives Refusal.OutOfMemory asking result (spec.read_of (map part_of parts.now)) }
 {
     match parts {
         [spec] => read_as(alloc, spec),
@@ -119,13 +124,14 @@ fn read_of<'a>(alloc: Global, parts: &[Value<'a>]) -> Result<Call<'a>, Refusal>
     }
 }
 
+// The variables that are written, as many as there are data.
 #[tactic(auto, unfolding(crate::specs::Grammar::written_with))]
 fn written_with<'a>(
     alloc: Global,
     access: Access<'a>,
     values: Vec<Data<'a>>,
 ) -> Result<Call<'a>, Refusal>
-    ensures { Gives Refusal.OutOfMemory asking result (written_with (accessed access.entry) (data_in values.entry.items)) }
+    ensures { Gives Refusal.OutOfMemory asking result (spec.written_with (accessed access.entry) (data_in values.entry.items)) }
 {
     match access {
         Access::NamedList => Err(Refusal::Unknown),
@@ -141,7 +147,7 @@ fn written_with<'a>(
 
 // The variables that are written, and their data.
 fn write_of<'a>(alloc: Global, parts: &[Value<'a>]) -> Result<Call<'a>, Refusal>
-    ensures { Gives Refusal.OutOfMemory asking result (write_of (map part_of parts.now)) }
+    ensures { Gives Refusal.OutOfMemory asking result (spec.write_of (map part_of parts.now)) }
 {
     match parts {
         [spec, list] => {
@@ -154,8 +160,9 @@ fn write_of<'a>(alloc: Global, parts: &[Value<'a>]) -> Result<Call<'a>, Refusal>
     }
 }
 
+// Whether this is the tag of another service than those that are read here.
 fn is_unlisted(tag: Tag) -> bool
-    ensures { result ≡ is_unlisted tag }
+    ensures { result ≡ spec.is_unlisted tag }
 {
     match tag.class {
         Class::ContextSpecific => !matches!(tag.number, 1 | 2 | 4 | 5 | 6),
@@ -163,9 +170,10 @@ fn is_unlisted(tag: Tag) -> bool
     }
 }
 
+// A service that is not offered is unknown; anything else is no service.
 #[tactic(auto, unfolding(crate::specs::Grammar::other_as))]
 fn other_as<'a>(value: &Value<'a>) -> Result<Call<'a>, Refusal>
-    ensures asked { Gives Refusal.OutOfMemory asking result (other_as (part_of value.now)) }
+    ensures asked { Gives Refusal.OutOfMemory asking result (spec.other_as (part_of value.now)) }
     ensures memory { IsErrOf result Refusal.OutOfMemory → ⊥ }
 {
     if is_unlisted(value.tag) {
@@ -175,6 +183,7 @@ fn other_as<'a>(value: &Value<'a>) -> Result<Call<'a>, Refusal>
     }
 }
 
+// An identify, which has no content.
 fn identify(content: &[u8]) -> Option<Call<'_>>
     ensures { option_map asking result ≡ nothing content.now asked.identify }
 {
@@ -185,6 +194,7 @@ fn identify(content: &[u8]) -> Option<Call<'_>>
     }
 }
 
+// A request for names by its content.
 fn listing(content: &[u8]) -> Option<Call<'_>>
     ensures { option_map asking result ≡ listing_in content.now }
 {
@@ -195,7 +205,7 @@ fn listing(content: &[u8]) -> Option<Call<'_>>
 /// The service that a value asks for. Only a read or a write takes memory.
 #[tactic(auto, unfolding(crate::specs::Grammar::service_as))]
 pub(crate) fn service_as<'a>(alloc: Global, value: &Value<'a>) -> Result<Call<'a>, Refusal>
-    ensures asked { Gives Refusal.OutOfMemory asking result (service_as (part_of value.now)) }
+    ensures asked { Gives Refusal.OutOfMemory asking result (spec.service_as (part_of value.now)) }
     ensures memory { IsErrOf result Refusal.OutOfMemory → IsTrue (has_list (part_of value.now)) }
 {
     if value.tag.is(Tag::context_constructed(1)) {

@@ -1,7 +1,8 @@
 // The shape of controls: what data are read as, in any range.
 ghost use Rattle.std.specs.Prelude.{◌≡◌, option_map, Some, None};
 ghost use Rattle.bay_mms.specs.Views.{datum_of, data_in};
-ghost use Rattle.bay_mms.specs.Controls.{Operate, truth_as, integer_as, unsigned_as, octets_as, moment_as, position_of, check_as, parts_as, origin_of, origin_as, control_of, cancel_of, operate_of, cancel_as, operate_as};
+ghost use Rattle.bay_mms.specs.Controls.{Operate};
+ghost use Rattle.bay_mms.specs.Controls as spec;
 ghost use Rattle.bay_mms.specs.ControlViews.{shaping};
 
 use crate::data::Data;
@@ -18,8 +19,10 @@ pub struct Shape<'a> {
     pub test: bool,
 }
 
+// The value of data, where they are a truth value; each of the next four takes data of one other
+// type.
 fn truth_as(given: &Data<'_>) -> Option<bool>
-    ensures { result ≡ truth_as (datum_of given.now) }
+    ensures { result ≡ spec.truth_as (datum_of given.now) }
 {
     match given {
         Data::Truth(value) => Some(*value),
@@ -28,7 +31,7 @@ fn truth_as(given: &Data<'_>) -> Option<bool>
 }
 
 fn integer_as(given: &Data<'_>) -> Option<i64>
-    ensures { result ≡ integer_as (datum_of given.now) }
+    ensures { result ≡ spec.integer_as (datum_of given.now) }
 {
     match given {
         Data::Integer(value) => Some(*value),
@@ -37,7 +40,7 @@ fn integer_as(given: &Data<'_>) -> Option<i64>
 }
 
 fn unsigned_as(given: &Data<'_>) -> Option<i64>
-    ensures { result ≡ unsigned_as (datum_of given.now) }
+    ensures { result ≡ spec.unsigned_as (datum_of given.now) }
 {
     match given {
         Data::Unsigned(value) => Some(*value),
@@ -46,7 +49,7 @@ fn unsigned_as(given: &Data<'_>) -> Option<i64>
 }
 
 fn octets_as<'a>(given: &Data<'a>) -> Option<&'a [u8]>
-    ensures { option_map (λ octets. octets.now) result ≡ octets_as (datum_of given.now) }
+    ensures { option_map (λ octets. octets.now) result ≡ spec.octets_as (datum_of given.now) }
 {
     match given {
         Data::Octets(value) => Some(value),
@@ -55,7 +58,7 @@ fn octets_as<'a>(given: &Data<'a>) -> Option<&'a [u8]>
 }
 
 fn moment_as(given: &Data<'_>) -> Option<[u8; 8]>
-    ensures { result ≡ moment_as (datum_of given.now) }
+    ensures { result ≡ spec.moment_as (datum_of given.now) }
 {
     match given {
         Data::Utc(value) => Some(*value),
@@ -65,7 +68,7 @@ fn moment_as(given: &Data<'_>) -> Option<[u8; 8]>
 
 // The position that the two highest bits of an octet are.
 fn position_of(octet: u8) -> Option<Dbpos>
-    ensures { result ≡ position_of octet }
+    ensures { result ≡ spec.position_of octet }
 {
     match octet / 64 {
         0 => Some(Dbpos::Intermediate),
@@ -78,7 +81,7 @@ fn position_of(octet: u8) -> Option<Dbpos>
 
 // Two bits (IEC 61850-8-1, Check).
 fn check_as(given: &Data<'_>) -> Option<Dbpos>
-    ensures { result ≡ check_as (datum_of given.now) }
+    ensures { result ≡ spec.check_as (datum_of given.now) }
 {
     match given {
         Data::Bits(bits) if bits.count == 2 => position_of(*bits.octets.first()?),
@@ -86,8 +89,9 @@ fn check_as(given: &Data<'_>) -> Option<Dbpos>
     }
 }
 
+// The components of a structure.
 fn parts_as<'b, 'a>(given: &'b Data<'a>) -> Option<&'b [Data<'a>]>
-    ensures { option_map (λ parts. data_in parts.now) result ≡ parts_as (datum_of given.now) }
+    ensures { option_map (λ parts. data_in parts.now) result ≡ spec.parts_as (datum_of given.now) }
 {
     match given {
         Data::Structure(parts) => Some(parts.as_slice()),
@@ -95,8 +99,9 @@ fn parts_as<'b, 'a>(given: &'b Data<'a>) -> Option<&'b [Data<'a>]>
     }
 }
 
+// An originator: its category and its identity.
 fn origin_of<'a>(parts: &[Data<'a>]) -> Option<(i64, &'a [u8])>
-    ensures { option_map (λ origin. record { or_cat = origin.0; or_ident = origin.1.now }) result ≡ origin_of (data_in parts.now) }
+    ensures { option_map (λ origin. record { or_cat = origin.0; or_ident = origin.1.now }) result ≡ spec.origin_of (data_in parts.now) }
 {
     match parts {
         [category, identity] => {
@@ -108,9 +113,10 @@ fn origin_of<'a>(parts: &[Data<'a>]) -> Option<(i64, &'a [u8])>
     }
 }
 
+// An originator, where data are a structure of the two.
 #[tactic(auto, unfolding(crate::specs::Controls::origin_as))]
 fn origin_as<'a>(given: &Data<'a>) -> Option<(i64, &'a [u8])>
-    ensures { option_map (λ origin. record { or_cat = origin.0; or_ident = origin.1.now }) result ≡ origin_as (datum_of given.now) }
+    ensures { option_map (λ origin. record { or_cat = origin.0; or_ident = origin.1.now }) result ≡ spec.origin_as (datum_of given.now) }
 {
     origin_of(parts_as(given)?)
 }
@@ -124,7 +130,7 @@ fn control_of<'a>(
     moment: &Data<'a>,
     test: &Data<'a>,
 ) -> Option<Shape<'a>>
-    ensures { option_map shaping result ≡ control_of (datum_of value.now) (datum_of origin.now) (datum_of number.now) (datum_of moment.now) (datum_of test.now) }
+    ensures { option_map shaping result ≡ spec.control_of (datum_of value.now) (datum_of origin.now) (datum_of number.now) (datum_of moment.now) (datum_of test.now) }
 {
     let ctl_val = truth_as(value)?;
     let (or_cat, or_ident) = origin_as(origin)?;
@@ -141,8 +147,9 @@ fn control_of<'a>(
     })
 }
 
+// A Cancel has the five components of a control, in this order.
 fn cancel_of<'a>(parts: &[Data<'a>]) -> Option<Shape<'a>>
-    ensures { option_map shaping result ≡ cancel_of (data_in parts.now) }
+    ensures { option_map shaping result ≡ spec.cancel_of (data_in parts.now) }
 {
     match parts {
         [value, origin, number, moment, test] => control_of(value, origin, number, moment, test),
@@ -150,8 +157,9 @@ fn cancel_of<'a>(parts: &[Data<'a>]) -> Option<Shape<'a>>
     }
 }
 
+// An Oper has the five components of a control, and its checks behind them.
 fn operate_of<'a>(parts: &[Data<'a>]) -> Option<(Shape<'a>, Dbpos)>
-    ensures { option_map (λ found. record { control = shaping found.0; check = found.1 }) result ≡ operate_of (data_in parts.now) }
+    ensures { option_map (λ found. record { control = shaping found.0; check = found.1 }) result ≡ spec.operate_of (data_in parts.now) }
 {
     match parts {
         [value, origin, number, moment, test, check] => {
@@ -166,7 +174,7 @@ fn operate_of<'a>(parts: &[Data<'a>]) -> Option<(Shape<'a>, Dbpos)>
 /// What is cancelled, where data have the shape of a Cancel.
 #[tactic(auto, unfolding(crate::specs::Controls::cancel_as))]
 pub(crate) fn cancel_as<'a>(given: &Data<'a>) -> Option<Shape<'a>>
-    ensures { option_map shaping result ≡ cancel_as (datum_of given.now) }
+    ensures { option_map shaping result ≡ spec.cancel_as (datum_of given.now) }
 {
     cancel_of(parts_as(given)?)
 }
@@ -174,7 +182,7 @@ pub(crate) fn cancel_as<'a>(given: &Data<'a>) -> Option<Shape<'a>>
 /// What is operated, with its checks, where data have the shape of an Oper.
 #[tactic(auto, unfolding(crate::specs::Controls::operate_as))]
 pub(crate) fn operate_as<'a>(given: &Data<'a>) -> Option<(Shape<'a>, Dbpos)>
-    ensures { option_map (λ found. record { control = shaping found.0; check = found.1 }) result ≡ operate_as (datum_of given.now) }
+    ensures { option_map (λ found. record { control = shaping found.0; check = found.1 }) result ≡ spec.operate_as (datum_of given.now) }
 {
     operate_of(parts_as(given)?)
 }

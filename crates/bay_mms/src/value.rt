@@ -78,8 +78,8 @@ fn put_component_list(writer: &mut Writer, start: usize) -> Result<(), WriteFaul
     put_around(writer, start, Tag::context_constructed(2))
 }
 
-/// The text of the data of a row (IEC 61850-8-1, the mapping of values to MMS data); TooLong where it would have 2^32 octets
-/// or more.
+/// The text of the data of a row (IEC 61850-8-1, the mapping of values to MMS data); TooLong where
+/// it would have 2^32 octets or more.
 pub fn write_value(alloc: Global, tree: &Tree, handle: Handle) -> Result<Vec<u8>, WriteFault>
     requires { IsHandle tree.now handle }
     ensures { Gives WriteFault.OutOfMemory (λ octets. octets.items) result (written (datum_text (data_at tree.now handle))) }
@@ -89,7 +89,8 @@ pub fn write_value(alloc: Global, tree: &Tree, handle: Handle) -> Result<Vec<u8>
     Ok(writer.finish())
 }
 
-/// The text of the type of a row (ISO 9506-2, TypeSpecification); TooLong where it would have 2^32 octets or more.
+/// The text of the type of a row (ISO 9506-2, TypeSpecification); TooLong where it would have 2^32
+/// octets or more.
 pub fn write_type(alloc: Global, tree: &Tree, handle: Handle) -> Result<Vec<u8>, WriteFault>
     requires { IsHandle tree.now handle }
     ensures { Gives WriteFault.OutOfMemory (λ octets. octets.items) result (written (type_text (type_at tree.now handle))) }

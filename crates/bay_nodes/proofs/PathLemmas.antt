@@ -1,4 +1,5 @@
--- The rows of one node follow the rows of others: a node's name is a word, and its rows' names are that word and a path.
+-- The rows of one node follow the rows of others: a node's name is a word, and its rows' names are
+-- that word and a path.
 use Rattle.std.proofs.Common.{◌≡◌, ◌≢◌, ℕ, suc, ◌+◌, ◌<◌, Bool, true, false, not, ◌&&◌, ◌||◌, cond, nat_eq, List, [], ◌∷◌, ◌++◌, length, map, get_or, Option, None, Some, is_none, IfSome, Any, append_assoc, append-nil, refl, sym, ap, subst, ◌∙◌, ◌⊎◌, inl, inr, arith, length-append}
 use Rattle.std.proofs.lemmas.Bool.{and_parts}
 use Rattle.std.proofs.lemmas.List.{append_cancel_left, get_or-append-add, get_or-map, length-map, map-append}

@@ -1,5 +1,5 @@
--- The names of the rows that are found by them (IEC 61850-7-4: XCBR, XSWI, CSWI, CILO and MMXU; IEC 61850-8-1: names of
--- variables).
+-- The names of the rows that are found by them (IEC 61850-7-4: XCBR, XSWI, CSWI, CILO and MMXU; IEC
+-- 61850-8-1: names of variables).
 use Rattle.std.specs.Prelude.{ℕ, ◌+◌, List, ◌++◌, codes}
 use Rattle.bay_nodes.specs.declared.paths.StatusPaths.{StatusPaths}
 use Rattle.bay_nodes.specs.declared.switch.Switch.{Switch}
@@ -46,8 +46,8 @@ opening_names node = status_names node (codes "$ST$EnaOpn")
 abbrev pub closing_names : List ℕ → StatusNames
 closing_names node = status_names node (codes "$ST$EnaCls")
 
--- the names of a switch's position, of its position as its control repeats it, of the count of its operations and of
--- its two interlocking values
+-- the names of a switch's position, of its position as its control repeats it, of the count of its
+-- operations and of its two interlocking values
 pub record SwitchNames : Type 0 where
   pub position : StatusNames
   pub control : StatusNames
@@ -87,8 +87,9 @@ closing_of k = closing_names (interlocking_of k)
 abbrev pub switch_names : List Switch → ℕ → Switch → SwitchNames
 switch_names switches k switch = names_by_nodes (node_of switches k switch) (control_of k) (interlocking_of k)
 
--- the names of a control: whether its switch is selected, and the rows by which it is selected, selected with a value and
--- operated, and its selection given up (IEC 61850-7-2, control; IEC 61850-8-1, SBO, SBOw, Oper and Cancel)
+-- the names of a control: whether its switch is selected, and the rows by which it is selected,
+-- selected with a value and operated, and its selection given up (IEC 61850-7-2, control; IEC
+-- 61850-8-1, SBO, SBOw, Oper and Cancel)
 pub record ControlNames : Type 0 where
   pub selected : List ℕ
   pub select : List ℕ

@@ -1,4 +1,5 @@
--- The logical nodes of a bay (IEC 61850-7-4), as rows of the tree (IEC 61850-8-1, names of named variables).
+-- The logical nodes of a bay (IEC 61850-7-4), as rows of the tree (IEC 61850-8-1, names of named
+-- variables).
 use Rattle.std.specs.Prelude.{ℕ, ◌+◌, pos, Bool, true, false, not, List, [], ◌∷◌, ◌++◌, map, filter, take, length, codes, Option, None, Some}
 use Rattle.std.specs.List.{flat_map, enumerate_from}
 use Rattle.std.specs.Fmt.{decimal}
@@ -66,7 +67,8 @@ status name v q = inside name (value (codes "stVal") v ∷ stamp q)
 abbrev pub status_only : List ℕ → Part
 status_only name = inside name (value (codes "ctlModel") (Int8 (pos 0)) ∷ [])
 
--- the parts of LLN0, with the texts of the nameplate: mode, behaviour and health are 1, `on` and `ok`
+-- the parts of LLN0, with the texts of the nameplate: mode, behaviour and health are 1, `on` and
+-- `ok`
 abbrev pub device_parts : Nameplate → Parts
 device_parts n =
     parts_of

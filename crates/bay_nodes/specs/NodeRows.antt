@@ -1,5 +1,5 @@
--- The rows of nodes as tables hold them: what the lines of a table begin with, and the rows of the groups that are
--- appended one after the other.
+-- The rows of nodes as tables hold them: what the lines of a table begin with, and the rows of the
+-- groups that are appended one after the other.
 use Rattle.std.specs.Prelude.{ℕ, pos, false, List, [], ◌∷◌, ◌++◌, map, codes, Option, None, Some}
 use Rattle.std.specs.Borrow.{Bor}
 use Rattle.bay_tree.specs.declared.row.Row.{Row}

@@ -1,7 +1,8 @@
 // What a device tells of itself.
 use bay_base::text::Text;
 
-/// What the section `bay` of a bay file says: the device's name and maker, and how old a scan may be.
+/// What the section `bay` of a bay file says: the device's name and maker, and how old a scan may
+/// be.
 #[derive(Drop)]
 pub struct Nameplate {
     pub domain: Text,

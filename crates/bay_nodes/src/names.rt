@@ -1,6 +1,6 @@
 // The classes of nodes (IEC 61850-7-4), and their names.
 ghost use Rattle.std.specs.Prelude.{◌≡◌, IfOk};
-ghost use Rattle.bay_nodes.specs.Node.{is_breaker, is_of, class_of, node_name};
+ghost use Rattle.bay_nodes.specs.Node as spec;
 
 use crate::switch::{Switch, SwitchKind};
 use bay_base::text::Text;
@@ -17,14 +17,14 @@ pub const METER: &str = "MMXU";
 
 /// Whether a switch is a circuit breaker.
 pub fn is_breaker(kind: SwitchKind) -> bool
-    ensures { result ≡ is_breaker kind }
+    ensures { result ≡ spec.is_breaker kind }
 {
     kind == SwitchKind::Breaker
 }
 
 /// Whether the switch is one of the breakers, or one of the others.
 pub fn is_of(breakers: bool, switch: &Switch) -> bool
-    ensures { result ≡ is_of breakers switch.now }
+    ensures { result ≡ spec.is_of breakers switch.now }
 {
     if breakers {
         is_breaker(switch.kind)
@@ -35,7 +35,7 @@ pub fn is_of(breakers: bool, switch: &Switch) -> bool
 
 /// The class of a switch's node: XCBR for a breaker, XSWI for another switch (IEC 61850-7-4).
 pub fn class_of(kind: SwitchKind) -> &'static str
-    ensures { result.now ≡ class_of kind }
+    ensures { result.now ≡ spec.class_of kind }
 {
     match kind {
         SwitchKind::Breaker => "XCBR",
@@ -45,7 +45,7 @@ pub fn class_of(kind: SwitchKind) -> &'static str
 
 /// The name of a node: its class and its number.
 pub fn node_name(alloc: Global, class: &str, number: usize) -> Result<Text, AllocError>
-    ensures { IfOk result (λ name. name ≡ node_name class.now number) }
+    ensures { IfOk result (λ name. name ≡ spec.node_name class.now number) }
 {
     Ok(Text::new(format!(in alloc; "{class}{number}")?))
 }

@@ -1,6 +1,8 @@
-// The paths of the rows that are found by their names: what stands behind a node's name (IEC 61850-8-1, names of variables).
+// The paths of the rows that are found by their names: what stands behind a node's name (IEC
+// 61850-8-1, names of variables).
 
-/// The paths of a data object, and of its value with the value's quality and moment (IEC 61850-7-3).
+/// The paths of a data object, and of its value with the value's quality and moment (IEC
+/// 61850-7-3).
 #[derive(Clone, Copy)]
 pub struct StatusPaths {
     pub object: &'static str,
@@ -90,7 +92,8 @@ pub const PHASE_C: StatusPaths = StatusPaths {
 /// Whether a switch is selected (IEC 61850-7-3, stSeld).
 pub const SELECTED: &str = "$ST$Pos$stSeld";
 
-/// By which a switch is selected, or selected with a value, operated, and its selection given up (IEC 61850-8-1).
+/// By which a switch is selected, or selected with a value, operated, and its selection given up
+/// (IEC 61850-8-1).
 pub const SELECT: &str = "$CO$Pos$SBO";
 
 pub const SELECT_WITH_VALUE: &str = "$CO$Pos$SBOw";

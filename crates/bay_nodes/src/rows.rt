@@ -2,8 +2,10 @@
 ghost use Rattle.std.specs.Prelude.{◌≡◌, ◌<◌, ◌^◌, length, ◌++◌, ◌∷◌, [], codes, map, None, IfOk};
 ghost use Rattle.std.specs.List.{flat_map};
 ghost use Rattle.bay_tree.specs.Rows.{IsTree};
-ghost use Rattle.bay_nodes.specs.Node.{row, rows_of, node_rows, operation, cancelling, position_parts, control_parts, interlocking_parts, meter_parts, class_of, node_name, device_node, physical_node, position_node, position_nodes, control_node, control_nodes, interlocking_nodes, meter_nodes, rows_of_all};
-ghost use Rattle.bay_nodes.specs.NodeRows.{leaf_from, line_row, under, table_rows, group_row, command_rows};
+ghost use Rattle.bay_nodes.specs.Node.{row, node_rows, operation, cancelling, position_parts, control_parts, interlocking_parts, meter_parts, class_of, device_node, physical_node, position_node, position_nodes, control_node, control_nodes, interlocking_nodes, meter_nodes, rows_of_all};
+ghost use Rattle.bay_nodes.specs.Node as spec;
+ghost use Rattle.bay_nodes.specs.NodeRows.{line_row, under, table_rows, group_row, command_rows};
+ghost use Rattle.bay_nodes.specs.NodeRows as spec_node_rows;
 
 use crate::nameplate::Nameplate;
 use crate::names::{CONTROL, INTERLOCKING, METER, class_of, is_of, node_name};
@@ -22,7 +24,7 @@ fn leaf_from(
     nameplate: &Nameplate,
     start: InitialValue,
 ) -> Result<Option<Leaf>, AllocError>
-    ensures { IfOk result (λ leaf. leaf ≡ leaf_from nameplate.now start) }
+    ensures { IfOk result (λ leaf. leaf ≡ spec_node_rows.leaf_from nameplate.now start) }
 {
     let leaf = match start {
         InitialValue::Structure => return Ok(None),
@@ -127,7 +129,7 @@ fn push_selection(
     node: &str,
     select: &[(&str, InitialValue)],
 ) -> Result<(), AllocError>
-    ensures { let operate = rows_of (codes "$CO$Pos") (operation (codes "Oper")) in let cancel = rows_of (codes "$CO$Pos") cancelling in
+    ensures { let operate = spec.rows_of (codes "$CO$Pos") (operation (codes "Oper")) in let cancel = spec.rows_of (codes "$CO$Pos") cancelling in
         IfOk result (λ _. rows.new.items ≡ rows.old.items ++ map (under node.now) (group_row ++ (map (line_row nameplate.now) select.now ++ (operate ++ cancel)))) }
 {
     push_table(alloc, rows, nameplate, node, tables::group_table())?;
@@ -233,7 +235,7 @@ fn push_interlocking(
     nameplate: &Nameplate,
     number: usize,
 ) -> Result<(), AllocError>
-    ensures { IfOk result (λ _. rows.new.items ≡ rows.old.items ++ node_rows (record { name = node_name (codes "CILO") number; parts = interlocking_parts })) }
+    ensures { IfOk result (λ _. rows.new.items ≡ rows.old.items ++ node_rows (record { name = spec.node_name (codes "CILO") number; parts = interlocking_parts })) }
 {
     let node = node_name(alloc, INTERLOCKING, number)?;
     push_node(
@@ -253,7 +255,7 @@ fn push_meter(
     nameplate: &Nameplate,
     number: usize,
 ) -> Result<(), AllocError>
-    ensures { IfOk result (λ _. rows.new.items ≡ rows.old.items ++ node_rows (record { name = node_name (codes "MMXU") number; parts = meter_parts })) }
+    ensures { IfOk result (λ _. rows.new.items ≡ rows.old.items ++ node_rows (record { name = spec.node_name (codes "MMXU") number; parts = meter_parts })) }
 {
     let node = node_name(alloc, METER, number)?;
     push_node(alloc, rows, nameplate, node.as_str(), tables::meter_table())?;
@@ -325,8 +327,8 @@ fn push_meters(
     Ok(())
 }
 
-/// The rows of a bay's nodes with the values of the start: those of the device, the breakers, the other
-/// switches, the controls, the interlocking, and the meters.
+/// The rows of a bay's nodes with the values of the start: those of the device, the breakers, the
+/// other switches, the controls, the interlocking, and the meters.
 pub fn rows_of(
     alloc: Global,
     nameplate: &Nameplate,

@@ -4,11 +4,13 @@ use bay_base::text::Text;
 /// A switching device (IEC 61850-7-4, XCBR and XSWI) and the way it is controlled.
 #[derive(Debug, Drop)]
 pub struct Switch {
-    /// The name as the file spells it: a letter, then letters, digits and `_`, at most 16 characters.
+    /// The name as the file spells it: a letter, then letters, digits and `_`, at most 16
+    /// characters.
     pub id: Text,
     pub kind: SwitchKind,
     pub control: Control,
-    /// How long a selection lasts, in milliseconds, 1 to 600,000; 0 where `control` has no selection.
+    /// How long a selection lasts, in milliseconds, 1 to 600,000; 0 where `control` has no
+    /// selection.
     pub sbo_timeout_ms: u32,
     /// How long the switch may travel, in milliseconds, 1 to 600,000; 0 where it is not controlled.
     pub travel_ms: u32,

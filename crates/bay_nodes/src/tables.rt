@@ -1,5 +1,5 @@
-// The rows of each logical node, in the order of the tree: the path from the node to the row, and what the row
-// begins with (IEC 61850-7-4; IEC 61850-8-1, names of variables).
+// The rows of each logical node, in the order of the tree: the path from the node to the row, and
+// what the row begins with (IEC 61850-7-4; IEC 61850-8-1, names of variables).
 ghost use Rattle.std.specs.Prelude.{◌≡◌, map, codes, ◌∷◌, []};
 ghost use Rattle.bay_nodes.specs.Node as node;
 ghost use Rattle.bay_nodes.specs.NodeRows.{line_row, status_group, type_rows, position_model, group_row, select_row, control_group, control_model};

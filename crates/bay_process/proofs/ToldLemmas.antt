@@ -1,4 +1,5 @@
--- What the last scan wrote stands until the next one: no contact and no measure writes an interlocking value.
+-- What the last scan wrote stands until the next one: no contact and no measure writes an
+-- interlocking value.
 use Rattle.std.proofs.Common.{◌≡◌, ◌≢◌, ℕ, ℤ, pos, ◌+ℤ◌, int_lt, zero, suc, ◌+◌, ◌<◌, ◌^◌, Bool, true, false, cond, ◌&&◌, nat_eq, List, [], ◌∷◌, ◌++◌, length, map, find, get_or, drop, codes, slice_set, Option, Some, None, option_and_then, refl, ap, sym, subst, ◌∙◌, arith}
 use Rattle.std.specs.Char.{digit_value}
 use Rattle.std.specs.Fmt.{decimal}

@@ -12,7 +12,8 @@ use Rattle.bay_process.specs.declared.controls.ControlRows.{ControlRows}
 abbrev pub HaveSelected : List Row → ℕ → Type 0
 HaveSelected rows count = (k : ℕ) → k < count → HasLeaf rows (control_names k).selected kind.Truth
 
--- each handle is where the row of its name stands, if there is one; there is one that tells whether the switch is selected
+-- each handle is where the row of its name stands, if there is one; there is one that tells whether
+-- the switch is selected
 pub record AreControlRows (rows : List Row) (names : ControlNames) (handles : ControlRows) : Type 0 where
   pub selected : place_of rows names.selected ≡ Some handles.selected
   pub selected_kind : HasKind (layout_of rows) handles.selected kind.Truth

@@ -1,4 +1,5 @@
--- Where the values of switches and meters stand in a tree: the names and the kinds of the rows at their handles.
+-- Where the values of switches and meters stand in a tree: the names and the kinds of the rows at
+-- their handles.
 use Rattle.std.specs.Prelude.{◌≡◌, ℕ, ◌+◌, List, [], ◌∷◌, map, Option, Some, None, All, position, slice_get, slice_index_or}
 use Rattle.bay_tree.specs.Rows.{names_of, kinds_of}
 use Rattle.bay_tree.specs.declared.row.Row.{Row}
@@ -68,7 +69,8 @@ AreKinded layout bound = All (λ b. AreSwitchRows layout b.rows) bound
 abbrev pub switches_of : List BoundSwitch → List Switch
 switches_of bound = map (λ b. b.switch) bound
 
--- among the points that may be written, the places of the interlocking values of the switch at a place
+-- among the points that may be written, the places of the interlocking values of the switch at a
+-- place
 abbrev pub outputs_at : List Source → ℕ → SwitchOutputs
 outputs_at writes k = record { ena_opn = position (is_point k EnableOpen) writes; ena_cls = position (is_point k EnableClose) writes }
 

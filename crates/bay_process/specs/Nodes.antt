@@ -1,4 +1,5 @@
--- The rows of a bay's switches by the names of their nodes, and the handles that a tree gives for them.
+-- The rows of a bay's switches by the names of their nodes, and the handles that a tree gives for
+-- them.
 use Rattle.std.specs.Prelude.{◌≡◌, ◌≢◌, ℕ, ◌+◌, codes, List, Some, None, option_map, slice_get}
 use Rattle.bay_tree.specs.Kinds.{kind_of}
 use Rattle.bay_tree.specs.Rows.{name_at, leaf_at, leaf_of}

@@ -1,5 +1,5 @@
--- What contacts, inputs, measures and a scan's outputs make of the rows of a tree (IEC 61850-7-4: XCBR, XSWI, CSWI, CILO and MMXU;
--- IEC 61850-7-3: status values and measured values).
+-- What contacts, inputs, measures and a scan's outputs make of the rows of a tree (IEC 61850-7-4:
+-- XCBR, XSWI, CSWI, CILO and MMXU; IEC 61850-7-3: status values and measured values).
 use Rattle.std.specs.Prelude.{ℕ, ℤ, ◌+◌, Bool, true, false, not, ◌&&◌, ◌==◌, pos, ◌+ℤ◌, int_lt, List, [], ◌∷◌, position, slice_get, Option, None, Some, if◌then◌else◌}
 use Rattle.std.specs.Ordering.{int_eq}
 use Rattle.bay_tree.specs.Rows.{leaf_of, with_leaf_of}
@@ -83,7 +83,8 @@ abbrev pub tells : StatusNames → Dbpos → List Row → Bool
 tells names position rows =
     is_position position (leaf_of names.value rows) && is_quality (position_quality position) (leaf_of names.quality rows)
 
--- the rows after a contact that changes the value or the quality of a position, which the control repeats
+-- the rows after a contact that changes the value or the quality of a position, which the control
+-- repeats
 abbrev pub rows_after_change : SwitchNames → Dbpos → ℕ → List Row → List Row
 rows_after_change names position now rows =
     let told = with_status names.position (leaf.Dbpos position) (position_quality position) now rows in

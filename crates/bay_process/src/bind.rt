@@ -1,9 +1,10 @@
 // The points of a verified image on those of a bay.
 ghost use Rattle.std.specs.Prelude.{◌≡◌, false, length, map, option_map, position, find, None, IfOk};
 ghost use Rattle.il_verify.specs.Binding.{is_point as is_image_point};
-ghost use Rattle.bay_process.specs.Values.{same_point, is_point};
-ghost use Rattle.bay_process.specs.Layout.{bound_from, outputs_at};
-ghost use Rattle.bay_process.specs.Sources.{source_of, sources_of};
+ghost use Rattle.bay_process.specs.Values as spec;
+ghost use Rattle.bay_process.specs.Layout.{bound_from};
+ghost use Rattle.bay_process.specs.Layout as spec_layout;
+ghost use Rattle.bay_process.specs.Sources as spec_sources;
 
 use crate::rows::SwitchRows;
 use crate::switch::{BoundSwitch, SwitchOutputs};
@@ -25,20 +26,21 @@ fn is_same(point: &ImagePoint, other: &Point) -> bool
 
 /// What an image's point stands for in the bay, if it is one of the bay's.
 fn source_of(bay: &[Point], point: &ImagePoint) -> Option<Source>
-    ensures { result ≡ source_of bay.now point.now }
+    ensures { result ≡ spec_sources.source_of bay.now point.now }
 {
     let found = bay.iter().find(|other| is_same(point, other))?;
     Some(found.source)
 }
 
-/// What those of an image's points stand for that may be written, or those that may not, in their order.
+/// What those of an image's points stand for that may be written, or those that may not, in their
+/// order.
 pub fn sources_of(
     alloc: Global,
     writable: bool,
     bay: &[Point],
     points: &[ImagePoint],
 ) -> Result<Vec<Source>, AllocError>
-    ensures { IfOk result (λ sources. sources.items ≡ sources_of writable bay.now points.now) }
+    ensures { IfOk result (λ sources. sources.items ≡ spec_sources.sources_of writable bay.now points.now) }
 {
     let mut sources = Vec::new(alloc);
     for point in points {
@@ -52,14 +54,14 @@ pub fn sources_of(
 }
 
 fn same_point(first: SwitchPoint, second: SwitchPoint) -> bool
-    ensures { result ≡ same_point first second }
+    ensures { result ≡ spec.same_point first second }
 {
     first == second
 }
 
 /// Whether this is a point of the switch at a place.
 fn is_point(source: Source, switch: usize, point: SwitchPoint) -> bool
-    ensures { result ≡ is_point switch point source }
+    ensures { result ≡ spec.is_point switch point source }
 {
     match source {
         Source::Switch {
@@ -72,16 +74,17 @@ fn is_point(source: Source, switch: usize, point: SwitchPoint) -> bool
 
 /// The place of a point of the switch at a place, if it is among these.
 fn output_place(writes: &[Source], switch: usize, point: SwitchPoint) -> Option<usize>
-    ensures { result ≡ position (is_point switch point) writes.now }
+    ensures { result ≡ position (spec.is_point switch point) writes.now }
 {
     writes
         .iter()
         .position(|source| is_point(*source, switch, point))
 }
 
-/// The places of the interlocking values of the switch at a place, among the points that may be written.
+/// The places of the interlocking values of the switch at a place, among the points that may be
+/// written.
 fn outputs_at(writes: &[Source], switch: usize) -> SwitchOutputs
-    ensures { result ≡ outputs_at writes.now switch }
+    ensures { result ≡ spec_layout.outputs_at writes.now switch }
 {
     SwitchOutputs {
         ena_opn: output_place(writes, switch, SwitchPoint::EnableOpen),

@@ -1,7 +1,8 @@
 // What a contact does to the rows of its switch (IEC 61850-7-4, XCBR and XSWI: Pos and OpCnt).
 ghost use Rattle.std.specs.Prelude.{◌≡◌, not};
 ghost use Rattle.bay_tree.specs.declared.leaf.Kind.TheVariants as kind;
-ghost use Rattle.bay_process.specs.Values.{position_quality, is_end_position, operation_counted, tells, rows_after_change, rows_after_contact};
+ghost use Rattle.bay_process.specs.Values.{operation_counted, rows_after_change, rows_after_contact};
+ghost use Rattle.bay_process.specs.Values as spec;
 ghost use Rattle.bay_process.specs.Layout.{layout_of, status_in, switch_in, AreStatusRows, AreSwitchRows};
 
 use crate::rows::{StatusRows, SwitchRows, count_at, is_position, is_quality, put, put_status};
@@ -10,7 +11,7 @@ use bay_tree::tree::Tree;
 
 /// The quality of a position (IEC 61850-7-3).
 fn position_quality(position: Dbpos) -> Quality
-    ensures { result ≡ position_quality position }
+    ensures { result ≡ spec.position_quality position }
 {
     match position {
         Dbpos::Bad => Quality::Invalid,
@@ -20,7 +21,7 @@ fn position_quality(position: Dbpos) -> Quality
 
 /// Whether a position is one of the two ends.
 fn is_end_position(position: Dbpos) -> bool
-    ensures { result ≡ is_end_position position }
+    ensures { result ≡ spec.is_end_position position }
 {
     match position {
         Dbpos::Off | Dbpos::On => true,
@@ -44,14 +45,15 @@ fn count_operation(tree: &mut Tree, rows: StatusRows, now: u64)
 /// Whether a position stands there already, with its quality.
 fn tells(tree: &Tree, rows: StatusRows, position: Dbpos) -> bool
     requires { AreStatusRows (layout_of tree.now) kind.Dbpos rows }
-    ensures { result ≡ tells (status_in (layout_of tree.now) rows) position tree.now }
+    ensures { result ≡ spec.tells (status_in (layout_of tree.now) rows) position tree.now }
 {
     let is_same = is_position(tree, rows.value, position);
     let has_same_quality = is_quality(tree, rows.quality, position_quality(position));
     is_same && has_same_quality
 }
 
-/// Writes a switch's new position, which its control repeats, and which is counted where it reaches an end.
+/// Writes a switch's new position, which its control repeats, and which is counted where it reaches
+/// an end.
 fn put_position(tree: &mut Tree, rows: &SwitchRows, position: Dbpos, now: u64)
     requires { AreSwitchRows (layout_of tree.old) rows.now }
     ensures rows { tree.new ≡ rows_after_change (switch_in (layout_of tree.old) rows.now) position now tree.old }
@@ -81,7 +83,7 @@ fn put_position(tree: &mut Tree, rows: &SwitchRows, position: Dbpos, now: u64)
 /// Takes a switch's position, and answers whether that changed its value or its quality.
 pub fn take_position(tree: &mut Tree, rows: &SwitchRows, position: Dbpos, now: u64) -> bool
     requires { AreSwitchRows (layout_of tree.old) rows.now }
-    ensures changed { result ≡ not (tells (status_in (layout_of tree.old) rows.now.position) position tree.old) }
+    ensures changed { result ≡ not (spec.tells (status_in (layout_of tree.old) rows.now.position) position tree.old) }
     ensures rows { tree.new ≡ rows_after_contact (switch_in (layout_of tree.old) rows.now) position now tree.old }
     ensures layout { layout_of tree.new ≡ layout_of tree.old }
 {

@@ -1,4 +1,5 @@
-// Where the controls of a bay's switches stand in its tree (IEC 61850-8-1: stSeld, SBO, SBOw, Oper and Cancel).
+// Where the controls of a bay's switches stand in its tree (IEC 61850-8-1: stSeld, SBO, SBOw, Oper
+// and Cancel).
 ghost use Rattle.std.specs.Prelude.{◌≡◌, ◌++◌, ℕ, List, codes, length, Some, IfOk};
 ghost use Rattle.bay_tree.specs.Rows.{place_of};
 ghost use Rattle.bay_tree.specs.declared.leaf.Kind.TheVariants as kind;
@@ -14,8 +15,8 @@ use bay_nodes::paths::{CANCEL, OPERATE, SELECT, SELECT_WITH_VALUE, SELECTED};
 use bay_tree::tree::{Handle, Tree};
 use std::alloc::{AllocError, Global};
 
-/// Where the rows of a switch's control stand: the one that tells whether the switch is selected, and those by which it is
-/// controlled, as many as its kind of control has.
+/// Where the rows of a switch's control stand: the one that tells whether the switch is selected,
+/// and those by which it is controlled, as many as its kind of control has.
 #[derive(Clone, Copy, Debug)]
 pub struct ControlRows {
     /// Whether the switch is selected: `stSeld`.
@@ -87,7 +88,10 @@ pub fn control_rows(
     Ok(controls)
 }
 
-/// The rows of a control stay where they are with each new value of a row. Does nothing; its contract is the law.
+/// The rows of a control stay where they are with each new value of a row. Does nothing; its
+/// contract is the law.
 pub fn control_rows_stay()
-    ensures { (before after : List Row) (names : ControlNames) (handles : declared.ControlRows) → layout_of before ≡ layout_of after → AreControlRows before names handles → AreControlRows after names handles }
+    ensures { (before after : List Row) (names : ControlNames) (handles : declared.ControlRows)
+        → layout_of before ≡ layout_of after → AreControlRows before names handles
+        → AreControlRows after names handles }
 {}

@@ -1,9 +1,9 @@
 // The measured values of a meter (IEC 61850-7-4, MMXU; IEC 61850-7-3, MV and CMV).
 ghost use Rattle.std.specs.Prelude.{◌≡◌, not};
-ghost use Rattle.std.specs.Ordering.{int_eq};
 ghost use Rattle.bay_tree.specs.declared.leaf.Kind.TheVariants as kind;
 ghost use Rattle.bay_tree.specs.Rows.{leaf_of};
-ghost use Rattle.bay_process.specs.Values.{is_number, tells_measure, rows_after_measure};
+ghost use Rattle.bay_process.specs.Values.{tells_measure, rows_after_measure};
+ghost use Rattle.bay_process.specs.Values as spec;
 ghost use Rattle.bay_process.specs.Layout.{layout_of, name_in, status_in, field_rows, HasKind, AreStatusRows};
 
 use crate::rows::{StatusRows, count_at, is_quality, put_status};
@@ -47,18 +47,12 @@ impl MeterRows {
     }
 }
 
-fn same_number(first: i32, second: i32) -> bool
-    ensures { result ≡ int_eq first second }
-{
-    first == second
-}
-
 /// Whether a number stands there.
 fn is_number(tree: &Tree, handle: Handle, number: i32) -> bool
     requires { HasKind (layout_of tree.now) handle kind.Int32 }
-    ensures { result ≡ is_number number (leaf_of (name_in (layout_of tree.now) handle) tree.now) }
+    ensures { result ≡ spec.is_number number (leaf_of (name_in (layout_of tree.now) handle) tree.now) }
 {
-    same_number(number, count_at(tree, handle))
+    number == count_at(tree, handle)
 }
 
 /// Takes a measured value, and answers whether that changed it or its quality.

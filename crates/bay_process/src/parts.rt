@@ -24,7 +24,8 @@ use std::alloc::{AllocError, Global};
 #[derive(Drop)]
 pub struct WiredMachine {
     pub machine: Machine,
-    /// What the points stand for that the program only reads, and those that it may write, in the order of its points.
+    /// What the points stand for that the program only reads, and those that it may write, in the
+    /// order of its points.
     pub reads: Vec<Source>,
     pub writes: Vec<Source>,
 }
@@ -87,7 +88,8 @@ pub struct BoundRows {
     pub told: ToldValues,
 }
 
-/// The switches of a bay with their rows, which their nodes name, and the places of their interlocking values.
+/// The switches of a bay with their rows, which their nodes name, and the places of their
+/// interlocking values.
 fn bound_switches(
     alloc: Global,
     tree: &Tree,

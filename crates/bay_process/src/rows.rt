@@ -4,7 +4,8 @@ ghost use Rattle.bay_tree.specs.declared.leaf.Kind.TheVariants as kind;
 ghost use Rattle.bay_tree.specs.declared.leaf.Leaf.TheVariants as leaves;
 ghost use Rattle.bay_tree.specs.Kinds.{kind_of};
 ghost use Rattle.bay_tree.specs.Rows.{leaf_of, with_leaf_of};
-ghost use Rattle.bay_process.specs.Values.{with_status, same_position, same_quality, is_position, is_quality, is_truth};
+ghost use Rattle.bay_process.specs.Values.{with_status};
+ghost use Rattle.bay_process.specs.Values as spec;
 ghost use Rattle.bay_process.specs.Layout.{layout_of, name_in, status_in, HasKind, AreStatusRows};
 
 use bay_tree::leaf::{Dbpos, Leaf, Quality};
@@ -58,19 +59,6 @@ pub fn put_status(tree: &mut Tree, rows: StatusRows, value: Leaf, quality: Quali
     put(tree, rows.time, Leaf::Utc(now));
 }
 
-/// Whether two positions are one.
-pub fn same_position(first: Dbpos, second: Dbpos) -> bool
-    ensures { result ≡ same_position first second }
-{
-    first == second
-}
-
-fn same_quality(first: Quality, second: Quality) -> bool
-    ensures { result ≡ same_quality first second }
-{
-    first == second
-}
-
 /// The position that stands there.
 pub fn position_at(tree: &Tree, handle: Handle) -> Dbpos
     requires { HasKind (layout_of tree.now) handle kind.Dbpos }
@@ -82,6 +70,7 @@ pub fn position_at(tree: &Tree, handle: Handle) -> Dbpos
     }
 }
 
+// The quality that stands there.
 fn quality_at(tree: &Tree, handle: Handle) -> Quality
     requires { HasKind (layout_of tree.now) handle kind.Quality }
     ensures { leaf_of (name_in (layout_of tree.now) handle) tree.now ≡ Some (leaves.Quality result) }
@@ -92,6 +81,7 @@ fn quality_at(tree: &Tree, handle: Handle) -> Quality
     }
 }
 
+// The truth value that stands there.
 fn truth_at(tree: &Tree, handle: Handle) -> bool
     requires { HasKind (layout_of tree.now) handle kind.Truth }
     ensures { leaf_of (name_in (layout_of tree.now) handle) tree.now ≡ Some (leaves.Truth result) }
@@ -116,24 +106,24 @@ pub fn count_at(tree: &Tree, handle: Handle) -> i32
 /// Whether a position stands there.
 pub fn is_position(tree: &Tree, handle: Handle, position: Dbpos) -> bool
     requires { HasKind (layout_of tree.now) handle kind.Dbpos }
-    ensures { result ≡ is_position position (leaf_of (name_in (layout_of tree.now) handle) tree.now) }
+    ensures { result ≡ spec.is_position position (leaf_of (name_in (layout_of tree.now) handle) tree.now) }
 {
-    same_position(position, position_at(tree, handle))
+    position == position_at(tree, handle)
 }
 
 /// Whether a quality stands there.
 pub fn is_quality(tree: &Tree, handle: Handle, quality: Quality) -> bool
     requires { HasKind (layout_of tree.now) handle kind.Quality }
-    ensures value { result ≡ is_quality quality (leaf_of (name_in (layout_of tree.now) handle) tree.now) }
+    ensures value { result ≡ spec.is_quality quality (leaf_of (name_in (layout_of tree.now) handle) tree.now) }
     ensures there { leaf_of (name_in (layout_of tree.now) handle) tree.now ≢ None }
 {
-    same_quality(quality, quality_at(tree, handle))
+    quality == quality_at(tree, handle)
 }
 
 /// Whether a truth value stands there.
 pub fn is_truth(tree: &Tree, handle: Handle, value: bool) -> bool
     requires { HasKind (layout_of tree.now) handle kind.Truth }
-    ensures value { result ≡ is_truth value (leaf_of (name_in (layout_of tree.now) handle) tree.now) }
+    ensures value { result ≡ spec.is_truth value (leaf_of (name_in (layout_of tree.now) handle) tree.now) }
     ensures there { leaf_of (name_in (layout_of tree.now) handle) tree.now ≢ None }
 {
     truth_at(tree, handle) == value

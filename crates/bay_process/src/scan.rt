@@ -6,15 +6,17 @@ ghost use Rattle.il_image.specs.Images.{IsValue};
 ghost use Rattle.il_image.specs.Values.{type_of};
 ghost use Rattle.bay_base.specs.declared.types.ElementaryType.TheVariants as elementary;
 ghost use Rattle.il_scan.specs.Places.{is_true};
-ghost use Rattle.bay_process.specs.Values.{number_of_position, output_at, position_value, with_enabled, with_output};
+ghost use Rattle.bay_process.specs.Values.{output_at, with_enabled, with_output};
+ghost use Rattle.bay_process.specs.Values as spec_values;
 ghost use Rattle.bay_process.specs.Layout.{layout_of, status_in, switch_in, AreStatusRows, AreSwitchRows, AreKinded, AreMeterKinded};
 ghost use Rattle.bay_process.specs.Sources.{type_of_source, type_of_switch_point};
 ghost use Rattle.bay_process.specs.Told.{AreEnabling, AreInterlocked, AreTold, AreValued, IsInterlocked, IsTold, Stands};
-ghost use Rattle.bay_process.specs.Scans.{bound_value, leaf_at, meter_value, outputs_put, switch_value};
+ghost use Rattle.bay_process.specs.Scans.{bound_value, leaf_at, outputs_put};
+ghost use Rattle.bay_process.specs.Scans as spec;
 
 use crate::meter::BoundMeter;
 use crate::rows::{
-    StatusRows, SwitchRows, count_at, is_quality, is_truth, position_at, put_status, same_position,
+    StatusRows, SwitchRows, count_at, is_quality, is_truth, position_at, put_status,
 };
 use crate::switch::{BoundSwitch, Enabled};
 use crate::values::{ToldValues, Truths, same_truth};
@@ -26,7 +28,7 @@ use il_scan::points::{Inputs, Outputs};
 
 /// The number of a position (IEC 61850-8-1, Dbpos): 0 intermediate, 1 off, 2 on, 3 bad.
 fn number_of_position(position: Dbpos) -> i16
-    ensures { result ≡ number_of_position (Some (leaves.Dbpos position)) }
+    ensures { result ≡ spec_values.number_of_position (Some (leaves.Dbpos position)) }
 {
     match position {
         Dbpos::Intermediate => 0,
@@ -39,22 +41,22 @@ fn number_of_position(position: Dbpos) -> i16
 /// What a point of a switch says of its position.
 fn position_value(tree: &Tree, rows: StatusRows, point: SwitchPoint) -> Value
     requires { AreStatusRows (layout_of tree.now) kind.Dbpos rows }
-    ensures value { result ≡ position_value point (leaf_at tree.now rows.value) }
+    ensures value { result ≡ spec_values.position_value point (leaf_at tree.now rows.value) }
     ensures typed { type_of result ≡ type_of_switch_point point }
     ensures is_value { IsValue result }
 {
     let position = position_at(tree, rows.value);
     match point {
         SwitchPoint::Position => Value::Short(number_of_position(position)),
-        SwitchPoint::Open => Value::Truth(same_position(Dbpos::Off, position)),
-        SwitchPoint::Closed => Value::Truth(same_position(Dbpos::On, position)),
+        SwitchPoint::Open => Value::Truth(position == Dbpos::Off),
+        SwitchPoint::Closed => Value::Truth(position == Dbpos::On),
         SwitchPoint::EnableOpen | SwitchPoint::EnableClose => Value::Truth(false),
     }
 }
 
 /// What a point says of a switch that is not there.
 fn no_position(point: SwitchPoint) -> Value
-    ensures value { result ≡ switch_value [] point None }
+    ensures value { result ≡ spec.switch_value [] point None }
     ensures typed { type_of result ≡ type_of_switch_point point }
     ensures is_value { IsValue result }
 {
@@ -67,7 +69,7 @@ fn no_position(point: SwitchPoint) -> Value
 /// The value that the contacts give a point of the switch at a place.
 fn switch_value(tree: &Tree, switches: &[BoundSwitch], switch: usize, point: SwitchPoint) -> Value
     requires { AreKinded (layout_of tree.now) switches.now }
-    ensures value { result ≡ switch_value tree.now point (slice_get switches.now switch) }
+    ensures value { result ≡ spec.switch_value tree.now point (slice_get switches.now switch) }
     ensures typed { type_of result ≡ type_of_switch_point point }
     ensures is_value { IsValue result }
 {
@@ -80,7 +82,7 @@ fn switch_value(tree: &Tree, switches: &[BoundSwitch], switch: usize, point: Swi
 /// The measured value of a field of the meter at a place.
 fn meter_value(tree: &Tree, meters: &[BoundMeter], meter: usize, field: MeterField) -> Value
     requires { AreMeterKinded (layout_of tree.now) meters.now }
-    ensures value { result ≡ meter_value tree.now field (slice_get meters.now meter) }
+    ensures value { result ≡ spec.meter_value tree.now field (slice_get meters.now meter) }
     ensures typed { type_of result ≡ elementary.Dint }
     ensures is_value { IsValue result }
 {
@@ -197,7 +199,8 @@ fn change_enabled(tree: &mut Tree, rows: StatusRows, stood: bool, value: bool, n
     put_status(tree, rows, Leaf::Truth(value), Quality::Good, now)
 }
 
-/// Gives the interlocking values of the switch at a place new values, where the last scan wrote these.
+/// Gives the interlocking values of the switch at a place new values, where the last scan wrote
+/// these.
 fn change_output(
     tree: &mut Tree,
     _place: usize,
@@ -216,7 +219,8 @@ fn change_output(
     change_enabled(tree, rows.ena_cls, stood.may_close, enabled.may_close, now);
 }
 
-/// Gives the interlocking values of the switch at a place new values. What the last scan wrote is not read again.
+/// Gives the interlocking values of the switch at a place new values. What the last scan wrote is
+/// not read again.
 fn tell(
     tree: &mut Tree,
     told: &mut ToldValues,

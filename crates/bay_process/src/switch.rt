@@ -2,7 +2,8 @@
 use crate::rows::SwitchRows;
 use bay_config::bay::Switch;
 
-/// Where the interlocking values of a switch stand among the outputs of a scan, if the program names their points.
+/// Where the interlocking values of a switch stand among the outputs of a scan, if the program
+/// names their points.
 #[derive(Clone, Copy, Debug)]
 pub struct SwitchOutputs {
     pub ena_opn: Option<usize>,

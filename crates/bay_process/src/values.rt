@@ -1,6 +1,6 @@
 // Values that are never more or fewer than there were at first.
 ghost use Rattle.std.specs.Prelude.{◌≡◌, ◌<◌, length, slice_get, slice_set, Some};
-ghost use Rattle.bay_process.specs.Values.{same_truth};
+ghost use Rattle.bay_process.specs.Values as spec;
 ghost use Rattle.bay_process.specs.Told.{told_at};
 
 use crate::switch::Enabled;
@@ -51,7 +51,8 @@ impl Truths {
     }
 }
 
-/// The interlocking values of the switches as the last scan wrote them; nothing before the first scan.
+/// The interlocking values of the switches as the last scan wrote them; nothing before the first
+/// scan.
 #[derive(Drop)]
 pub struct ToldValues {
     values: Vec<Option<Enabled>>,
@@ -93,7 +94,7 @@ impl ToldValues {
 
 /// Whether two truth values are one.
 pub fn same_truth(first: bool, second: bool) -> bool
-    ensures { result ≡ same_truth first second }
+    ensures { result ≡ spec.same_truth first second }
 {
     first == second
 }

@@ -3,7 +3,7 @@ use Rattle.std.proofs.Common.{◌≡◌, ℕ, ◌+◌, List, Option, None, Resul
 use Rattle.bay_services.specs.declared.answer.Command.{Command}
 use Rattle.bay_device.specs.Device.{State}
 use Rattle.bay_device.specs.Outcomes.{Outcome, outcome}
-use Rattle.bay_device.specs.Steps.{Gives, Steps}
+use Rattle.bay_device.specs.Steps.{IsOutcome, Steps}
 use Rattle.bay_device.specs.declared.event.Event.{Event}
 use Rattle.bay_device.specs.declared.event.Event.TheVariants.{Recv}
 use Rattle.bay_device.specs.declared.event.Sent.{Sent}
@@ -23,7 +23,7 @@ held-as h device queues p q =
 
 -- what a line tells of was done
 pub told : (now : ℕ) (named : NamedData) (h after : Held) (noted : Noted) (e : Event) (result : Result Step StepFault) (step : Step) (t : Turning)
-    → anywhere e ≡ placed_event h.device named → Gives (outcome None now e h.device) result after.device → result ≡ Ok step
+    → anywhere e ≡ placed_event h.device named → IsOutcome (outcome None now e h.device) result after.device → result ≡ Ok step
     → after.queues ≡ h.queues → t ≡ put_ended step.ended (turning after noted) → t ≡ told_of now named (turning h noted)
 told now named h after noted e result step t is gives ok queues put =
     let o : Outcome = outcome None now (placed_event h.device named) h.device in

@@ -10,8 +10,9 @@ pub data Heard : Type 0 where
   Over : Heard
   Broken : Heard
 
--- one call, with the number of an association: whether a connection was taken for it; how many octets were asked for, and what came;
--- the octets offered, and how many of them were taken; a closing. None stands for a failure
+-- one call, with the number of an association: whether a connection was taken for it; how many
+-- octets were asked for, and what came; the octets offered, and how many of them were taken; a
+-- closing. None stands for a failure
 pub data Call : Type 0 where
   Accepts : ℕ → Option Bool → Call
   Reads : ℕ → ℕ → Heard → Call
@@ -45,7 +46,8 @@ is_failed (Reads a room what) = is_broken what
 is_failed (Writes a octets taken) = is_none taken
 is_failed (Closes a) = false
 
--- how many failures there are after a call that may have failed, counted up to 18,446,744,073,709,551,615
+-- how many failures there are after a call that may have failed, counted up to
+-- 18,446,744,073,709,551,615
 abbrev pub failures_after : ℕ → Bool → ℕ
 failures_after n failed = if failed then min (n + 1) 18446744073709551615 else n
 

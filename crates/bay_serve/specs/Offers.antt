@@ -2,7 +2,8 @@
 use Rattle.std.specs.Prelude.{ℕ, zero, suc, ◌+◌, Bool, false, if◌then◌else◌, List, [], ◌∷◌, ◌++◌, drop, Some, None}
 use Rattle.bay_serve.specs.Calls.{Call, Writes}
 
--- what the link takes of an offer: so much at each write that takes anything, and whether the last write fails
+-- what the link takes of an offer: so much at each write that takes anything, and whether the last
+-- write fails
 pub record Offer : Type 0 where
   pub takes : List ℕ
   pub fails : Bool
@@ -23,7 +24,8 @@ after_calls calls o = record { left = o.left; failed = o.failed; calls = calls +
 abbrev pub last_write : ℕ → List ℕ → Bool → Offered
 last_write a octets fails = record { left = octets; failed = fails; calls = Writes a octets (if fails then None else Some 0) ∷ [] }
 
--- Octets are offered until none is left, until a write takes none, or until one fails. The link takes so many at each write.
+-- Octets are offered until none is left, until a write takes none, or until one fails. The link
+-- takes so many at each write.
 abbrev pub offered : ℕ → List ℕ → List ℕ → Bool → Offered
 offered a [] takes fails = record { left = []; failed = false; calls = [] }
 offered a (x ∷ xs) [] fails = last_write a (x ∷ xs) fails

@@ -34,7 +34,8 @@ abbrev pub refusal_at : Option (List ℕ) → Bool → Option ServeFault
 refusal_at None is_late = refusal_behind is_late
 refusal_at (Some text) is_late = refusal_of (line_of text) is_late
 
--- A line that tells of no contact, no input and no measure comes first, and then a moment that is too large.
+-- A line that tells of no contact, no input and no measure comes first, and then a moment that is
+-- too large.
 abbrev pub turn_refusal : ℕ → Option (List ℕ) → Held → Option ServeFault
 turn_refusal clock line h = refusal_at line (nat_lt last_moment (moment_at clock h))
 
@@ -82,8 +83,9 @@ module _ {L : Type 0} (step : L → Call → L → Type 0) where
 
   -- ---- a turn
 
-  -- There is a script, of what the link answered to an accept, eight reads and eight offers and of where memory was refused, such that the calls on the
-  -- link, the server after them and what the turn tells are the script's.
+  -- There is a script, of what the link answered to an accept, eight reads and eight offers and of
+  -- where memory was refused, such that the calls on the link, the server after them and what the
+  -- turn tells are the script's.
   pub record Serves (old new : L) (now : ℕ) (line : Option NamedData) (before after : Held) (turn : Turn) : Type 0 where
     pub script : Script
     pub all_read : length script.readings ≡ 8

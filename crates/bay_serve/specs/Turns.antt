@@ -152,7 +152,8 @@ cut_off now closing place s =
 abbrev pub first_full : Noted → Option ℕ
 first_full n = position is_full n.standings
 
--- Each association to which a reply did not fit is closed; a closing can fill the queue of another, so they are looked for up to so many times.
+-- Each association to which a reply did not fit is closed; a closing can fill the queue of another,
+-- so they are looked for up to so many times.
 abbrev pub settled_next : ℕ → Option ℕ → Turning → (Turning → Turning) → Turning
 settled_next now None s later = s
 settled_next now (Some place) s later = later (cut_off now closing.QueueFull place s)
@@ -206,7 +207,8 @@ accept_calls now taken s = accept_calls_at now (free_place s.server) taken s
 
 -- ---- what is read
 
--- What came from an association: what the link brought, and where the device's memory was refused for it, if it was.
+-- What came from an association: what the link brought, and where the device's memory was refused
+-- for it, if it was.
 pub record Reading : Type 0 where
   pub heard : Heard
   pub choice : Option ℕ
@@ -295,7 +297,8 @@ after_offer now place o s = if o.failed then settled now (cut_off now closing.Li
 abbrev pub parted : ℕ → Turning → Turning
 parted place s = record { server = put_queue place [] s.server; noted = stands place Gone s.noted }
 
--- What is still to be sent to an association is offered. Of one that is leaving what is not taken is lost.
+-- What is still to be sent to an association is offered. Of one that is leaving what is not taken
+-- is lost.
 abbrev pub offer_one : ℕ → ℕ → Offer → Turning → Turning
 offer_one now place o s =
     if is_leaving (standing_of place s) then parted place s
@@ -320,7 +323,8 @@ abbrev pub calls_of_each : {C : Type 0} → (ℕ → C → Turning → Turning) 
 calls_of_each f calls place [] s = []
 calls_of_each f calls place (c ∷ cs) s = calls place c s ++ calls_of_each f calls (place + 1) cs (f place c s)
 
--- all that a turn does not itself decide: whether a connection waited, what each association brought, and what was taken of each queue
+-- all that a turn does not itself decide: whether a connection waited, what each association
+-- brought, and what was taken of each queue
 pub record Script : Type 0 where
   pub accepted : Option Bool
   pub readings : List Reading
@@ -348,7 +352,8 @@ after_line now line script h = lined now line (after_reads now script h)
 abbrev pub after_scan : ℕ → Option NamedData → Script → Held → Turning
 after_scan now line script h = scanned now (after_line now line script h)
 
--- A turn: one connection is taken, each association is read, the line is told, the program runs once, and each queue is offered.
+-- A turn: one connection is taken, each association is read, the line is told, the program runs
+-- once, and each queue is offered.
 abbrev pub turned : ℕ → Option NamedData → Script → Held → Turning
 turned now line script h = after_each (offer_one now) 0 script.offers (after_scan now line script h)
 

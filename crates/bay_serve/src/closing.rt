@@ -1,14 +1,15 @@
 // Associations are closed at once.
 ghost use Rattle.std.specs.Prelude.{◌≡◌, ◌+◌, ◌<◌};
 ghost use Rattle.bay_serve.specs.Calls.{Called, Closes, Talks};
-ghost use Rattle.bay_serve.specs.Turns.{cut_off, settled, settled_in, settling, settling_in, turning};
+ghost use Rattle.bay_serve.specs.Turns.{settled, settled_in, settling, settling_in, turning};
+ghost use Rattle.bay_serve.specs.Turns as spec;
 
 use crate::link::Link;
 use crate::notes::Notes;
 use crate::sending::step_quietly;
-use crate::server::{ASSOCIATIONS, Server};
+use crate::server::Server;
 use crate::told::Closing;
-use bay_device::event::Event;
+use bay_device::event::{ASSOCIATIONS, Event};
 
 /// Closes an association at once; what is left in its queue is lost.
 pub fn cut_off<L: Link>(
@@ -21,7 +22,7 @@ pub fn cut_off<L: Link>(
 )
     requires { place < 8 }
     ensures call { Called L.does L.failures link.old (Closes (place + 1)) link.new }
-    ensures after { turning server.new notes.new ≡ cut_off now closing place (turning server.old notes.old) }
+    ensures after { turning server.new notes.new ≡ spec.cut_off now closing place (turning server.old notes.old) }
     ensures commands { notes.new.commands ≡ notes.old.commands }
 {
     let association = place as u16 + 1;

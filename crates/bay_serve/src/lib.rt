@@ -1,12 +1,14 @@
 // A device served to clients over a link that may fail.
 //
-// What is handed out: `link` (the clients' connections, a trait whose meaning is the calls that were made and what they answered), `tcp`
-// (a link over the sockets of the system), `server` (a device with what is still to be sent to each client), `turn` (one turn of the
-// server), `told` (what a turn tells).
+// What is handed out: `link` (the clients' connections, a trait whose meaning is the calls that
+// were made and what they answered), `tcp` (a link over the sockets of the system), `server` (a
+// device with what is still to be sent to each client), `turn` (one turn of the server), `told`
+// (what a turn tells).
 //
-// Within: `queue` is what is still to be sent to one client, `standing` how an association stands in a turn, `notes` what a turn has to
-// remember, `line` what a line of the trace tells a server, `sending` puts what a step of the device sends into the queues, `closing`
-// closes associations, `reading` and `offering` do one association each, `fault` has why a turn is not done.
+// Within: `queue` is what is still to be sent to one client, `standing` how an association stands
+// in a turn, `notes` what a turn has to remember, `line` what a line of the trace tells a server,
+// `sending` puts what a step of the device sends into the queues, `closing` closes associations,
+// `reading` and `offering` do one association each, `fault` has why a turn is not done.
 #![tactic(auto)]
 
 mod closing;

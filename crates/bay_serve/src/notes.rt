@@ -1,20 +1,20 @@
 // What a turn has to remember.
 ghost use Rattle.std.specs.Prelude.{◌≡◌, ◌+◌, ◌<◌, ◌++◌, ◌∷◌, [], Some, true, length, IfOk, IfSome};
 ghost use Rattle.bay_serve.specs.Standings.{filled, is_leaving};
-ghost use Rattle.bay_serve.specs.Turns.{first_full, goes, leaves, left_noted, nothing_noted, standing_in, stands};
+ghost use Rattle.bay_serve.specs.Turns.{goes, leaves, left_noted, nothing_noted, standing_in, stands};
+ghost use Rattle.bay_serve.specs.Turns as spec;
 ghost use Rattle.bay_serve.specs.declared.standing.Standing.TheVariants.{Gone};
 
-use crate::server::ASSOCIATIONS;
 use crate::standing::Standing;
 use crate::told::{Closing, Turn};
 use bay_base::listing::Listing;
-use bay_device::event::Why;
+use bay_device::event::{ASSOCIATIONS, Why};
 use bay_services::answer::Command;
 use std::alloc::{AllocError, Global};
 use std::marker::Model;
 
-/// How each association stands, and what the turn will tell. The room for that was taken at first: one entry for each association, and
-/// one command for each that is read.
+/// How each association stands, and what the turn will tell. The room for that was taken at first:
+/// one entry for each association, and one command for each that is read.
 #[derive(Drop)]
 pub struct Notes {
     standings: [Standing; ASSOCIATIONS],
@@ -62,7 +62,7 @@ impl Notes {
 
     /// The place of the lowest association to which a reply did not fit.
     pub fn first_full(&self) -> Option<usize>
-        ensures lowest { result ≡ first_full self.now }
+        ensures lowest { result ≡ spec.first_full self.now }
         ensures within { IfSome result (λ place. place < 8) }
     {
         self.standings
@@ -78,7 +78,8 @@ impl Notes {
         self.standings[place] = self.standings[place].filled();
     }
 
-    /// The device has closed the association at a place, or its client has; its queue is to be offered once more.
+    /// The device has closed the association at a place, or its client has; its queue is to be
+    /// offered once more.
     pub fn leave(&mut self, place: usize, why: Why)
         requires { place < 8 }
         ensures { self.new ≡ leaves place why self.old }

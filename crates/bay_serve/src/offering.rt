@@ -2,13 +2,15 @@
 ghost use Rattle.std.specs.Prelude.{◌≡◌, ◌+◌, ◌<◌, ◌≤◌, length};
 ghost use Rattle.bay_serve.specs.Calls.{Called};
 ghost use Rattle.bay_serve.specs.Served.{Goes, GoesEach, Offers};
-ghost use Rattle.bay_serve.specs.Turns.{offer_calls, offer_one, turning};
+ghost use Rattle.bay_serve.specs.Turns.{offer_calls, turning};
+ghost use Rattle.bay_serve.specs.Turns as spec;
 
 use crate::closing::{cut_off, settle};
 use crate::link::Link;
 use crate::notes::Notes;
-use crate::server::{ASSOCIATIONS, Server};
+use crate::server::Server;
 use crate::told::Closing;
+use bay_device::event::ASSOCIATIONS;
 
 /// How an offer went: how many octets were taken, and whether a write failed.
 #[derive(Clone, Copy)]
@@ -46,7 +48,7 @@ fn offer<L: Link>(octets: &[u8], link: &mut L, association: u16) -> Offered
 /// Offers the queue of an association, if it is open or leaving.
 fn offer_one<L: Link>(server: &mut Server, notes: &mut Notes, link: &mut L, now: u64, place: usize)
     requires { place < 8 }
-    ensures { Goes (Called L.does L.failures) (offer_one now place) (offer_calls now place) link.old link.new (turning server.old notes.old) (turning server.new notes.new) }
+    ensures { Goes (Called L.does L.failures) (spec.offer_one now place) (offer_calls now place) link.old link.new (turning server.old notes.old) (turning server.new notes.new) }
 {
     let association = place as u16 + 1;
     if notes.standing(place).is_leaving() {
@@ -70,7 +72,7 @@ fn offer_one<L: Link>(server: &mut Server, notes: &mut Notes, link: &mut L, now:
 
 /// Offers all queues, in the order of their numbers.
 pub fn offer_each<L: Link>(server: &mut Server, notes: &mut Notes, link: &mut L, now: u64)
-    ensures { GoesEach (Called L.does L.failures) (offer_one now) (offer_calls now) link.old link.new 8 (turning server.old notes.old) (turning server.new notes.new) }
+    ensures { GoesEach (Called L.does L.failures) (spec.offer_one now) (offer_calls now) link.old link.new 8 (turning server.old notes.old) (turning server.new notes.new) }
 {
     for place in 0..ASSOCIATIONS {
         offer_one(server, notes, link, now, place);

@@ -41,7 +41,8 @@ impl Queue {
         self.octets.as_slice()
     }
 
-    /// Adds octets where there is room for all of them, and answers whether there was. It takes no memory.
+    /// Adds octets where there is room for all of them, and answers whether there was. It takes no
+    /// memory.
     pub fn put(&mut self, octets: &[u8]) -> bool
         ensures fits { result ≡ has_room self.old octets.now }
         ensures after { self.new ≡ (if result then self.old ++ octets.now else self.old) }

@@ -2,15 +2,16 @@
 ghost use Rattle.std.specs.Prelude.{◌≡◌, ◌+◌, ◌<◌, ◌≤◌, length};
 ghost use Rattle.bay_serve.specs.Calls.{Called};
 ghost use Rattle.bay_serve.specs.Served.{Goes, GoesEach, TakesIn};
-ghost use Rattle.bay_serve.specs.Turns.{accept_calls, accepted, read_calls, read_one, turning};
+ghost use Rattle.bay_serve.specs.Turns.{accept_calls, accepted, read_calls, turning};
+ghost use Rattle.bay_serve.specs.Turns as spec;
 
 use crate::closing::{cut_off, settle};
 use crate::link::{Got, Link};
 use crate::notes::Notes;
 use crate::sending::{put_all, put_ended, step_quietly, tell_commands};
-use crate::server::{ASSOCIATIONS, Server};
+use crate::server::Server;
 use crate::told::Closing;
-use bay_device::event::{Event, Why};
+use bay_device::event::{ASSOCIATIONS, Event, Why};
 
 /// How many octets of a client are read in a turn at most.
 const PIECE: usize = 4096;
@@ -61,7 +62,7 @@ fn take_in(server: &mut Server, notes: &mut Notes, now: u64, place: usize, octet
 fn read_one<L: Link>(server: &mut Server, notes: &mut Notes, link: &mut L, now: u64, place: usize)
     requires place { place < 8 }
     requires room { length notes.old.commands < 8 }
-    ensures goes { Goes (Called L.does L.failures) (read_one now place) (read_calls now place) link.old link.new (turning server.old notes.old) (turning server.new notes.new) }
+    ensures goes { Goes (Called L.does L.failures) (spec.read_one now place) (read_calls now place) link.old link.new (turning server.old notes.old) (turning server.new notes.new) }
     ensures grows { length notes.new.commands ≤ length notes.old.commands + 1 }
 {
     if !server.is_open(place) {
@@ -90,7 +91,7 @@ fn read_one<L: Link>(server: &mut Server, notes: &mut Notes, link: &mut L, now: 
 /// Reads all clients, in the order of their numbers.
 pub fn read_each<L: Link>(server: &mut Server, notes: &mut Notes, link: &mut L, now: u64)
     requires { length notes.old.commands ≤ 0 }
-    ensures { GoesEach (Called L.does L.failures) (read_one now) (read_calls now) link.old link.new 8 (turning server.old notes.old) (turning server.new notes.new) }
+    ensures { GoesEach (Called L.does L.failures) (spec.read_one now) (read_calls now) link.old link.new 8 (turning server.old notes.old) (turning server.new notes.new) }
 {
     for place in 0..ASSOCIATIONS {
         read_one(server, notes, link, now, place);

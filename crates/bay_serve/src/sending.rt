@@ -2,7 +2,8 @@
 ghost use Rattle.std.specs.Prelude.{◌≡◌, ◌+◌, ◌≤◌, ◌<◌, length};
 ghost use Rattle.bay_device.specs.Outcomes.{outcome};
 ghost use Rattle.bay_device.specs.Steps.{IsWithoutOctets};
-ghost use Rattle.bay_serve.specs.Turns.{put_all, put_at, put_ended, put_sent, put_whole, stepped, turning, with_commands};
+ghost use Rattle.bay_serve.specs.Turns.{put_at, stepped, turning, with_commands};
+ghost use Rattle.bay_serve.specs.Turns as spec;
 
 use crate::notes::Notes;
 use crate::server::Server;
@@ -12,7 +13,7 @@ use bay_services::answer::Command;
 /// Puts a reply whole into the queue of an association, or notes that it did not fit.
 fn put_whole(server: &mut Server, notes: &mut Notes, place: usize, octets: &[u8])
     requires { place < 8 }
-    ensures after { turning server.new notes.new ≡ put_whole place octets.now (turning server.old notes.old) }
+    ensures after { turning server.new notes.new ≡ spec.put_whole place octets.now (turning server.old notes.old) }
     ensures commands { notes.new.commands ≡ notes.old.commands }
 {
     if !server.put(place, octets) {
@@ -22,7 +23,7 @@ fn put_whole(server: &mut Server, notes: &mut Notes, place: usize, octets: &[u8]
 
 /// Puts what is sent to an association into its queue, if that takes replies.
 pub fn put_sent(server: &mut Server, notes: &mut Notes, sent: &Sent)
-    ensures after { turning server.new notes.new ≡ put_sent sent.now (turning server.old notes.old) }
+    ensures after { turning server.new notes.new ≡ spec.put_sent sent.now (turning server.old notes.old) }
     ensures commands { notes.new.commands ≡ notes.old.commands }
 {
     let Some(place) = place_of(sent.association) else {
@@ -35,7 +36,7 @@ pub fn put_sent(server: &mut Server, notes: &mut Notes, sent: &Sent)
 
 /// Puts all that is sent into the queues, in its order.
 pub fn put_all(server: &mut Server, notes: &mut Notes, sends: &[Sent])
-    ensures after { turning server.new notes.new ≡ put_all sends.now (turning server.old notes.old) }
+    ensures after { turning server.new notes.new ≡ spec.put_all sends.now (turning server.old notes.old) }
     ensures commands { notes.new.commands ≡ notes.old.commands }
 {
     for sent in sends {
@@ -45,7 +46,7 @@ pub fn put_all(server: &mut Server, notes: &mut Notes, sends: &[Sent])
 
 /// Puts what tells of an end into its queue, if anything does.
 pub fn put_ended(server: &mut Server, notes: &mut Notes, ended: &Option<Sent>)
-    ensures after { turning server.new notes.new ≡ put_ended ended.now (turning server.old notes.old) }
+    ensures after { turning server.new notes.new ≡ spec.put_ended ended.now (turning server.old notes.old) }
     ensures commands { notes.new.commands ≡ notes.old.commands }
 {
     if let Some(sent) = ended {

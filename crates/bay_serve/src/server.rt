@@ -3,20 +3,19 @@ ghost use Rattle.std.specs.Prelude.{◌≡◌, ℕ, ◌+◌, ◌<◌, ◌≤◌,
 ghost use Rattle.bay_services.specs.Released.{AreTimed};
 ghost use Rattle.bay_device.specs.Commands.{IsSingle};
 ghost use Rattle.bay_device.specs.Outcomes.{outcome};
-ghost use Rattle.bay_device.specs.Steps.{Gives, IsWithoutOctets, Steps};
-ghost use Rattle.bay_serve.specs.Turns.{free_place, has_room, is_up_in, put_queue, queue_at};
+ghost use Rattle.bay_device.specs.Steps.{IsOutcome, IsWithoutOctets, Steps};
+ghost use Rattle.bay_serve.specs.Turns.{has_room, is_up_in, put_queue, queue_at};
+ghost use Rattle.bay_serve.specs.Turns as spec;
 
 use crate::queue::Queue;
 use bay_device::device::Device;
-use bay_device::event::{Event, Step};
+use bay_device::event::{ASSOCIATIONS, Event, Step};
 use bay_device::fault::StepFault;
 use std::alloc::{AllocError, Global};
 use std::marker::Model;
 
-/// How many associations there are.
-pub(crate) const ASSOCIATIONS: usize = 8;
-
-/// A device, and for each association at most 262,144 octets that are still to be sent to it. The room for them was taken at first.
+/// A device, and for each association at most 262,144 octets that are still to be sent to it. The
+/// room for them was taken at first.
 #[derive(Drop)]
 pub struct Server {
     device: Device,
@@ -50,8 +49,9 @@ fn make_queues(alloc: Global) -> Result<Vec<Queue>, AllocError>
 }
 
 impl Server {
-    /// A server of a device of which no association is open, and each switch that can be operated takes some time, as load makes it.
-    /// It takes the room of eight queues; where there is no memory for them, the device comes back.
+    /// A server of a device of which no association is open, and each switch that can be operated
+    /// takes some time, as load makes it. It takes the room of eight queues; where there is no
+    /// memory for them, the device comes back.
     pub fn new(alloc: Global, device: Device) -> Result<Self, Device>
         requires closed { device.connections ≡ replicate 8 None }
         requires timed { AreTimed device.controls.controls }
@@ -81,7 +81,7 @@ impl Server {
 
     /// The place of the lowest association that is free.
     pub(crate) fn free_place(&self) -> Option<usize>
-        ensures lowest { result ≡ free_place self.now }
+        ensures lowest { result ≡ spec.free_place self.now }
         ensures within { IfSome result (λ place. place < 8) }
     {
         let association = self.device.free_association()?;
@@ -91,7 +91,7 @@ impl Server {
     /// Does one event on the device.
     pub(crate) fn step(&mut self, now: u64, event: Event<'_>) -> Result<Step, StepFault>
         ensures steps { Steps now event.entry self.old.device result self.new.device }
-        ensures sure { IsWithoutOctets event.entry → Gives (outcome None now event.entry self.old.device) result self.new.device }
+        ensures sure { IsWithoutOctets event.entry → IsOutcome (outcome None now event.entry self.old.device) result self.new.device }
         ensures single { IsSingle result }
         ensures queues { self.new.queues ≡ self.old.queues }
     {

@@ -1,6 +1,6 @@
 // How an association stands in a turn.
 ghost use Rattle.std.specs.Prelude.{◌≡◌};
-ghost use Rattle.bay_serve.specs.Standings.{filled, is_full, is_leaving, is_told, takes_replies};
+ghost use Rattle.bay_serve.specs.Standings as spec;
 
 /// How an association stands in a turn.
 #[derive(Clone, Copy)]
@@ -20,7 +20,7 @@ pub enum Standing {
 impl Standing {
     /// A reply to it did not fit its queue, which is to be told of an open association.
     pub fn is_full(self) -> bool
-        ensures { result ≡ is_full self }
+        ensures { result ≡ spec.is_full self }
     {
         match self {
             Standing::Full => true,
@@ -30,7 +30,7 @@ impl Standing {
 
     /// Its queue is to be offered once more.
     pub fn is_leaving(self) -> bool
-        ensures { result ≡ is_leaving self }
+        ensures { result ≡ spec.is_leaving self }
     {
         match self {
             Standing::Leaving | Standing::LeavingFull => true,
@@ -40,7 +40,7 @@ impl Standing {
 
     /// That it was closed is told.
     pub fn is_told(self) -> bool
-        ensures { result ≡ is_told self }
+        ensures { result ≡ spec.is_told self }
     {
         match self {
             Standing::Leaving | Standing::LeavingFull | Standing::Gone => true,
@@ -50,7 +50,7 @@ impl Standing {
 
     /// Whether its queue takes replies, by whether it is open.
     pub fn takes_replies(self, is_open: bool) -> bool
-        ensures { result ≡ takes_replies self is_open }
+        ensures { result ≡ spec.takes_replies self is_open }
     {
         match self {
             Standing::Steady => is_open,
@@ -61,7 +61,7 @@ impl Standing {
 
     /// After a reply that did not fit.
     pub fn filled(self) -> Standing
-        ensures { result ≡ filled self }
+        ensures { result ≡ spec.filled self }
     {
         match self {
             Standing::Steady | Standing::Full => Standing::Full,

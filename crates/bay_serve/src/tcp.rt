@@ -20,10 +20,12 @@ fn would_wait(error: &io::Error) -> bool {
     error.kind() == ErrorKind::WouldBlock || error.kind() == ErrorKind::Interrupted
 }
 
+/// The error of a read or a write where no connection is open.
 fn not_connected() -> io::Error {
     io::Error::from(ErrorKind::NotConnected)
 }
 
+/// Reads from a connection, if it is open.
 fn read_some(stream: &Option<TcpStream>, room: &mut [u8]) -> io::Result<usize>
     ensures { ReadsAtMost result room.new }
 {
@@ -33,6 +35,7 @@ fn read_some(stream: &Option<TcpStream>, room: &mut [u8]) -> io::Result<usize>
     }
 }
 
+/// Writes to a connection, if it is open.
 fn write_some(stream: &Option<TcpStream>, octets: &[u8]) -> io::Result<usize>
     ensures { WritesAtMost result octets.now }
 {
@@ -42,7 +45,8 @@ fn write_some(stream: &Option<TcpStream>, octets: &[u8]) -> io::Result<usize>
     }
 }
 
-/// A connection that waits; neither its reads nor its writes do, and what is written goes out at once.
+/// A connection that waits; neither its reads nor its writes do, and what is written goes out at
+/// once.
 fn accept_one(listener: &TcpListener) -> io::Result<TcpStream> {
     let (stream, _) = listener.accept()?;
     stream.set_nonblocking(true)?;
@@ -82,10 +86,10 @@ impl TcpLink {
 impl Link for TcpLink {
     ghost failures = { λ link. link.failures };
 
-    fn accept(&mut self, a: u16) -> Result<bool, LinkFault> {
+    fn accept(&mut self, association: u16) -> Result<bool, LinkFault> {
         match accept_one(&self.listener) {
             Ok(stream) => {
-                self.streams[a as usize - 1] = Some(stream);
+                self.streams[association as usize - 1] = Some(stream);
                 Ok(true)
             }
             Err(error) if would_wait(&error) => Ok(false),
@@ -96,8 +100,8 @@ impl Link for TcpLink {
         }
     }
 
-    fn read(&mut self, a: u16, room: &mut [u8]) -> Result<Got, LinkFault> {
-        match read_some(&self.streams[a as usize - 1], room) {
+    fn read(&mut self, association: u16, room: &mut [u8]) -> Result<Got, LinkFault> {
+        match read_some(&self.streams[association as usize - 1], room) {
             Ok(0) => Ok(Got::End),
             Ok(n) => Ok(Got::Bytes(n)),
             Err(error) if would_wait(&error) => Ok(Got::Nothing),
@@ -108,8 +112,8 @@ impl Link for TcpLink {
         }
     }
 
-    fn write(&mut self, a: u16, octets: &[u8]) -> Result<usize, LinkFault> {
-        match write_some(&self.streams[a as usize - 1], octets) {
+    fn write(&mut self, association: u16, octets: &[u8]) -> Result<usize, LinkFault> {
+        match write_some(&self.streams[association as usize - 1], octets) {
             Ok(n) => Ok(n),
             Err(error) if would_wait(&error) => Ok(0),
             Err(_) => {
@@ -119,7 +123,7 @@ impl Link for TcpLink {
         }
     }
 
-    fn close(&mut self, a: u16) {
-        self.streams[a as usize - 1] = None;
+    fn close(&mut self, association: u16) {
+        self.streams[association as usize - 1] = None;
     }
 }

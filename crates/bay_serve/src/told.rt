@@ -10,7 +10,8 @@ use bay_services::answer::Command;
 pub enum Closing {
     /// The client has ended it, or has closed its connection.
     Ended,
-    /// The device has refused its octets, by the fault of this number: 10 to 13 of the transport, 20 to 25 of the association.
+    /// The device has refused its octets, by the fault of this number: 10 to 13 of the transport,
+    /// 20 to 25 of the association.
     Fault(u8),
     /// A reply did not fit into what is still to be sent to it.
     QueueFull,
@@ -35,7 +36,8 @@ impl Closing {
 /// What a turn tells.
 #[derive(Debug, Drop)]
 pub struct Turn {
-    /// The number of the fault for which the device has refused what the line told: 113, there is no such switch, input or meter.
+    /// The number of the fault for which the device has refused what the line told: 113, there is
+    /// no such switch, input or meter.
     pub refused: Option<u8>,
     /// The switches that are to be operated.
     pub commands: Listing<Command>,

@@ -16,13 +16,10 @@ use crate::reading::{accept_one, read_each};
 use crate::sending::{put_ended, step_quietly};
 use crate::server::Server;
 use crate::told::Turn;
-use bay_device::event::Event;
+use bay_device::event::{Event, LAST_MOMENT};
 use bay_trace::placing::placed_event;
 use bay_trace::trace::NamedEvent;
 use std::alloc::{AllocError, Global};
-
-/// The last moment that an event may have, in milliseconds since 1970.
-const LAST_MOMENT: u64 = 4_294_967_295_999;
 
 /// What a line tells of the process happens at the turn's moment.
 fn tell(server: &mut Server, notes: &mut Notes, now: u64, event: NamedEvent<'_>)
@@ -63,14 +60,18 @@ fn scan<L: Link>(server: &mut Server, notes: &mut Notes, link: &mut L, now: u64)
     settle(server, notes, link, now);
 }
 
-/// One turn, at the greater of the clock's moment (in milliseconds since 1970) and the last. At most one connection that waits is taken, under
-/// the lowest free number. Each association is read once, in order, up to 4,096 octets; one whose client sends no more is closed, and so is one
-/// whose read fails, with 131. The contact, the input or the measure that the line tells of happens, whatever the line's own moment. The
-/// program runs once. What is still to be sent to each association is written as far as the link takes it; where a write fails, the
-/// association is closed with 131, and so it is with 130 where a reply does not fit into what is still to be sent to it.
+/// One turn, at the greater of the clock's moment (in milliseconds since 1970) and the last. At
+/// most one connection that waits is taken, under the lowest free number. Each association is read
+/// once, in order, up to 4,096 octets; one whose client sends no more is closed, and so is one
+/// whose read fails, with 131. The contact, the input or the measure that the line tells of
+/// happens, whatever the line's own moment. The program runs once. What is still to be sent to each
+/// association is written as far as the link takes it; where a write fails, the association is
+/// closed with 131, and so it is with 130 where a reply does not fit into what is still to be sent
+/// to it.
 ///
-/// A line that tells of no contact, no input and no measure is refused first, and then a moment that is too large; where there is no memory for
-/// what the turn would tell, nothing is done either.
+/// A line that tells of no contact, no input and no measure is refused first, and then a moment
+/// that is too large; where there is no memory for what the turn would tell, nothing is done
+/// either.
 pub fn serve_turn<L: Link>(
     alloc: Global,
     server: &mut Server,
@@ -78,9 +79,11 @@ pub fn serve_turn<L: Link>(
     clock: u64,
     line: Option<&str>,
 ) -> Result<Turn, ServeFault>
-    // There is a script with which the calls on the link, the server after them and what is told are the turn's.
+    // There is a script with which the calls on the link, the server after them and what is told
+    // are the turn's.
     ensures ok { IfOk result (λ turn. Serves (Called L.does L.failures) link.old link.new (moment_at clock server.old) (line_in (text_in line.entry)) server.old server.new turn) }
-    // A turn is done where its line and its moment are right, and where it is not there is want of memory or it says why.
+    // A turn is done where its line and its moment are right, and where it is not there is want of
+    // memory or it says why.
     ensures right { OnOk result (turn_refusal clock (text_in line.entry) server.old ≡ None) }
     ensures refused { IfErr result (λ fault. IsRefused fault (turn_refusal clock (text_in line.entry) server.old)) }
     ensures server_kept { OnErr result (server.new ≡ server.old) }

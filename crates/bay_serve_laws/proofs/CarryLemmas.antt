@@ -24,7 +24,8 @@ MayLose Leaving up queue lost = (lost ≡ []) × (up ≡ false)
 MayLose LeavingFull up queue lost = up ≡ false
 MayLose Gone up queue lost = (queue ≡ []) × (up ≡ false)
 
--- what was taken, what the queue holds, and what is lost are what it held at first and what was sent
+-- what was taken, what the queue holds, and what is lost are what it held at first and what was
+-- sent
 pub record Carries (taken held sent : List ℕ) (standing : Standing) (up : Bool) (queue : List ℕ) : Type 0 where
   pub lost : List ℕ
   pub is : taken ++ (queue ++ lost) ≡ held ++ sent

@@ -1,4 +1,5 @@
--- The events that a turn does on the device, in their order, each with its choice; and what they come to.
+-- The events that a turn does on the device, in their order, each with its choice; and what they
+-- come to.
 use Rattle.std.specs.Prelude.{◌≡◌, ℕ, zero, suc, ◌+◌, Bool, true, false, if◌then◌else◌, List, [], ◌∷◌, ◌++◌, Option, Some, None, IfSome, Result, Ok, Err}
 use Rattle.bay_services.specs.declared.answer.Command.{Command}
 use Rattle.bay_device.specs.Device.{State}
@@ -15,7 +16,8 @@ use Rattle.bay_serve.specs.Standings.{is_leaving}
 use Rattle.bay_serve.specs.Turns.{Held, Reading, Script, Turning, after_accept, after_line, after_reads, after_scan, begun, cut_off, first_full, free_place, hung_up, is_up, offer_of, offer_one, opened, read_one, standing_of, stepped, taken_in, told_of, turned}
 use Rattle.bay_serve.specs.declared.told.Closing.TheVariants as closing
 
--- an event with its choice: behind how many things that its octets come to memory was refused, if it was
+-- an event with its choice: behind how many things that its octets come to memory was refused, if
+-- it was
 abbrev pub ChosenEvent : Type 0
 ChosenEvent = Option ℕ × Event
 
@@ -119,7 +121,8 @@ commands_of (answer ∷ answers) = commands_in answer ++ commands_of answers
 abbrev pub HasNoOctets : Option NamedData → Type 0
 HasNoOctets line = IfSome line (λ named. AreOctets named [])
 
--- The device after a turn is that of the turn's events, and the commands that are told are those of their answers.
+-- The device after a turn is that of the turn's events, and the commands that are told are those of
+-- their answers.
 pub record IsItsEvents (now : ℕ) (line : Option NamedData) (script : Script) (h : Held) : Type 0 where
   pub device : (turned now line script h).server.device ≡ (done_at now (turn_events now line script h) h.device).after
   pub commands : HasNoOctets line → (turned now line script h).noted.commands ≡ commands_of (done_at now (turn_events now line script h) h.device).answers

@@ -63,8 +63,8 @@ pub record IsInTime (now : ℕ) (h : Held) : Type 0 where
   pub not_before : h.device.moment ≤ now
   pub not_past : now ≤ last_moment
 
--- What the link took, and then a rest, is what the queue held and then what was sent. The queue holds the rest; or the association is closed, and the
--- queue is empty.
+-- What the link took, and then a rest, is what the queue held and then what was sent. The queue
+-- holds the rest; or the association is closed, and the queue is empty.
 pub record Flows (taken held sent holds : List ℕ) (up : Bool) : Type 0 where
   pub rest : List ℕ
   pub is : taken ++ rest ≡ held ++ sent

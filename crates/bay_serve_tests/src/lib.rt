@@ -1,5 +1,6 @@
-// Tests of a device that is served: over a link in memory, of which calls fail and which takes a few octets at a time, and over the
-// sockets of the system. They stand in a crate of their own, since a crate with tests is proved a second time for them.
+// Tests of a device that is served: over a link in memory, of which calls fail and which takes a
+// few octets at a time, and over the sockets of the system. They stand in a crate of their own,
+// since a crate with tests is proved a second time for them.
 //
 // - `memory_link`: clients in memory.
 // - `session`: what a client sends, and what it is answered.

@@ -21,7 +21,8 @@ fn turn(
     Ok(())
 }
 
-/// So many turns of a server, each a millisecond after the one before, and what they tell of closings.
+/// So many turns of a server, each a millisecond after the one before, and what they tell of
+/// closings.
 fn turns_of(
     alloc: Global,
     server: &mut Server,
@@ -90,7 +91,8 @@ fn failing(alloc: Global, fails_at: u64) -> Result<MemoryLink, Fail> {
     Ok(link)
 }
 
-/// Where this call fails, the client got all, or a front of it, and then it is told that its connection failed.
+/// Where this call fails, the client got all, or a front of it, and then it is told that its
+/// connection failed.
 fn is_told(alloc: Global, fails_at: u64) -> Result<bool, Fail> {
     let mut link = failing(alloc, fails_at)?;
     let closed = serve(alloc, &mut link, 3)?;

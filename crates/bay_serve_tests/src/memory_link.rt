@@ -12,7 +12,8 @@ struct Client {
     taken: Vec<u8>,
 }
 
-/// Clients that connect one after the other. Each sends the same octets, as many at a time as they are read, and then nothing or its end.
+/// Clients that connect one after the other. Each sends the same octets, as many at a time as they
+/// are read, and then nothing or its end.
 #[derive(Drop)]
 pub struct MemoryLink {
     incoming: Vec<u8>,
@@ -40,6 +41,7 @@ fn clients_of(alloc: Global, count: usize) -> Result<Vec<Client>, Fail> {
 }
 
 impl MemoryLink {
+    /// A link of so many clients, each of which sends the same octets.
     pub fn new(alloc: Global, incoming: &[u8], count: usize) -> Result<MemoryLink, Fail> {
         let clients = clients_of(alloc, count)?;
         let incoming = incoming.to_vec(alloc)?;
@@ -89,25 +91,25 @@ fn give(incoming: &[u8], given: &mut usize, room: &mut [u8]) -> usize
 impl Link for MemoryLink {
     ghost failures = { λ link. link.failures };
 
-    fn accept(&mut self, a: u16) -> Result<bool, LinkFault> {
+    fn accept(&mut self, association: u16) -> Result<bool, LinkFault> {
         if self.is_failing() {
             self.failures = self.failures.saturating_add(1);
             return Err(LinkFault);
         }
         if self.connected < self.clients.len() {
-            self.places[a as usize - 1] = Some(self.connected);
+            self.places[association as usize - 1] = Some(self.connected);
             self.connected = self.connected.saturating_add(1);
             return Ok(true);
         }
         Ok(false)
     }
 
-    fn read(&mut self, a: u16, room: &mut [u8]) -> Result<Got, LinkFault> {
+    fn read(&mut self, association: u16, room: &mut [u8]) -> Result<Got, LinkFault> {
         if self.is_failing() {
             self.failures = self.failures.saturating_add(1);
             return Err(LinkFault);
         }
-        let place = self.places[a as usize - 1];
+        let place = self.places[association as usize - 1];
         if let Some(at) = place
             && at < self.clients.len()
         {
@@ -123,13 +125,13 @@ impl Link for MemoryLink {
         Ok(Got::Nothing)
     }
 
-    fn write(&mut self, a: u16, octets: &[u8]) -> Result<usize, LinkFault> {
+    fn write(&mut self, association: u16, octets: &[u8]) -> Result<usize, LinkFault> {
         if self.is_failing() {
             self.failures = self.failures.saturating_add(1);
             return Err(LinkFault);
         }
         let count = self.per_write.min(octets.len());
-        let place = self.places[a as usize - 1];
+        let place = self.places[association as usize - 1];
         if let Some(at) = place
             && at < self.clients.len()
             && self.clients[at]
@@ -143,8 +145,8 @@ impl Link for MemoryLink {
         Err(LinkFault)
     }
 
-    fn close(&mut self, a: u16) {
+    fn close(&mut self, association: u16) {
         self.closed = self.closed.saturating_add(1);
-        self.places[a as usize - 1] = None;
+        self.places[association as usize - 1] = None;
     }
 }

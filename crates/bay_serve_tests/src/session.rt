@@ -1,4 +1,5 @@
-// What a client sends, and what it is answered: a request for a transport connection, one for an association, and an identify.
+// What a client sends, and what it is answered: a request for a transport connection, one for an
+// association, and an identify.
 ghost use Rattle.std.specs.Prelude.{◌≡◌, None, replicate};
 ghost use Rattle.bay_services.specs.Released.{AreTimed};
 

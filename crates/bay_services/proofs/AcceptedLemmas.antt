@@ -632,7 +632,8 @@ module _ (c : Client) (small : c.size ≤ 65000) (n b : Bay) (alike : AreNamedAl
   message-told (Err (TooMany id)) = record { reports = []; response = _; is = refl; stands = refl; told = refl }
   message-told (Err OutOfMemory) = record { reports = []; response = _; is = refl; stands = refl; told = refl }
 
--- The first response among the PDUs of an answer and those behind them tells what is seen, and leaves those behind them.
+-- The first response among the PDUs of an answer and those behind them tells what is seen, and
+-- leaves those behind them.
 pub response-tells : (c : Client) (pdu : List ℕ) (n b : Bay) (later : List (List ℕ)) → c.size ≤ 65000 → AreNamedAlike n b
     → (accepted_in c.now c.association pdu n (first_response (may_be_reported (answer_to pdu)) ((answered c pdu b).sent ++ later)).0 ≡ entries_in c pdu b)
     × ((first_response (may_be_reported (answer_to pdu)) ((answered c pdu b).sent ++ later)).1 ≡ later)

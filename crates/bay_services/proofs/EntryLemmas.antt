@@ -1,4 +1,5 @@
--- What a PDU asks of controls leads them from those before it to those after it. No request opens or closes an association.
+-- What a PDU asks of controls leads them from those before it to those after it. No request opens
+-- or closes an association.
 use Rattle.std.proofs.Common.{◌≡◌, ℕ, Bool, true, false, cond, List, [], ◌∷◌, length, nat_le, Option, Some, None, Result, Ok, Err, refl}
 use Rattle.bay_control.specs.Acts.{Entry}
 use Rattle.bay_control.specs.Decisions.{State}

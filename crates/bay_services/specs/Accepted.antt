@@ -1,5 +1,6 @@
--- What a PDU asks of controls, by what its variables are named and its data, and what was accepted of it, by the octets of its answer
--- (ISO 9506-2, Read and Write; IEC 61850-8-1). Nothing here looks at controls.
+-- What a PDU asks of controls, by what its variables are named and its data, and what was accepted
+-- of it, by the octets of its answer (ISO 9506-2, Read and Write; IEC 61850-8-1). Nothing here
+-- looks at controls.
 use Rattle.std.specs.Prelude.{ℕ, ◌≡◌, Bool, true, false, ◌&&◌, List, [], ◌∷◌, ◌++◌, Option, Some, None, is_some, if◌then◌else◌, unwrap_or, Result, Ok, Err}
 use Rattle.bay_ber.specs.Options.{◌>>=◌}
 use Rattle.bay_ber.specs.Tags.{same_tag}
@@ -130,8 +131,8 @@ message_accepted now a b (Ok conclude) response = []
 message_accepted now a b (Ok (confirmed id asking)) response = service_accepted now a b asking response
 message_accepted now a b (Err fault) response = []
 
--- What a PDU of a client asks at a moment, on an association, of the controls of a bay with these names, in its order, and what was
--- accepted of it by the octets of its response.
+-- What a PDU of a client asks at a moment, on an association, of the controls of a bay with these
+-- names, in its order, and what was accepted of it by the octets of its response.
 abbrev pub accepted_in : ℕ → ℕ → List ℕ → Bay → List ℕ → List Entry
 accepted_in now a pdu b response = message_accepted now a b (answer_to pdu) response
 

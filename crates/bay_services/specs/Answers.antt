@@ -23,8 +23,8 @@ use Rattle.bay_services.specs.declared.answer.Command.{Command}
 use Rattle.bay_services.specs.declared.answer.Ending.{Ending}
 use Rattle.bay_services.specs.declared.client.Client.{Client}
 
--- what a PDU comes to: the PDUs that are sent, in their order, the commands, the reports of the end of what is
--- operating, and the bay after it
+-- what a PDU comes to: the PDUs that are sent, in their order, the commands, the reports of the end
+-- of what is operating, and the bay after it
 pub record Answered : Type 0 where
   pub sent : List (List ℕ)
   pub commands : List Command
@@ -35,7 +35,8 @@ pub record Answered : Type 0 where
 abbrev pub said : List ℕ → Bay → Answered
 said pdu b = record { sent = pdu ∷ []; commands = []; ending = None; after = b }
 
--- A response of more octets than are agreed is answered by an error of the class resource, and nothing is done.
+-- A response of more octets than are agreed is answered by an error of the class resource, and
+-- nothing is done.
 abbrev pub within : Client → ℕ → Bay → List ℕ → Answered → Answered
 within c id b response answer = if nat_le (length response) c.size then answer else said (error_text id Resource) b
 
@@ -83,7 +84,8 @@ served c id b (write ns values) = write_asked c id b ns values
 abbrev pub rejected : Option ℕ → RejectReason → Bay → Answered
 rejected id reason b = said (reject_text id reason) b
 
--- An association is opened elsewhere: an initiate here is no PDU that is served, and has no invoke id.
+-- An association is opened elsewhere: an initiate here is no PDU that is served, and has no invoke
+-- id.
 abbrev pub asked : Client → Bay → Message → Answered
 asked c b (initiate proposal) = rejected None InvalidPdu b
 asked c b conclude = said concluded_text b

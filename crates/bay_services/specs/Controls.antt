@@ -1,4 +1,5 @@
--- A client's request of a control, and what is told of it (IEC 61850-7-2, 20; IEC 61850-8-1: LastApplError and CommandTermination).
+-- A client's request of a control, and what is told of it (IEC 61850-7-2, 20; IEC 61850-8-1:
+-- LastApplError and CommandTermination).
 use Rattle.std.specs.Prelude.{ℕ, pos, ◌≤◌, IfSome, Bool, true, List, [], ◌∷◌, ◌++◌, codes, length, slice_get, Option, Some, None, option_to_list, Result, Ok, Err, if◌then◌else◌}
 use Rattle.bay_tree.specs.Rows.{leaf_of}
 use Rattle.bay_tree.specs.declared.leaf.Leaf.{Leaf}
@@ -56,7 +57,8 @@ error_datum object control why =
 abbrev pub refusal_report : List ℕ → Control → AddCause → List ℕ
 refusal_report object control why = report_text (failure_name ∷ []) (datum (error_datum object control why) no_data)
 
--- a control has done what it was asked for (the positive CommandTermination), or has not done it in time (the negative one)
+-- a control has done what it was asked for (the positive CommandTermination), or has not done it in
+-- time (the negative one)
 abbrev pub termination_report : List ℕ → List ℕ → Operate → List ℕ
 termination_report domain item o = report_text (item_name domain item ∷ []) (datum (operate_datum o) no_data)
 
@@ -68,7 +70,8 @@ failed_report object domain item o =
 abbrev pub has_reports : Bay → ℕ → Bool
 has_reports b k = is_enhanced (control_of b.controls.controls k).model
 
--- the report that the decision on a control refuses it; none where it does not, and for a switch without enhanced security
+-- the report that the decision on a control refuses it; none where it does not, and for a switch
+-- without enhanced security
 abbrev pub refusal_reports : Client → ℕ → List ℕ → Control → Bay → Result (Unit {0}) AddCause → List (List ℕ)
 refusal_reports c k item control b (Ok done) = []
 refusal_reports c k item control b (Err why) = if has_reports b k then option_to_list (fitting c.size (refusal_report (object_of b item) control why)) else []

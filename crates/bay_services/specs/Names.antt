@@ -11,7 +11,8 @@ use Rattle.bay_mms.specs.declared.response.ErrorClass.TheVariants.{NoSuchObject}
 use Rattle.bay_services.specs.Bay.{Bay}
 use Rattle.bay_services.specs.declared.client.Client.{Client}
 
--- the names behind a name: a page of at most 100, as many as the size of a PDU takes; a name that is not there is an error
+-- the names behind a name: a page of at most 100, as many as the size of a PDU takes; a name that
+-- is not there is an error
 abbrev pub names_behind : Client → ℕ → Bay → Option (List ℕ) → Option ℕ → List ℕ
 names_behind c id b after None = error_text id NoSuchObject
 names_behind c id b after (Some place) = first_page id c.size (names_of (rows_after b.rows after))
@@ -30,8 +31,8 @@ abbrev pub domain_names : ℕ → Bay → Option (List ℕ) → List ℕ
 domain_names id b None = page_text id (b.domain ∷ []) false
 domain_names id b (Some name) = if bytes_eq name b.domain then page_text id [] false else error_text id NoSuchObject
 
--- Class 0 of the domain has the names of its variables, class 9 of the whole device the domain; there are no others. A domain that
--- is not there is an error.
+-- Class 0 of the domain has the names of its variables, class 9 of the whole device the domain;
+-- there are no others. A domain that is not there is an error.
 abbrev pub listing : Client → ℕ → ℤ → Place → Option (List ℕ) → Bay → List ℕ
 listing c id class whole_vmd after b = if int_eq class (pos 9) then domain_names id b after else no_names id after
 listing c id class (in_domain d) after b =

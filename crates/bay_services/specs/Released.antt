@@ -16,7 +16,8 @@ abbrev pub releasing : ℕ → Bool → List ℕ
 releasing k true = (closing_of k).value
 releasing k false = (opening_of k).value
 
--- A switch is operated while the last scan is fresh, its interlocking value is TRUE in the tree, and no switch of the bay is operating.
+-- A switch is operated while the last scan is fresh, its interlocking value is TRUE in the tree,
+-- and no switch of the bay is operating.
 pub record IsReleased (c : Client) (b : Bay) (command : Command) : Type 0 where
   pub fresh : c.fresh ≡ true
   pub enabled : is_truth true (leaf_of (releasing command.switch command.on) b.rows) ≡ true

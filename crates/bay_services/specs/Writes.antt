@@ -21,8 +21,8 @@ use Rattle.bay_services.specs.declared.target.ControlPart.{ControlPart}
 use Rattle.bay_services.specs.declared.target.ControlPart.TheVariants.{Select, SelectWith, Operate, Cancel}
 use Rattle.bay_services.specs.declared.target.Target.{Target}
 
--- what has been done of a list of variables: the bay then, the octets of the results, the reports of refusals, the commands, and the
--- reports of the end of what is operating
+-- what has been done of a list of variables: the bay then, the octets of the results, the reports
+-- of refusals, the commands, and the reports of the end of what is operating
 pub record Writing : Type 0 where
   pub bay : Bay
   pub results : List ℕ
@@ -34,7 +34,8 @@ pub record Writing : Type 0 where
 abbrev pub nothing_written : Bay → Writing
 nothing_written b = record { bay = b; results = []; reports = []; commands = []; ending = None }
 
--- the number of an error: 10 no such object, 3 access denied, 7 another type, 11 a value that is out of range (DataAccessError)
+-- the number of an error: 10 no such object, 3 access denied, 7 another type, 11 a value that is
+-- out of range (DataAccessError)
 abbrev pub write_failed : ℕ → Writing → Writing
 write_failed number w = record w { results = w.results ++ failure_result number }
 
@@ -43,7 +44,8 @@ abbrev pub decision_result : Result (Unit {0}) AddCause → List ℕ
 decision_result (Ok done) = success_result
 decision_result (Err why) = failure_result 3
 
--- a decision on a control: the bay after it, its result, and where it refuses the report of that, which names the control
+-- a decision on a control: the bay after it, its result, and where it refuses the report of that,
+-- which names the control
 abbrev pub decided : Client → ℕ → List ℕ → Control → Outcome → Writing → Writing
 decided c k item control o w = record w {
   bay = with_controls o.after w.bay;

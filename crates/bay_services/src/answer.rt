@@ -10,8 +10,8 @@ pub struct Command {
     pub on: bool,
 }
 
-/// The PDUs of MMS that tell a client of the end of what it operates (IEC 61850-8-1, CommandTermination); each is left out where it
-/// has more octets than are agreed.
+/// The PDUs of MMS that tell a client of the end of what it operates (IEC 61850-8-1,
+/// CommandTermination); each is left out where it has more octets than are agreed.
 #[derive(Debug, Drop)]
 pub struct Ending {
     /// The switch has reached its position.
@@ -23,7 +23,8 @@ pub struct Ending {
 /// What a PDU of a client is answered, and what it asks of others than the bay.
 #[derive(Debug, Drop)]
 pub struct Answer {
-    /// The PDUs of MMS that are to be sent, in their order: reports that controls are refused, and then the response.
+    /// The PDUs of MMS that are to be sent, in their order: reports that controls are refused, and
+    /// then the response.
     pub sent: Vec<Listing<u8>>,
     /// The switches that are to be operated.
     pub commands: Vec<Command>,

@@ -12,8 +12,8 @@ use bay_process::controls::ControlRows;
 use bay_process::switch::BoundSwitch;
 use bay_tree::tree::Tree;
 
-/// A bay as its clients see it: its name and its nameplate, the tree of its values, its switches and their controls. The tree shows
-/// which switch is selected.
+/// A bay as its clients see it: its name and its nameplate, the tree of its values, its switches
+/// and their controls. The tree shows which switch is selected.
 #[derive(Drop)]
 pub struct ServedBay {
     /// The name of the logical device.

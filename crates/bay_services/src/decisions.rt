@@ -4,7 +4,8 @@ ghost use Rattle.bay_control.specs.Decisions.{advanced, cancel_outcome, dropped,
 ghost use Rattle.bay_control.specs.declared.selection.Standing.{Standing};
 ghost use Rattle.bay_process.specs.Controls.{AreAllControlRows};
 ghost use Rattle.bay_process.specs.Layout.{layout_of};
-ghost use Rattle.bay_services.specs.Bay.{is_selected, shown, standing_again, with_controls};
+ghost use Rattle.bay_services.specs.Bay.{shown, standing_again, with_controls};
+ghost use Rattle.bay_services.specs.Bay as spec;
 ghost use Rattle.bay_services.specs.Controls.{view_of};
 ghost use Rattle.bay_services.specs.Views.{bay_view};
 
@@ -22,7 +23,7 @@ use bay_tree::tree::Tree;
 
 // Whether a switch is the one that is selected.
 fn is_selected(selected: Option<usize>, switch: usize) -> bool
-    ensures { result ≡ is_selected switch selected }
+    ensures { result ≡ spec.is_selected switch selected }
 {
     selected.is_some_and(|s| s == switch)
 }
@@ -121,7 +122,10 @@ impl ServedBay {
     ) -> Result<(), AddCause>
         requires { switch < length self.old.switches }
         ensures answer { result ≡ (operate_outcome client.association switch ask (view_of client switch (bay_view self.old)) client.now self.old.controls).answer }
-        ensures after { bay_view self.new ≡ with_controls (operate_outcome client.association switch ask (view_of client switch (bay_view self.old)) client.now self.old.controls).after (bay_view self.old) }
+        ensures after { bay_view self.new
+            ≡ with_controls (operate_outcome client.association switch ask
+            (view_of client switch (bay_view self.old)) client.now self.old.controls).after
+            (bay_view self.old) }
         ensures layout { layout_of self.new.tree ≡ layout_of self.old.tree }
         ensures back { (standing : Standing) → standing_again standing (bay_view self.new) ≡ standing_again standing (bay_view self.old) }
         ensures switches { self.new.switches ≡ self.old.switches }

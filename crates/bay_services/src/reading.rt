@@ -8,8 +8,9 @@ ghost use Rattle.bay_tree.specs.Rows.{IsHandle, name_at};
 ghost use Rattle.bay_process.specs.Layout.{layout_of};
 ghost use Rattle.bay_services.specs.Bay.{standing_again};
 ghost use Rattle.bay_services.specs.Places.{IsFound};
-ghost use Rattle.bay_services.specs.Reads.{read_all, read_one, read_row, select_done};
-ghost use Rattle.bay_services.specs.Rows.{row_named};
+ghost use Rattle.bay_services.specs.Reads.{select_done};
+ghost use Rattle.bay_services.specs.Reads as spec;
+ghost use Rattle.bay_services.specs.Rows as spec_rows;
 ghost use Rattle.bay_services.specs.Targets.{target_of};
 ghost use Rattle.bay_services.specs.Views.{bay_view, reading};
 
@@ -22,13 +23,14 @@ use bay_mms::results::ReadResponse;
 use bay_tree::tree::Handle;
 use std::alloc::Global;
 
-// The number of the error that there is no such variable (ISO 9506-2, DataAccessError: object-non-existent).
+// The number of the error that there is no such variable (ISO 9506-2, DataAccessError:
+// object-non-existent).
 const NO_SUCH_OBJECT: u8 = 10;
 
 impl ServedBay {
     /// The row of the variable of this name, which is named by the bay's domain.
     pub(crate) fn row_named(&self, name: &Name<'_>) -> Option<Handle>
-        ensures row { result ≡ row_named (bay_view self.now) (naming name.now) }
+        ensures row { result ≡ spec_rows.row_named (bay_view self.now) (naming name.now) }
         ensures found { IfSome result (IsFound self.now.tree) }
     {
         match name {
@@ -62,8 +64,13 @@ impl ServedBay {
         response: &mut ReadResponse,
     ) -> Result<(), WriteFault>
         requires { IsHandle self.old.tree row }
-        ensures ok { OnOk result (reading self.new response.new ≡ select_done client switch (name_at self.old.tree row) (reading self.old response.old) (select_outcome client.association switch client.now self.old.controls)) }
-        ensures long { IfErr result (λ fault. fault ≡ TooLong → 4294967296 ≤ length (select_done client switch (name_at self.old.tree row) (reading self.old response.old) (select_outcome client.association switch client.now self.old.controls)).results) }
+        ensures ok { OnOk result (reading self.new response.new
+            ≡ select_done client switch (name_at self.old.tree row) (reading self.old response.old)
+            (select_outcome client.association switch client.now self.old.controls)) }
+        ensures long { IfErr result (λ fault. fault ≡ TooLong
+            → 4294967296 ≤ length (select_done client switch (name_at self.old.tree row)
+            (reading self.old response.old)
+            (select_outcome client.association switch client.now self.old.controls)).results) }
         ensures back { (standing : Standing) → standing_again standing (bay_view self.new) ≡ standing_again standing (bay_view self.old) }
         ensures switches { self.new.switches ≡ self.old.switches }
         ensures layout { layout_of self.new.tree ≡ layout_of self.old.tree }
@@ -86,8 +93,8 @@ impl ServedBay {
         response: &mut ReadResponse,
     ) -> Result<(), WriteFault>
         requires { IsFound self.old.tree row }
-        ensures ok { OnOk result (reading self.new response.new ≡ read_row client (reading self.old response.old) (Some row)) }
-        ensures long { IfErr result (λ fault. fault ≡ TooLong → 4294967296 ≤ length (read_row client (reading self.old response.old) (Some row)).results) }
+        ensures ok { OnOk result (reading self.new response.new ≡ spec.read_row client (reading self.old response.old) (Some row)) }
+        ensures long { IfErr result (λ fault. fault ≡ TooLong → 4294967296 ≤ length (spec.read_row client (reading self.old response.old) (Some row)).results) }
         ensures back { (standing : Standing) → standing_again standing (bay_view self.new) ≡ standing_again standing (bay_view self.old) }
         ensures switches { self.new.switches ≡ self.old.switches }
         ensures layout { layout_of self.new.tree ≡ layout_of self.old.tree }
@@ -111,8 +118,8 @@ impl ServedBay {
         name: &Name<'_>,
         response: &mut ReadResponse,
     ) -> Result<(), WriteFault>
-        ensures ok { OnOk result (reading self.new response.new ≡ read_one client (naming name.now) (reading self.old response.old)) }
-        ensures long { IfErr result (λ fault. fault ≡ TooLong → 4294967296 ≤ length (read_one client (naming name.now) (reading self.old response.old)).results) }
+        ensures ok { OnOk result (reading self.new response.new ≡ spec.read_one client (naming name.now) (reading self.old response.old)) }
+        ensures long { IfErr result (λ fault. fault ≡ TooLong → 4294967296 ≤ length (spec.read_one client (naming name.now) (reading self.old response.old)).results) }
         ensures back { (standing : Standing) → standing_again standing (bay_view self.new) ≡ standing_again standing (bay_view self.old) }
         ensures switches { self.new.switches ≡ self.old.switches }
         ensures layout { layout_of self.new.tree ≡ layout_of self.old.tree }
@@ -131,8 +138,8 @@ impl ServedBay {
         names: &[Name<'_>],
         response: &mut ReadResponse,
     ) -> Result<(), WriteFault>
-        ensures ok { OnOk result (reading self.new response.new ≡ read_all client (map naming names.now) (reading self.old response.old)) }
-        ensures long { IfErr result (λ fault. fault ≡ TooLong → 4294967296 ≤ length (read_all client (map naming names.now) (reading self.old response.old)).results) }
+        ensures ok { OnOk result (reading self.new response.new ≡ spec.read_all client (map naming names.now) (reading self.old response.old)) }
+        ensures long { IfErr result (λ fault. fault ≡ TooLong → 4294967296 ≤ length (spec.read_all client (map naming names.now) (reading self.old response.old)).results) }
         ensures back { (standing : Standing) → standing_again standing (bay_view self.new) ≡ standing_again standing (bay_view self.old) }
         ensures switches { self.new.switches ≡ self.old.switches }
         ensures layout { layout_of self.new.tree ≡ layout_of self.old.tree }

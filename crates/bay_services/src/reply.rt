@@ -2,7 +2,7 @@
 ghost use Rattle.std.specs.Prelude.{◌≡◌, List, ℕ, IfOk, IfSome, is_ok, true};
 ghost use Rattle.bay_base.specs.Exact.{Gives};
 ghost use Rattle.bay_mms.specs.Writing.{written};
-ghost use Rattle.bay_services.specs.Replies.{fitting};
+ghost use Rattle.bay_services.specs.Replies as spec;
 
 use bay_base::listing::Listing;
 use bay_mms::fault::WriteFault;
@@ -13,7 +13,7 @@ pub fn fitting(
     size: u32,
     made: Result<Vec<u8>, WriteFault>,
 ) -> Result<Option<Listing<u8>>, AllocError>
-    ensures pdu { (pdu : List ℕ) → Gives WriteFault.OutOfMemory (λ octets. octets.items) made (written pdu) → IfOk result (λ found. found ≡ fitting size pdu) }
+    ensures pdu { (pdu : List ℕ) → Gives WriteFault.OutOfMemory (λ octets. octets.items) made (written pdu) → IfOk result (λ found. found ≡ spec.fitting size pdu) }
     ensures made { IfOk result (λ found. IfSome found (λ _. is_ok made ≡ true)) }
 {
     match made {

@@ -7,7 +7,8 @@ ghost use Rattle.bay_mms.specs.Responses.{concluded_text, error_text, read_text}
 ghost use Rattle.bay_mms.specs.Views.{data_in};
 ghost use Rattle.bay_mms.specs.Writing.{written};
 ghost use Rattle.bay_process.specs.Layout.{layout_of};
-ghost use Rattle.bay_services.specs.Answers.{Answered, answer_of, answered, attributes_at, identified, read_asked, refused, rejected, responded, said, served, write_asked};
+ghost use Rattle.bay_services.specs.Answers.{Answered, answer_of, answered, attributes_at, identified, read_asked, served, write_asked};
+ghost use Rattle.bay_services.specs.Answers as spec;
 ghost use Rattle.bay_services.specs.Bay.{Bay, standing_again};
 ghost use Rattle.bay_services.specs.Rows.{row_named};
 ghost use Rattle.bay_mms.specs.declared.fault.MmsFault.TheVariants as MmsFault;
@@ -33,7 +34,7 @@ use std::alloc::{AllocError, Global};
 
 // An answer that does nothing.
 fn said(alloc: Global, pdu: Listing<u8>) -> Result<Answer, AllocError>
-    ensures { IfOk result (λ answer. (b : Bay) → AnswersAs answer b (said pdu b)) }
+    ensures { IfOk result (λ answer. (b : Bay) → AnswersAs answer b (spec.said pdu b)) }
 {
     Ok(Answer {
         sent: vec![in alloc; pdu]?,
@@ -44,7 +45,7 @@ fn said(alloc: Global, pdu: Listing<u8>) -> Result<Answer, AllocError>
 
 // An error, which does nothing.
 fn failed(alloc: Global, id: u32, class: ErrorClass) -> Result<Answer, AllocError>
-    ensures { IfOk result (λ answer. (b : Bay) → AnswersAs answer b (said (error_text id class) b)) }
+    ensures { IfOk result (λ answer. (b : Bay) → AnswersAs answer b (spec.said (error_text id class) b)) }
 {
     let error = write_error(alloc, id, class)?;
     said(alloc, Listing::new(error))
@@ -52,7 +53,7 @@ fn failed(alloc: Global, id: u32, class: ErrorClass) -> Result<Answer, AllocErro
 
 // A reject, which does nothing.
 fn rejected(alloc: Global, id: Option<u32>, reason: RejectReason) -> Result<Answer, AllocError>
-    ensures { IfOk result (λ answer. (b : Bay) → AnswersAs answer b (rejected id reason b)) }
+    ensures { IfOk result (λ answer. (b : Bay) → AnswersAs answer b (spec.rejected id reason b)) }
 {
     let reject = write_reject(alloc, id, reason)?;
     said(alloc, Listing::new(reject))
@@ -60,7 +61,7 @@ fn rejected(alloc: Global, id: Option<u32>, reason: RejectReason) -> Result<Answ
 
 // The answer to a conclude, which does nothing.
 fn concluded(alloc: Global) -> Result<Answer, AllocError>
-    ensures { IfOk result (λ answer. (b : Bay) → AnswersAs answer b (said concluded_text b)) }
+    ensures { IfOk result (λ answer. (b : Bay) → AnswersAs answer b (spec.said concluded_text b)) }
 {
     let conclude = write_conclude(alloc)?;
     said(alloc, Listing::new(conclude))
@@ -68,7 +69,7 @@ fn concluded(alloc: Global) -> Result<Answer, AllocError>
 
 // What answers octets that ask for nothing that is served.
 fn refused(alloc: Global, fault: MmsFault) -> Result<Answer, AllocError>
-    ensures told { IfOk result (λ answer. (b : Bay) → AnswersAs answer b (refused fault b)) }
+    ensures told { IfOk result (λ answer. (b : Bay) → AnswersAs answer b (spec.refused fault b)) }
     ensures memory { IfOk result (λ _. fault ≢ MmsFault.OutOfMemory) }
 {
     match fault {
@@ -88,7 +89,7 @@ fn responded(
     id: u32,
     response: Result<Vec<u8>, WriteFault>,
 ) -> Result<Answer, AllocError>
-    ensures { (pdu : List ℕ) (b : Bay) → Gives WriteFault.OutOfMemory (λ octets. octets.items) response (written pdu) → IfOk result (λ answer. AnswersAs answer b (responded client id b pdu)) }
+    ensures { (pdu : List ℕ) (b : Bay) → Gives WriteFault.OutOfMemory (λ octets. octets.items) response (written pdu) → IfOk result (λ answer. AnswersAs answer b (spec.responded client id b pdu)) }
 {
     match fitting(client.size, response)? {
         Some(pdu) => said(alloc, pdu),
@@ -97,6 +98,7 @@ fn responded(
 }
 
 impl ServedBay {
+    // Who made the device, its model and its revision.
     fn identify(&self, alloc: Global, client: Client, id: u32) -> Result<Answer, AllocError>
         ensures { IfOk result (λ answer. AnswersAs answer (bay_view self.now) (identified client id (bay_view self.now))) }
     {
@@ -149,6 +151,8 @@ impl ServedBay {
         response.finish(id)
     }
 
+    // The values of variables. Where they have more octets than are agreed, what the reads selected
+    // is undone, and the answer is an error.
     fn read(
         &mut self,
         alloc: Global,
@@ -172,6 +176,8 @@ impl ServedBay {
         }
     }
 
+    // Writes variables in their order. Where the response has more octets than are agreed, what
+    // they did to controls is undone, and the answer is an error.
     fn write(
         &mut self,
         alloc: Global,
@@ -271,8 +277,9 @@ impl ServedBay {
 
     /// Answers the octets that a client sent as a PDU of MMS, and does what they ask for.
     ///
-    /// Each PDU of the answer has at most 65,000 octets, and so have the reports of an end. A response of more octets than are agreed is an error of the class resource in
-    /// its place, and then nothing is done. Where there is no memory, nothing is done and nothing is to be sent.
+    /// Each PDU of the answer has at most 65,000 octets, and so have the reports of an end. A
+    /// response of more octets than are agreed is an error of the class resource in its place, and
+    /// then nothing is done. Where there is no memory, nothing is done and nothing is to be sent.
     pub fn answer(
         &mut self,
         alloc: Global,

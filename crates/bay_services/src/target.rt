@@ -2,7 +2,8 @@
 ghost use Rattle.std.specs.Prelude.{◌≡◌, ◌<◌, Some, length};
 ghost use Rattle.bay_process.specs.Controls.{AreAllControlRows};
 ghost use Rattle.bay_tree.specs.Rows.{name_at, place_of};
-ghost use Rattle.bay_services.specs.Places.{is_place, part_by};
+ghost use Rattle.bay_services.specs.Places.{part_by};
+ghost use Rattle.bay_services.specs.Places as spec;
 ghost use Rattle.bay_services.specs.Targets.{target_of};
 
 use bay_process::controls::ControlRows;
@@ -30,7 +31,7 @@ pub struct Target {
 
 // Whether a row is this one.
 fn is_place(row: Option<Handle>, handle: Handle) -> bool
-    ensures { result ≡ is_place handle row }
+    ensures { result ≡ spec.is_place handle row }
 {
     row.is_some_and(|r| r == handle)
 }

@@ -4,9 +4,11 @@ ghost use Rattle.bay_mms.specs.ControlViews.{cancelling, operating};
 ghost use Rattle.bay_mms.specs.Controls.{cancel_in, operate_in};
 ghost use Rattle.bay_tree.specs.Rows.{IsHandle, name_at};
 ghost use Rattle.bay_process.specs.Layout.{layout_of};
-ghost use Rattle.bay_services.specs.Controls.{ask_of, ending_of, endings, has_reports, object_of, refusal_reports};
+ghost use Rattle.bay_services.specs.Controls.{ending_of, endings, object_of, refusal_reports};
+ghost use Rattle.bay_services.specs.Controls as spec_controls;
 ghost use Rattle.bay_services.specs.Places.{IsFound};
-ghost use Rattle.bay_services.specs.Writes.{cancel_asked, commands_for, decision_result, later_ending, operate_asked, select_with_asked, write_all, write_one, write_row};
+ghost use Rattle.bay_services.specs.Writes.{cancel_asked, commands_for, decision_result, later_ending, operate_asked, select_with_asked};
+ghost use Rattle.bay_services.specs.Writes as spec;
 ghost use Rattle.bay_control.specs.declared.selection.Standing.{Standing};
 ghost use Rattle.bay_mms.specs.RequestViews.{naming};
 ghost use Rattle.bay_mms.specs.Responses.{failure_result, success_result};
@@ -33,7 +35,8 @@ use bay_mms::results::WriteResponse;
 use bay_tree::tree::Handle;
 use std::alloc::{AllocError, Global};
 
-// Errors by their numbers (ISO 9506-2, DataAccessError): no such variable, and a write that is denied.
+// Errors by their numbers (ISO 9506-2, DataAccessError): no such variable, and a write that is
+// denied.
 const NO_SUCH_OBJECT: u8 = 10;
 
 const DENIED: u8 = 3;
@@ -82,7 +85,7 @@ fn fail(response: &mut WriteResponse, cause: u8) -> Result<(), AllocError>
 // What is asked of the controls.
 fn ask_of(operate: &Operate<'_>) -> Ask
     requires { length operate.now.origin.or_ident.now ≤ 64 }
-    ensures { result ≡ ask_of (operating operate.now) }
+    ensures { result ≡ spec_controls.ask_of (operating operate.now) }
 {
     let mut ident = ArrayVec::new();
     let _ = ident.try_extend_from_slice(operate.origin.or_ident);
@@ -122,7 +125,7 @@ impl ServedBay {
 
     // Whether clients are told of the end of what they ask of a switch.
     fn has_reports(&self, switch: usize) -> bool
-        ensures { result ≡ has_reports (bay_view self.now) switch }
+        ensures { result ≡ spec_controls.has_reports (bay_view self.now) switch }
     {
         self.controls.is_enhanced(switch)
     }
@@ -168,7 +171,10 @@ impl ServedBay {
     ) -> Result<(), AllocError>
         requires { IsHandle self.now.tree part.row }
         ensures response { OnOk result (written.new.response ≡ written.old.response ++ failure_result 3) }
-        ensures reports { OnOk result (written.new.reports.items ≡ written.old.reports.items ++ refusal_reports client part.switch (name_at self.now.tree part.row) (cancelling control.now) (bay_view self.now) (Err why)) }
+        ensures reports { OnOk result (written.new.reports.items
+            ≡ written.old.reports.items ++ refusal_reports client part.switch
+            (name_at self.now.tree part.row) (cancelling control.now) (bay_view self.now)
+            (Err why)) }
         ensures commands { written.new.commands ≡ written.old.commands }
         ensures ending { written.new.ending ≡ written.old.ending }
     {
@@ -188,7 +194,9 @@ impl ServedBay {
     ) -> Result<(), AllocError>
         requires { IsHandle self.now.tree part.row }
         ensures response { OnOk result (written.new.response ≡ written.old.response ++ decision_result answer) }
-        ensures reports { OnOk result (written.new.reports.items ≡ written.old.reports.items ++ refusal_reports client part.switch (name_at self.now.tree part.row) (cancelling control.now) (bay_view self.now) answer) }
+        ensures reports { OnOk result (written.new.reports.items
+            ≡ written.old.reports.items ++ refusal_reports client part.switch
+            (name_at self.now.tree part.row) (cancelling control.now) (bay_view self.now) answer) }
         ensures commands { written.new.commands ≡ written.old.commands }
         ensures ending { written.new.ending ≡ written.old.ending }
     {
@@ -208,7 +216,9 @@ impl ServedBay {
         written: &mut Written,
     ) -> Result<(), AllocError>
         requires { IsHandle self.old.tree part.row }
-        ensures ok { OnOk result (writing self.new written.new ≡ select_with_asked client part.switch (name_at self.old.tree part.row) (writing self.old written.old) (operate_in (datum_of given.now))) }
+        ensures ok { OnOk result (writing self.new written.new
+            ≡ select_with_asked client part.switch (name_at self.old.tree part.row)
+            (writing self.old written.old) (operate_in (datum_of given.now))) }
         ensures back { (standing : Standing) → standing_again standing (bay_view self.new) ≡ standing_again standing (bay_view self.old) }
         ensures switches { self.new.switches ≡ self.old.switches }
         ensures layout { layout_of self.new.tree ≡ layout_of self.old.tree }
@@ -285,7 +295,10 @@ impl ServedBay {
         ensures response { OnOk result (written.new.response ≡ written.old.response ++ success_result) }
         ensures reports { written.new.reports ≡ written.old.reports }
         ensures commands { OnOk result (written.new.commands.items ≡ written.old.commands.items ++ commands_for part.switch (operating operate.now) (Ok tt)) }
-        ensures ending { OnOk result (written.new.ending ≡ later_ending written.old.ending (endings client part.switch (name_at self.now.tree part.row) (operating operate.now) (bay_view self.now) (Ok tt))) }
+        ensures ending { OnOk result (written.new.ending
+            ≡ later_ending written.old.ending
+            (endings client part.switch (name_at self.now.tree part.row) (operating operate.now)
+            (bay_view self.now) (Ok tt))) }
     {
         succeed(&mut written.response)?;
         written.commands.push(Command {
@@ -335,7 +348,7 @@ impl ServedBay {
         written: &mut Written,
     ) -> Result<(), AllocError>
         requires { IsFound self.old.tree row }
-        ensures ok { OnOk result (writing self.new written.new ≡ write_row client (datum_of given.now) (writing self.old written.old) (Some row)) }
+        ensures ok { OnOk result (writing self.new written.new ≡ spec.write_row client (datum_of given.now) (writing self.old written.old) (Some row)) }
         ensures back { (standing : Standing) → standing_again standing (bay_view self.new) ≡ standing_again standing (bay_view self.old) }
         ensures switches { self.new.switches ≡ self.old.switches }
         ensures layout { layout_of self.new.tree ≡ layout_of self.old.tree }
@@ -365,7 +378,7 @@ impl ServedBay {
         given: &Data<'_>,
         written: &mut Written,
     ) -> Result<(), AllocError>
-        ensures ok { OnOk result (writing self.new written.new ≡ write_one client (naming name.now) (datum_of given.now) (writing self.old written.old)) }
+        ensures ok { OnOk result (writing self.new written.new ≡ spec.write_one client (naming name.now) (datum_of given.now) (writing self.old written.old)) }
         ensures back { (standing : Standing) → standing_again standing (bay_view self.new) ≡ standing_again standing (bay_view self.old) }
         ensures switches { self.new.switches ≡ self.old.switches }
         ensures layout { layout_of self.new.tree ≡ layout_of self.old.tree }
@@ -385,7 +398,7 @@ impl ServedBay {
         values: &[Data<'_>],
         written: &mut Written,
     ) -> Result<(), AllocError>
-        ensures ok { OnOk result (writing self.new written.new ≡ write_all client (map naming names.now) (data_in values.now) (writing self.old written.old)) }
+        ensures ok { OnOk result (writing self.new written.new ≡ spec.write_all client (map naming names.now) (data_in values.now) (writing self.old written.old)) }
         ensures back { (standing : Standing) → standing_again standing (bay_view self.new) ≡ standing_again standing (bay_view self.old) }
         ensures switches { self.new.switches ≡ self.old.switches }
         ensures layout { layout_of self.new.tree ≡ layout_of self.old.tree }

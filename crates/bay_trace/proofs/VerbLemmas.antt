@@ -71,7 +71,8 @@ hex_word (b ∷ bs) h =
 octets_word : (word octets : List ℕ) → octets_of word ≡ Some octets → IsWord word
 octets_word word octets e = hex_word word (octets-digits word octets e)
 
--- what says something only of one word says of a text what it says of the word that stands alone there
+-- what says something only of one word says of a text what it says of the word that stands alone
+-- there
 alone-tells : {X : Type 0} (f : List ℕ → Option X) (bs : List ℕ) → ((y : X) → f bs ≡ Some y → IsWord bs) → option_and_then f (only_word (slice_split is_space bs)) ≡ f bs
 alone-tells {X = X} f bs word = by_told (f bs) refl
   where
@@ -138,7 +139,8 @@ not_of false false false x y z e = refl
 no_talk : (verb : List ℕ) (words : List (List ℕ)) → is_talk verb ≡ false → talk_of verb words ≡ None
 no_talk verb words e = not_of (bytes_eq verb (codes "open")) (bytes_eq verb (codes "close")) (bytes_eq verb (codes "recv")) _ _ _ e
 
--- a text that isn't `scan`, and that begins with no verb before a name and a space, says what it says of an association
+-- a text that isn't `scan`, and that begins with no verb before a name and a space, says what it
+-- says of an association
 pub no_verb : (text : List ℕ) → ((r : List ℕ) → text ≢ codes "contact " ++ r) → ((r : List ℕ) → text ≢ codes "input " ++ r) → ((r : List ℕ) → text ≢ codes "measure " ++ r) → text ≢ codes "scan"
     → event_of (slice_split is_space text) ≡ talk_in (slice_split is_space text)
 no_verb text no_contact no_input no_measure no_scan = by_words (slice_split is_space text) (join_with_byte-slice_split 32 text)

@@ -170,7 +170,8 @@ behind-space n b bs lt s = ap (number_behind n) (slice_split-cons_yes is_space b
     by_words : HasFirst (slice_split is_space bs) → number_behind n ([] ∷ slice_split is_space bs) ≡ Some (n, slice_split is_space bs)
     by_words h = rw h.2 (ap (option_map (λ k. (k, h.0 ∷ h.1))) (number_from-end n lt))
 
--- what says something of a word only where it is this text, or where something is said further on, says it of what has the text's property
+-- what says something of a word only where it is this text, or where something is said further on,
+-- says it of what has the text's property
 pub chosen : {X : Type 0} (P : List ℕ → Type 0) (word text : List ℕ) (x y : X) (rest : Option X) → P text → (rest ≡ Some y → P word) → cond (bytes_eq word text) (Some x) rest ≡ Some y → P word
 chosen P word text x y rest has more e = by_test (bytes_eq word text) refl
   where

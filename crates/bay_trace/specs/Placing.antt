@@ -1,4 +1,5 @@
--- The event of a device that a line of the trace tells of: by its place, with its octets, for which there is room.
+-- The event of a device that a line of the trace tells of: by its place, with its octets, for which
+-- there is room.
 use Rattle.std.specs.Prelude.{◌≡◌, ℕ, ◌<◌, max, List, length, unwrap_or, Result, Ok, Err}
 use Rattle.std.specs.Borrow.{Bor}
 use Rattle.bay_device.specs.Device.{State}
@@ -11,7 +12,8 @@ use Rattle.bay_trace.specs.Trace.{NamedData, connects, receives, disconnects, co
 abbrev pub lying : List ℕ → Bor (List ℕ)
 lying octets = record { ref_ptr = (0, 0); now = octets }
 
--- the event of a switch, an input or a meter by its place; the place of an unknown name is one at which there is none
+-- the event of a switch, an input or a meter by its place; the place of an unknown name is one at
+-- which there is none
 abbrev pub placed_event : State → NamedData → Event
 placed_event s (connects a) = Open a
 placed_event s (receives a octets) = Recv a (lying octets)

@@ -10,8 +10,8 @@ use Rattle.bay_tree.specs.declared.leaf.Dbpos.{Dbpos}
 use Rattle.bay_tree.specs.declared.leaf.Dbpos.TheVariants.{Intermediate, Off, On, Bad}
 use Rattle.bay_trace.specs.Digits.{octets_of}
 
--- what happens at a moment: an association is opened, octets of its client come, or it is closed; a switch's position, an input's
--- value or a field of a meter is told; or the program runs
+-- what happens at a moment: an association is opened, octets of its client come, or it is closed; a
+-- switch's position, an input's value or a field of a meter is told; or the program runs
 pub data NamedData : Type 0 where
   connects : ℕ → NamedData
   receives : ℕ → List ℕ → NamedData
@@ -104,7 +104,8 @@ abbrev pub name_of : List ℕ → Option (List ℕ)
 name_of [] = None
 name_of (b ∷ bs) = if is_utf8 (b ∷ bs) then Some (b ∷ bs) else None
 
--- what is told of what has this name: `contact` a position, `input` a truth value, `measure` a field and its value
+-- what is told of what has this name: `contact` a position, `input` a truth value, `measure` a
+-- field and its value
 abbrev pub named_of : List ℕ → List ℕ → List (List ℕ) → Option NamedData
 named_of verb name values =
     if bytes_eq verb (codes "contact") then option_map (contact name) (option_and_then position_of (only_word values))
@@ -122,7 +123,8 @@ received_of [] = None
 received_of (word ∷ octets) =
     option_and_then (λ a. option_map (receives a) (option_and_then octets_of (only_word octets))) (association_of word)
 
--- what is told of an association: `open` and `close` stand before it alone, `recv` before it and octets
+-- what is told of an association: `open` and `close` stand before it alone, `recv` before it and
+-- octets
 abbrev pub talk_of : List ℕ → List (List ℕ) → Option NamedData
 talk_of verb words =
     if bytes_eq verb (codes "open") then option_map connects (option_and_then association_of (only_word words))
@@ -138,7 +140,8 @@ talk_in (verb ∷ words) = talk_of verb words
 abbrev pub is_talk : List ℕ → Bool
 is_talk verb = bytes_eq verb (codes "open") || (bytes_eq verb (codes "close") || bytes_eq verb (codes "recv"))
 
--- `scan` stands alone; the other verbs stand before an association, or before a name and what is told
+-- `scan` stands alone; the other verbs stand before an association, or before a name and what is
+-- told
 abbrev pub event_of : List (List ℕ) → Option NamedData
 event_of [] = None
 event_of (verb ∷ []) = if bytes_eq verb (codes "scan") then Some scan else None
@@ -149,7 +152,8 @@ event_of (verb ∷ word ∷ values) =
 abbrev pub words_line : List (List ℕ) → Option LineData
 words_line words = option_and_then (λ cut. option_map (at_moment cut.0) (event_of cut.1)) (first_number words)
 
--- an empty line says nothing; the words of another are read by their forms, in which all but a name are ASCII
+-- an empty line says nothing; the words of another are read by their forms, in which all but a name
+-- are ASCII
 abbrev pub trace_line_of : List ℕ → Option LineData
 trace_line_of [] = Some blank
 trace_line_of (b ∷ bs) = words_line (slice_split is_space (b ∷ bs))

@@ -47,7 +47,8 @@ fn decode(digits: Digits<'_>, count: usize, room: &mut [u8])
     let _ = hex::decode_to_slice(digits.text, &mut room[..count]);
 }
 
-/// Room for the octets of a line. It is made anew for a line with more octets than any before, and no larger than that.
+/// Room for the octets of a line. It is made anew for a line with more octets than any before, and
+/// no larger than that.
 #[derive(Drop)]
 pub struct LineOctets {
     alloc: Global,

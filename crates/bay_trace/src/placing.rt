@@ -1,6 +1,7 @@
 // What a line of the trace tells of, as an event of a device: by its place, with its octets.
 ghost use Rattle.std.specs.Prelude.{◌≡◌};
-ghost use Rattle.bay_trace.specs.Placing.{AreOctets, Takes, anywhere, placed_event};
+ghost use Rattle.bay_trace.specs.Placing.{AreOctets, Takes, anywhere};
+ghost use Rattle.bay_trace.specs.Placing as spec;
 ghost use Rattle.bay_trace.specs.TraceView.{named_view};
 
 use crate::octets::LineOctets;
@@ -19,10 +20,11 @@ pub fn take_octets(octets: &mut LineOctets, event: &NamedEvent<'_>) -> Result<()
     }
 }
 
-/// The event by its place in the device; what has no place is told apart by a place at which there is nothing.
+/// The event by its place in the device; what has no place is told apart by a place at which there
+/// is nothing.
 pub fn placed_event<'a>(device: &Device, octets: &'a [u8], event: NamedEvent<'_>) -> Event<'a>
     requires { AreOctets (named_view event) octets.now }
-    ensures { anywhere result ≡ placed_event device.now (named_view event.entry) }
+    ensures { anywhere result ≡ spec.placed_event device.now (named_view event.entry) }
 {
     match event {
         NamedEvent::Open { association } => Event::Open { association },

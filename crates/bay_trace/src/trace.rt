@@ -2,7 +2,8 @@
 ghost use Rattle.std.specs.Prelude.{◌≡◌, ◌∷◌, ◌≤◌, ◌^◌, ◌<◌, ℕ, length, option_map, IfSome, Some, codes, neg_ℤ, pos};
 ghost use Rattle.std.specs.List.{slice_split};
 ghost use Rattle.std.specs.Str.{IsUtf8};
-ghost use Rattle.bay_trace.specs.Trace.{association_of, is_space, received_of, rest_words, talk_in, with_digit, read_number, first_number, positive_of, negative_of, read_integer, position_of, truth_of, field_of, name_of, measure_of, event_of, words_line, trace_line_of, process_of};
+ghost use Rattle.bay_trace.specs.Trace.{association_of, is_space, received_of, rest_words, talk_in, read_number, first_number, positive_of, negative_of, read_integer, position_of, truth_of, field_of, name_of, measure_of, event_of, words_line, trace_line_of, process_of};
+ghost use Rattle.bay_trace.specs.Trace as spec;
 ghost use Rattle.bay_trace.specs.TraceView.{named_view, line_view};
 
 use crate::octets::Digits;
@@ -67,9 +68,10 @@ fn cut_word(text: &[u8]) -> (&[u8], Option<&[u8]>)
     }
 }
 
-/// A number with one more decimal digit behind its own, if the octet is a digit and it stays below 2^64.
+/// A number with one more decimal digit behind its own, if the octet is a digit and it stays below
+/// 2^64.
 fn with_digit(number: u64, octet: u8) -> Option<u64>
-    ensures { result ≡ with_digit number octet }
+    ensures { result ≡ spec.with_digit number octet }
 {
     if !octet.is_ascii_digit() {
         return None;
@@ -81,7 +83,8 @@ fn with_digit(number: u64, octet: u8) -> Option<u64>
     number.checked_mul(10)?.checked_add(digit)
 }
 
-/// The number that decimal digits write, if it is below 2^64. There may be leading zeros, and no sign.
+/// The number that decimal digits write, if it is below 2^64. There may be leading zeros, and no
+/// sign.
 fn number(word: &[u8]) -> Option<u64>
     ensures { result ≡ read_number word.now }
 {
@@ -322,7 +325,8 @@ pub fn read_trace_line(line: &[u8]) -> Option<TraceLine<'_>>
     moment_line(line)
 }
 
-/// What a line tells of the process: of a contact, an input or a measure. None where it can't be read, or tells of something else.
+/// What a line tells of the process: of a contact, an input or a measure. None where it can't be
+/// read, or tells of something else.
 pub fn read_process_line(line: &[u8]) -> Option<NamedEvent<'_>>
     ensures { option_map named_view result ≡ process_of (trace_line_of line.now) }
 {

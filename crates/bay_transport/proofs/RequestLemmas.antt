@@ -21,7 +21,8 @@ parameters_behind-past (suc k) (x ∷ octets) past = parameters_behind-past k oc
 abbrev pub or_found : ℕ → Option (List ℕ) → List Parameter → Option (List ℕ)
 or_found code found ps = or_else (last_value code ps) found
 
--- What is left of the octets, and what was found in front of it, give the value that all of them give.
+-- What is left of the octets, and what was found in front of it, give the value that all of them
+-- give.
 abbrev pub Keeps : ℕ → List ℕ → List ℕ → Option (List ℕ) → Type 0
 Keeps code octets left found = option_map (last_value code) (parameters_of octets) ≡ option_map (or_found code found) (parameters_of left)
 

@@ -24,8 +24,8 @@ pub record IsSize (size : ℕ) : Type 0 where
   pub some : 128 ≤ size
   pub few : size ≤ 65531
 
--- The group and what was completed last are within the limit of a TSDU, and a beginning of a frame stands behind the group,
--- shorter than the longest frame.
+-- The group and what was completed last are within the limit of a TSDU, and a beginning of a frame
+-- stands behind the group, shorter than the longest frame.
 pub record IsSound (a : Assembly) : Type 0 where
   pub bounds : a.group ≤ length a.buffer.items
   pub few : a.group ≤ 70000
@@ -77,7 +77,8 @@ FailsWhere TsduTooLong P = P
 FailsWhere Failed P = ⊥
 FailsWhere OutOfMemory P = Unit {0}
 
--- So many octets of the piece are taken: they do what is answered, and those before the last of them nothing.
+-- So many octets of the piece are taken: they do what is answered, and those before the last of
+-- them nothing.
 pub record Takes (old : Assembly) (piece : List ℕ) (used : ℕ) (kind : Got) (new : Assembly) : Type 0 where
   pub within : used ≤ length piece
   pub moves : 0 < length piece → 0 < used

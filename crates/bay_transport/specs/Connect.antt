@@ -8,7 +8,8 @@ pub record Parameter : Type 0 where
   pub code : ℕ
   pub value : List ℕ
 
--- how parameters are spelled: the code, the number of octets of the value, and the value (X.224 13.2.3)
+-- how parameters are spelled: the code, the number of octets of the value, and the value (X.224
+-- 13.2.3)
 abbrev pub spelled : List Parameter → List ℕ
 spelled [] = []
 spelled (p ∷ ps) = p.code ∷ length p.value ∷ (p.value ++ spelled ps)
@@ -41,15 +42,17 @@ abbrev pub last_value : ℕ → List Parameter → Option (List ℕ)
 last_value code [] = None
 last_value code (p ∷ ps) = or_else (last_value code ps) (if p.code == code then Some p.value else None)
 
--- The size of a TPDU in octets is 2 to the power of the parameter C0, which is 7 or more, and at most 2 ^ 13 (X.224
--- 13.3.4); without the parameter it is 65,531, what a frame holds. A pair is the power, if there is one, and the size.
+-- The size of a TPDU in octets is 2 to the power of the parameter C0, which is 7 or more, and at
+-- most 2 ^ 13 (X.224 13.3.4); without the parameter it is 65,531, what a frame holds. A pair is the
+-- power, if there is one, and the size.
 abbrev pub size_of : Option (List ℕ) → Option (Option ℕ × ℕ)
 size_of None = Some (None, 65531)
 size_of (Some []) = None
 size_of (Some (power ∷ [])) = if nat_lt power 7 then None else Some (Some (min power 13), 2 ^ min power 13)
 size_of (Some (power ∷ more ∷ octets)) = None
 
--- what stands before a TPDU of so many octets in its frame: the version, a reserved octet and the frame's length (RFC 1006 6)
+-- what stands before a TPDU of so many octets in its frame: the version, a reserved octet and the
+-- frame's length (RFC 1006 6)
 abbrev pub frame_header : ℕ → List ℕ
 frame_header count = 3 ∷ 0 ∷ ((count + 4) / 256) ∷ ((count + 4) % 256) ∷ []
 
@@ -70,8 +73,8 @@ size_value (Some power) = Some (power ∷ [])
 abbrev pub answered : Option ℕ → Option (List ℕ) → Option (List ℕ) → List ℕ
 answered power called calling = where_there 0xC0 (size_value power) ++ where_there 0xC2 called ++ where_there 0xC1 calling
 
--- a confirmation up to its parameters, which take so many octets: its length indicator, D0, the reference of the one who
--- asked, the reference of the association, and class 0 (X.224 13.4)
+-- a confirmation up to its parameters, which take so many octets: its length indicator, D0, the
+-- reference of the one who asked, the reference of the association, and class 0 (X.224 13.4)
 abbrev pub confirm_front : ℕ → ℕ → ℕ → ℕ → List ℕ
 confirm_front number high low count = (count + 6) ∷ 0xD0 ∷ high ∷ low ∷ (number / 256) ∷ (number % 256) ∷ 0 ∷ []
 
@@ -92,13 +95,15 @@ abbrev pub with_parameters : ℕ → ℕ → ℕ → Option (List Parameter) →
 with_parameters number high low None = Err BadCotp
 with_parameters number high low (Some ps) = with_size number high low ps (size_of (last_value 0xC0 ps))
 
--- A length indicator counts the octets of its TPDU behind it: six and the parameters. 255 is reserved (X.224 13.2.1).
+-- A length indicator counts the octets of its TPDU behind it: six and the parameters. 255 is
+-- reserved (X.224 13.2.1).
 abbrev pub is_counted : ℕ → List ℕ → Bool
 is_counted indicator octets = if indicator == 255 then false else indicator == length octets + 6
 
--- What a request comes to on the association of this number: `indicator` is its length indicator, and the octets stand
--- behind its code: two references of two octets, the class with the options, and the parameters. The length indicator counts
--- them all and the code, a second request is refused, and then a class other than 0.
+-- What a request comes to on the association of this number: `indicator` is its length indicator,
+-- and the octets stand behind its code: two references of two octets, the class with the options,
+-- and the parameters. The length indicator counts them all and the code, a second request is
+-- refused, and then a class other than 0.
 abbrev pub connect : ℕ → Bool → ℕ → List ℕ → Result Connection TransportFault
 connect number again indicator (to_high ∷ to_low ∷ from_high ∷ from_low ∷ class ∷ octets) =
     if is_counted indicator octets

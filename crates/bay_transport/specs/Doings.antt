@@ -9,19 +9,22 @@ use Rattle.bay_transport.specs.declared.frame.Tpdu.TheVariants.{Request, Data, R
 use Rattle.bay_transport.specs.Frame.{tpdu_of, front_of, cut}
 use Rattle.bay_transport.specs.Connect.{Connection, connect}
 
--- one thing that octets come to: a size of TPDUs is agreed, with the answer to the request for it; a TSDU; the end; a fault
+-- one thing that octets come to: a size of TPDUs is agreed, with the answer to the request for it;
+-- a TSDU; the end; a fault
 pub data Doing : Type 0 where
   Answers : ℕ → List ℕ → Doing
   Delivers : List ℕ → Doing
   Ends : Doing
   Fails : TransportFault → Doing
 
--- what whole TPDUs leave: the size agreed, if a request came, and the joined data of an unfinished group
+-- what whole TPDUs leave: the size agreed, if a request came, and the joined data of an unfinished
+-- group
 pub record Link : Type 0 where
   pub size : Option ℕ
   pub group : List ℕ
 
--- what octets leave: what their whole TPDUs leave, and the rest behind these; or that they ended or failed
+-- what octets leave: what their whole TPDUs leave, and the rest behind these; or that they ended or
+-- failed
 pub data Left : Type 0 where
   Going : Link → List ℕ → Left
   Over : Left
@@ -31,8 +34,8 @@ pub record Run : Type 0 where
   pub doings : List Doing
   pub left : Left
 
--- what one TPDU comes to: its data join the group, or complete it; a size is agreed, and the request answered; the stream
--- ends, or is refused
+-- what one TPDU comes to: its data join the group, or complete it; a size is agreed, and the
+-- request answered; the stream ends, or is refused
 pub data Event : Type 0 where
   Joins : List ℕ → Event
   Completes : List ℕ → Event
@@ -44,12 +47,13 @@ abbrev pub connected : Result Connection TransportFault → Event
 connected (Ok c) = Agrees c.size c.reply
 connected (Err fault) = Refuses fault
 
--- A data TPDU whose data make the group this, and whose third octet is `mark`: at most 70,000 octets are joined, and bit 8 of
--- the mark stands on the last of a group (X.224 13.7).
+-- A data TPDU whose data make the group this, and whose third octet is `mark`: at most 70,000
+-- octets are joined, and bit 8 of the mark stands on the last of a group (X.224 13.7).
 abbrev pub gathered : ℕ → List ℕ → Event
 gathered mark group = if nat_lt 70000 (length group) then Refuses TsduTooLong else (if (mark / 128) % 2 == 1 then Completes group else Joins group)
 
--- a data TPDU behind its code: it comes after the request, its length indicator is 2, and its data fill the frame
+-- a data TPDU behind its code: it comes after the request, its length indicator is 2, and its data
+-- fill the frame
 abbrev pub data_event : Link → ℕ → List ℕ → Event
 data_event link indicator [] = Refuses BadCotp
 data_event link indicator (mark ∷ octets) =

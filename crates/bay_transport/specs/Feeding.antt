@@ -5,8 +5,8 @@ use Rattle.bay_transport.specs.declared.fault.TransportFault.TheVariants.{BadTpk
 use Rattle.bay_transport.specs.declared.assembly.Assembly.{Assembly}
 use Rattle.bay_transport.specs.declared.fed.Got.{Got}
 use Rattle.bay_transport.specs.declared.fed.Got.TheVariants.{More, Answer, Tsdu, Ended}
-use Rattle.bay_transport.specs.declared.reader.Phase.{Phase}
-use Rattle.bay_transport.specs.declared.reader.Phase.TheVariants.{Open, Closed, Refused}
+use Rattle.bay_transport.specs.declared.reader.ReaderState.{ReaderState}
+use Rattle.bay_transport.specs.declared.reader.ReaderState.TheVariants.{Open, Closed, Refused}
 use Rattle.bay_transport.specs.declared.reader.Reader.{Reader}
 use Rattle.bay_transport.specs.Doings.{Doing, Answers, Delivers, Ends, Fails, Left, Going, Over, Broken, Stream, doings}
 use Rattle.bay_transport.specs.Assembly.{left_of, IsSound, HasNoRoom}
@@ -18,8 +18,8 @@ pub record Completes (s : Stream) (piece : List ℕ) (used : ℕ) (doing : Doing
   pub quiet : doings s (take (used - 1) piece) ≡ []
   pub does : doings s (take used piece) ≡ doing ∷ []
 
--- So many octets of the piece are taken, and this is answered, or nothing yet: the first doing of the piece. After an end, no
--- octet is taken and the end is answered again.
+-- So many octets of the piece are taken, and this is answered, or nothing yet: the first doing of
+-- the piece. After an end, no octet is taken and the end is answered again.
 abbrev pub FeedsFrom : Left → Stream → List ℕ → ℕ → Option Doing → Type 0
 FeedsFrom (Going link rest) s piece used None = (used ≡ length piece) × (doings s piece ≡ [])
 FeedsFrom (Going link rest) s piece used (Some doing) = Completes s piece used doing
@@ -38,8 +38,8 @@ IsGoing (Going link rest) = Unit {0}
 IsGoing Over = ⊥
 IsGoing Broken = ⊥
 
--- The piece is refused: its first doing is the fault. A stream that failed refuses every piece, and memory can be wanted
--- only where octets are still taken.
+-- The piece is refused: its first doing is the fault. A stream that failed refuses every piece, and
+-- memory can be wanted only where octets are still taken.
 abbrev pub RefusesPiece : Stream → List ℕ → TransportFault → Type 0
 RefusesPiece s piece BadTpkt = doings s piece ≡ Fails BadTpkt ∷ []
 RefusesPiece s piece BadCotp = doings s piece ≡ Fails BadCotp ∷ []
@@ -77,8 +77,8 @@ size_after size (Delivers tsdu ∷ doings) = size_after size doings
 size_after size (Ends ∷ doings) = None
 size_after size (Fails fault ∷ doings) = None
 
--- What is kept is within the limits: 70,000 octets of a group, less than the longest frame, and 70,000 octets of what was
--- completed last; and nothing after an end or a refusal.
+-- What is kept is within the limits: 70,000 octets of a group, less than the longest frame, and
+-- 70,000 octets of what was completed last; and nothing after an end or a refusal.
 abbrev pub KeepsWithin : Left → List ℕ → Type 0
 KeepsWithin (Going link rest) shown = (length link.group ≤ 70000) × (length rest < 65535) × (length shown ≤ 70000)
 KeepsWithin Over shown = shown ≡ []
@@ -96,23 +96,23 @@ broken s = record { number = s.number; left = Broken }
 
 -- ---- what the fields mean
 
-abbrev pub left_in : Phase → Assembly → Left
+abbrev pub left_in : ReaderState → Assembly → Left
 left_in Open a = left_of a
 left_in Closed a = Over
 left_in Refused a = Broken
 
 abbrev pub stream_of : Reader → Stream
-stream_of r = record { number = r.assembly.number; left = left_in r.phase r.assembly }
+stream_of r = record { number = r.assembly.number; left = left_in r.state r.assembly }
 
 abbrev pub received_of : Reader → Received
 received_of r = record { stream = stream_of r; shown = r.assembly.shown.items }
 
 -- Where no more octets are taken, no room is kept for them.
-abbrev pub ReleasedUnlessOpen : Phase → Assembly → Type 0
+abbrev pub ReleasedUnlessOpen : ReaderState → Assembly → Type 0
 ReleasedUnlessOpen Open a = Unit {0}
 ReleasedUnlessOpen Closed a = HasNoRoom a
 ReleasedUnlessOpen Refused a = HasNoRoom a
 
 pub record IsKept (r : Reader) : Type 0 where
   pub sound : IsSound r.assembly
-  pub room : ReleasedUnlessOpen r.phase r.assembly
+  pub room : ReleasedUnlessOpen r.state r.assembly

@@ -13,7 +13,8 @@ pair_of high low = high * 256 + low
 abbrev pub tpdu_of : ℕ → Tpdu
 tpdu_of code = if code == 0xE0 then Request else (if code == 0xF0 then Data else (if code == 0x80 then Release else (if code == 0x70 then Release else Unknown)))
 
--- A frame is 03, any octet, the number of its octets in two octets, which is 7 or more, and the octets of one TPDU.
+-- A frame is 03, any octet, the number of its octets in two octets, which is 7 or more, and the
+-- octets of one TPDU.
 pub record IsFrame (frame : List ℕ) : Type 0 where
   pub reserved : ℕ
   pub high : ℕ
@@ -48,7 +49,8 @@ pub record IsCut (octets : List ℕ) (cut : Cut) : Type 0 where
 abbrev pub of_length : ℕ → ℕ → Front
 of_length frame have = if nat_lt frame 7 then NoFrame else (if nat_lt have frame then Begun else Whole frame)
 
--- what stands at the front of the octets: a first octet other than 03 and a length below 7 begin no frame
+-- what stands at the front of the octets: a first octet other than 03 and a length below 7 begin no
+-- frame
 abbrev pub front_of : List ℕ → Front
 front_of [] = Begun
 front_of (version ∷ []) = if version == 3 then Begun else NoFrame

@@ -26,7 +26,8 @@ abbrev pub AreWithin : ℕ → List (List ℕ) → Type 0
 AreWithin size [] = Unit {0}
 AreWithin size (frame ∷ frames) = (length frame ≤ size + 4) × AreWithin size frames
 
--- The octets are whole frames whose one doing is the TSDU, at any side that agreed this size and has no unfinished group.
+-- The octets are whole frames whose one doing is the TSDU, at any side that agreed this size and
+-- has no unfinished group.
 pub record Carries (size : ℕ) (tsdu octets : List ℕ) : Type 0 where
   pub does : (number : ℕ) → run number (Going (record { size = Some size; group = [] }) []) octets
       ≡ record { doings = Delivers tsdu ∷ []; left = Going (record { size = Some size; group = [] }) [] }

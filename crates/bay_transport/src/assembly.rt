@@ -1,7 +1,7 @@
 // Octets of a stream, assembled to frames, and the data of frames to TSDUs.
 ghost use Rattle.std.specs.Prelude.{◌≡◌, ◌+◌, ◌-◌, ◌<◌, ◌≤◌, Ok, Err, [], ◌∷◌, length, take, drop, ◌++◌, IfOk, IfErr, OnOk, IfSome, is_some};
 ghost use Rattle.bay_transport.specs.Frame.{wanted};
-ghost use Rattle.bay_transport.specs.Connect.{connect};
+ghost use Rattle.bay_transport.specs.Connect as spec;
 ghost use Rattle.bay_transport.specs.Doings.{Fails, Refuses, event_of, data_event, connected, alone, run};
 ghost use Rattle.bay_transport.specs.Assembly.{link_of, rest_of, left_of, body_of, IsSound, HoldsFrame, HasNoRoom, run_for, FailsWhere, Takes, Reaches};
 
@@ -17,7 +17,8 @@ const DATA_AT: usize = 7;
 // The longest TSDU, in octets.
 const TSDU_MAX: usize = 70_000;
 
-/// The octets of an unfinished group of data TPDUs and of an unfinished frame, and what the last TPDU completed.
+/// The octets of an unfinished group of data TPDUs and of an unfinished frame, and what the last
+/// TPDU completed.
 #[derive(Drop)]
 pub struct Assembly {
     pub(crate) alloc: Global,
@@ -43,6 +44,7 @@ fn cut_out(octets: &mut Vec<u8>, at: usize, count: usize)
 }
 
 impl Assembly {
+    /// An assembly on which nothing has come.
     pub(crate) fn new(alloc: Global, number: u16) -> Assembly
         ensures sound { IsSound result }
         ensures number { result.number ≡ number }
@@ -77,8 +79,8 @@ impl Assembly {
         requires { HoldsFrame self.old }
         ensures sound { OnOk result (IsSound self.new) }
         ensures number { self.new.number ≡ self.old.number }
-        ensures ok { IfOk result (λ kind. alone (connected (connect self.old.number (is_some self.old.size) indicator (body_of self.old))) (link_of self.old) ≡ run_for kind self.new) }
-        ensures err { IfErr result (λ fault. FailsWhere fault (connect self.old.number (is_some self.old.size) indicator (body_of self.old) ≡ Err fault)) }
+        ensures ok { IfOk result (λ kind. alone (connected (spec.connect self.old.number (is_some self.old.size) indicator (body_of self.old))) (link_of self.old) ≡ run_for kind self.new) }
+        ensures err { IfErr result (λ fault. FailsWhere fault (spec.connect self.old.number (is_some self.old.size) indicator (body_of self.old) ≡ Err fault)) }
     {
         let body = &self.buffer[self.group + 6..];
         let size = answer(
@@ -176,7 +178,8 @@ impl Assembly {
         }
     }
 
-    /// Takes octets of the piece up to the end of the TPDU that completes something, or all of them.
+    /// Takes octets of the piece up to the end of the TPDU that completes something, or all of
+    /// them.
     pub(crate) fn advance(&mut self, piece: &[u8]) -> Result<(usize, Got), TransportFault>
         requires { IsSound self.old }
         ensures sound { OnOk result (IsSound self.new) }

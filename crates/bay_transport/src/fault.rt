@@ -6,7 +6,8 @@ ghost use Rattle.bay_transport.specs.Code.{code_of};
 use std::alloc::AllocError;
 use thiserror::Error;
 
-/// Why octets are refused. After any of these the transport refuses every later piece with `Failed`.
+/// Why octets are refused. After any of these the transport refuses every later piece with
+/// `Failed`.
 #[derive(Clone, Copy, Debug, PartialEq, Eq, Error)]
 pub enum TransportFault {
     /// A frame does not begin with 03, or its length is below 7 (RFC 1006 6).

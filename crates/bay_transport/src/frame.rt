@@ -1,7 +1,7 @@
 // The frames of a stream: TPKTs (RFC 1006 6).
 ghost use Rattle.std.specs.Prelude.{◌≡◌, ◌<◌, ◌≤◌, length};
-ghost use Rattle.bay_transport.specs.Frame.{tpdu_of, pair_of, front_of, wanted};
-ghost use Rattle.bay_transport.specs.Connect.{frame_header};
+ghost use Rattle.bay_transport.specs.Frame as spec;
+ghost use Rattle.bay_transport.specs.Connect as spec_connect;
 
 /// What stands at the front of a list of octets.
 #[derive(Clone, Copy)]
@@ -29,7 +29,7 @@ pub enum Tpdu {
 
 /// What the TPDU of this code is.
 pub(crate) fn tpdu_of(code: u8) -> Tpdu
-    ensures { result ≡ tpdu_of code }
+    ensures { result ≡ spec.tpdu_of code }
 {
     match code {
         0xE0 => Tpdu::Request,
@@ -41,7 +41,7 @@ pub(crate) fn tpdu_of(code: u8) -> Tpdu
 
 // The number of two octets, the high one first.
 fn pair_of(high: u8, low: u8) -> usize
-    ensures { result ≡ pair_of high low }
+    ensures { result ≡ spec.pair_of high low }
 {
     high as usize * 256 + low as usize
 }
@@ -49,7 +49,7 @@ fn pair_of(high: u8, low: u8) -> usize
 /// What stands before a TPDU of so many octets in its frame.
 pub(crate) fn frame_header(count: usize) -> [u8; 4]
     requires { count ≤ 65_531 }
-    ensures { result ≡ frame_header count }
+    ensures { result ≡ spec_connect.frame_header count }
 {
     let [high, low] = ((count + 4) as u16).to_be_bytes();
     [3, 0, high, low]
@@ -57,7 +57,7 @@ pub(crate) fn frame_header(count: usize) -> [u8; 4]
 
 /// What stands at the front of these octets.
 pub(crate) fn front_of(octets: &[u8]) -> Front
-    ensures front { result ≡ front_of octets.now }
+    ensures front { result ≡ spec.front_of octets.now }
     ensures short { result ≡ Front.Begun → length octets.now < 65_535 }
 {
     match octets {
@@ -77,11 +77,11 @@ pub(crate) fn front_of(octets: &[u8]) -> Front
     }
 }
 
-/// How many octets can follow the beginning of a frame before more has to be known: those up to the end of the length, or
-/// else those up to the end of the frame.
+/// How many octets can follow the beginning of a frame before more has to be known: those up to the
+/// end of the length, or else those up to the end of the frame.
 pub(crate) fn wanted(begun: &[u8]) -> usize
-    requires { front_of begun.now ≡ Front.Begun }
-    ensures wanted { result ≡ wanted begun.now }
+    requires { spec.front_of begun.now ≡ Front.Begun }
+    ensures wanted { result ≡ spec.wanted begun.now }
     ensures some { 0 < result }
 {
     match begun {

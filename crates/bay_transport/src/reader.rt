@@ -11,7 +11,7 @@ use std::alloc::Global;
 
 /// Whether more octets are taken.
 #[derive(Clone, Copy)]
-pub enum Phase {
+pub enum ReaderState {
     /// They are.
     Open,
     /// The connection has ended.
@@ -23,29 +23,30 @@ pub enum Phase {
 /// What a transport keeps between pieces.
 #[derive(Drop)]
 pub struct Reader {
-    pub(crate) phase: Phase,
+    pub(crate) state: ReaderState,
     pub(crate) assembly: Assembly,
 }
 
 impl Reader {
+    /// A reader to which nothing has come.
     pub(crate) fn new(alloc: Global, number: u16) -> Reader
         ensures kept { IsKept result }
         ensures received { received_of result ≡ record { stream = record { number = number; left = start }; shown = [] } }
     {
         Reader {
-            phase: Phase::Open,
+            state: ReaderState::Open,
             assembly: Assembly::new(alloc, number),
         }
     }
 
     // Takes no more octets, and gives back the room that they took.
-    fn stop(&mut self, phase: Phase)
+    fn stop(&mut self, state: ReaderState)
         ensures number { self.new.assembly.number ≡ self.old.assembly.number }
-        ensures phase { self.new.phase ≡ phase }
+        ensures state { self.new.state ≡ state }
         ensures kept { IsKept self.new }
         ensures nothing { self.new.assembly.shown.items ≡ [] }
     {
-        self.phase = phase;
+        self.state = state;
         self.assembly.release();
     }
 
@@ -54,10 +55,11 @@ impl Reader {
         ensures kept { IsKept self.new }
         ensures ended { received_of self.new ≡ record { stream = ended (stream_of self.old); shown = [] } }
     {
-        self.stop(Phase::Closed);
+        self.stop(ReaderState::Closed);
     }
 
-    /// Takes octets up to the end of the TPDU that completes something, or all, and says how many and what is completed.
+    /// Takes octets up to the end of the TPDU that completes something, or all, and says how many
+    /// and what is completed.
     pub(crate) fn feed(&mut self, piece: &[u8]) -> Result<Fed, TransportFault>
         requires { IsKept self.old }
         ensures kept { IsKept self.new }
@@ -68,25 +70,25 @@ impl Reader {
         ensures refused { IfErr result (λ fault. RefusesPiece (stream_of self.old) piece.now fault) }
         ensures broken { OnErr result (stream_of self.new ≡ broken (stream_of self.old)) }
     {
-        match self.phase {
-            Phase::Refused => return Err(TransportFault::Failed),
-            Phase::Closed => {
+        match self.state {
+            ReaderState::Refused => return Err(TransportFault::Failed),
+            ReaderState::Closed => {
                 return Ok(Fed {
                     used: 0,
                     got: Got::Ended,
                 });
             }
-            Phase::Open => {}
+            ReaderState::Open => {}
         }
         match self.assembly.advance(piece) {
             Ok((used, got)) => {
                 if let Got::Ended = got {
-                    self.stop(Phase::Closed);
+                    self.stop(ReaderState::Closed);
                 }
                 Ok(Fed { used, got })
             }
             Err(fault) => {
-                self.stop(Phase::Refused);
+                self.stop(ReaderState::Refused);
                 Err(fault)
             }
         }

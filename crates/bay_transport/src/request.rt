@@ -1,8 +1,10 @@
 // The request for a connection, and its answer (X.224 13.3 and 13.4).
 ghost use Rattle.std.specs.Prelude.{◌≡◌, ◌+◌, ◌/◌, ◌%◌, ◌≤◌, ◌<◌, [], ◌∷◌, ◌++◌, Ok, Err, Some, None, length, IfOk, IfErr, IfSome, OnOk};
 ghost use Rattle.std.specs.Option.{option_copied, option_map};
-ghost use Rattle.bay_transport.specs.Connect.{parameters_of, where_there, size_value, size_of, frame_header, confirm_front, confirm, with_parameters, connect};
-ghost use Rattle.bay_transport.specs.Found.{found_then, HaveValues, answered_to};
+ghost use Rattle.bay_transport.specs.Connect.{parameters_of, where_there, size_value, confirm_front, with_parameters, connect};
+ghost use Rattle.bay_transport.specs.Connect as spec;
+ghost use Rattle.bay_transport.specs.Found.{HaveValues, answered_to};
+ghost use Rattle.bay_transport.specs.Found as spec_found;
 ghost use Rattle.bay_transport.specs.Assembly.{IsSize, FailsWhere};
 
 use crate::fault::TransportFault;
@@ -31,7 +33,7 @@ fn found_then<'a>(
     value: &'a [u8],
     found: Option<&'a [u8]>,
 ) -> Option<&'a [u8]>
-    ensures { option_copied result ≡ found_then wanted code value.now (option_copied found.entry) }
+    ensures { option_copied result ≡ spec_found.found_then wanted code value.now (option_copied found.entry) }
 {
     if code == wanted { Some(value) } else { found }
 }
@@ -69,9 +71,9 @@ fn values_of(octets: &[u8]) -> Result<Values<'_>, TransportFault>
 
 // The power of the size parameter, at most 13, and the size in octets.
 fn size_of(value: Option<&[u8]>) -> Result<(Option<u8>, usize), TransportFault>
-    ensures ok { IfOk result (λ size. size_of (option_copied value.entry) ≡ Some size) }
+    ensures ok { IfOk result (λ size. spec.size_of (option_copied value.entry) ≡ Some size) }
     ensures size { IfOk result (λ size. IsSize size.1) }
-    ensures err { IfErr result (λ fault. (fault ≡ TransportFault.BadCotp) × (size_of (option_copied value.entry) ≡ None)) }
+    ensures err { IfErr result (λ fault. (fault ≡ TransportFault.BadCotp) × (spec.size_of (option_copied value.entry) ≡ None)) }
 {
     match value {
         None => Ok((None, 65_531)),
@@ -125,7 +127,7 @@ fn begin(
     parameters: usize,
 ) -> Result<(), AllocError>
     requires { parameters ≤ 249 }
-    ensures { OnOk result (reply.new.items ≡ frame_header (parameters + 7) ++ confirm_front number high low parameters) }
+    ensures { OnOk result (reply.new.items ≡ spec.frame_header (parameters + 7) ++ confirm_front number high low parameters) }
 {
     let [number_high, number_low] = number.to_be_bytes();
     reply.clear();
@@ -157,7 +159,7 @@ struct Request<'a> {
 // Writes the confirmation.
 fn confirm(reply: &mut Vec<u8>, number: u16, request: Request<'_>) -> Result<(), AllocError>
     requires { length (answered_to request) ≤ 249 }
-    ensures reply { OnOk result (reply.new.items ≡ confirm number request.entry.high request.entry.low (answered_to request.entry)) }
+    ensures reply { OnOk result (reply.new.items ≡ spec.confirm number request.entry.high request.entry.low (answered_to request.entry)) }
     ensures short { OnOk result (length reply.new.items ≤ 260) }
 {
     let size = if request.power.is_some() { 3 } else { 0 };
@@ -196,8 +198,9 @@ fn respond(
     Ok(size)
 }
 
-/// Writes the answer to a request on the association of this number, and gives the size agreed in octets. The body stands
-/// behind the request's length indicator and code; `again` says that a request came before.
+/// Writes the answer to a request on the association of this number, and gives the size agreed in
+/// octets. The body stands behind the request's length indicator and code; `again` says that a
+/// request came before.
 pub(crate) fn answer(
     reply: &mut Vec<u8>,
     number: u16,

@@ -6,13 +6,13 @@ ghost use Rattle.bay_transport.specs.Wrap.{wrapped, Carries};
 
 use crate::fault::TransportFault;
 use crate::fed::Fed;
-use crate::reader::{Phase, Reader};
+use crate::reader::{Reader, ReaderState};
 use crate::wrap::wrap;
 use std::alloc::{AllocError, Global};
 use std::marker::Model;
 
-/// One connection, on the association of a number, which contracts see as what its octets leave and the octets of what they
-/// completed last.
+/// One connection, on the association of a number, which contracts see as what its octets leave and
+/// the octets of what they completed last.
 #[derive(Drop)]
 pub struct Transport {
     reader: Reader,
@@ -29,7 +29,8 @@ impl Model for Transport {
 }
 
 impl Transport {
-    /// A connection before its first octet. The number is sent as the reference of this side (X.224 13.4).
+    /// A connection before its first octet. The number is sent as the reference of this side (X.224
+    /// 13.4).
     pub fn new(alloc: Global, number: u16) -> Transport
         ensures { result ≡ record { stream = record { number = number; left = start }; shown = [] } }
     {
@@ -38,17 +39,20 @@ impl Transport {
         }
     }
 
-    /// Takes the octets of the piece up to the end of the first TPDU that completes something, and says what that is: a
-    /// request for a connection, a TSDU, or the end of the connection. `shown` lends the answer to the request, and the TSDU.
-    /// The caller feeds the octets behind them again. Where nothing is completed all octets are taken. After an end no octet
-    /// is taken, and the answer is `Ended` again.
+    /// Takes the octets of the piece up to the end of the first TPDU that completes something, and
+    /// says what that is: a request for a connection, a TSDU, or the end of the connection. `shown`
+    /// lends the answer to the request, and the TSDU. The caller feeds the octets behind them
+    /// again. Where nothing is completed all octets are taken. After an end no octet is taken, and
+    /// the answer is `Ended` again.
     ///
-    /// A refusal is for good: later pieces are answered `Failed`, as they are after want of memory. No more is kept than
-    /// 70,000 octets of an unfinished TSDU, an unfinished frame (less than 65,535 octets), and 70,000 octets of what is
-    /// shown. After an end or a refusal nothing is kept: the buffers are given back.
+    /// A refusal is for good: later pieces are answered `Failed`, as they are after want of memory.
+    /// No more is kept than 70,000 octets of an unfinished TSDU, an unfinished frame (less than
+    /// 65,535 octets), and 70,000 octets of what is shown. After an end or a refusal nothing is
+    /// kept: the buffers are given back.
     pub fn feed(&mut self, piece: &[u8]) -> Result<Fed, TransportFault>
         ensures within { IfOk result (λ fed. fed.used ≤ length piece.now) }
-        // What is answered is the first doing of the piece, and a refusal is the fault that the octets show.
+        // What is answered is the first doing of the piece, and a refusal is the fault that the
+        // octets show.
         ensures fed { IfOk result (λ fed. Feeds self.old.stream piece.now fed.used (doing_for fed.got self.new)) }
         ensures refused { IfErr result (λ fault. RefusesPiece self.old.stream piece.now fault) }
         // What is left is what the octets that were taken leave, or a stream that failed.
@@ -59,36 +63,40 @@ impl Transport {
         self.reader.feed(piece)
     }
 
-    /// The octets of what was completed last: the answer to a request for a connection, which is to be sent, or a TSDU. None
-    /// before the first, and after an end or a refusal.
+    /// The octets of what was completed last: the answer to a request for a connection, which is to
+    /// be sent, or a TSDU. None before the first, and after an end or a refusal.
     pub fn shown(&self) -> &[u8]
         ensures { result.now ≡ self.now.shown }
     {
         self.reader.assembly.shown.as_slice()
     }
 
-    /// Ends the connection from this side: no more octets are taken, and the buffers are given back.
+    /// Ends the connection from this side: no more octets are taken, and the buffers are given
+    /// back.
     pub fn end(&mut self)
         ensures { self.new ≡ record { stream = ended self.old.stream; shown = [] } }
     {
         self.reader.end();
     }
 
-    /// The size agreed for a TPDU in octets, where a request came and the connection has neither ended nor failed.
+    /// The size agreed for a TPDU in octets, where a request came and the connection has neither
+    /// ended nor failed.
     pub fn agreed_size(&self) -> Option<usize>
         ensures { result ≡ agreed self.now.stream }
     {
-        match self.reader.phase {
-            Phase::Open => self.reader.assembly.size,
-            Phase::Closed | Phase::Refused => None,
+        match self.reader.state {
+            ReaderState::Open => self.reader.assembly.size,
+            ReaderState::Closed | ReaderState::Refused => None,
         }
     }
 
-    /// The data TPDUs in which a TSDU is sent, each in its frame and of at most the size agreed, an empty TSDU in one of
-    /// them (X.224 13.7). The octets of the TSDU are those of the front and then the rest, so that what another layer writes
-    /// before its user's octets need not be joined with them: each octet is copied once, into room that is taken once.
+    /// The data TPDUs in which a TSDU is sent, each in its frame and of at most the size agreed, an
+    /// empty TSDU in one of them (X.224 13.7). The octets of the TSDU are those of the front and
+    /// then the rest, so that what another layer writes before its user's octets need not be joined
+    /// with them: each octet is copied once, into room that is taken once.
     ///
-    /// The front has at most 125 octets, which is what the smallest data TPDU holds, and the TSDU at most 70,000.
+    /// The front has at most 125 octets, which is what the smallest data TPDU holds, and the TSDU
+    /// at most 70,000.
     pub fn wrap(&self, front: &[u8], rest: &[u8]) -> Result<Vec<u8>, AllocError>
         requires agreed { IsSome (agreed self.now.stream) }
         requires front { length front.now ≤ 125 }

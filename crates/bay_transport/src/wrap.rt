@@ -47,7 +47,8 @@ fn frames_length(room: usize, count: usize) -> usize
     count + (full + 1) * BEFORE_DATA
 }
 
-/// The data TPDUs of a TSDU, each of at most this size in octets. Its octets are the front and then the rest.
+/// The data TPDUs of a TSDU, each of at most this size in octets. Its octets are the front and then
+/// the rest.
 pub(crate) fn wrap(
     alloc: Global,
     size: usize,

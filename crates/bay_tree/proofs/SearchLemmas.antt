@@ -76,23 +76,24 @@ pub not_found : (rows : List Row) (name : List ℕ) (fault other : TreeFault) (p
 not_found rows name fault other None is h = is
 not_found rows name fault other (Some place) is h = absurd cc
 
--- a row that stands in a tree is the first of its name
-own-place : (rows : List Row) (row start : ℕ) (name : List ℕ) → AreApart rows → row < length rows → name_at rows row ≡ name → position_from (λ (r : Row). bytes_eq r.name name) start rows ≡ Some (start + row)
-own-place [] row start name apart within named = absurd (omega arith)
+-- A row that stands in a tree is the first of its name: a search that counts from `start` ends
+-- there.
+own-place : (rows : List Row) (place start : ℕ) (name : List ℕ) → AreApart rows → place < length rows → name_at rows place ≡ name → position_from (λ (r : Row). bytes_eq r.name name) start rows ≡ Some (start + place)
+own-place [] place start name apart within named = absurd (omega arith)
 own-place (r ∷ rows) zero start name apart within named =
     let none : start ≡ start + 0 = omega arith in
     ap (λ b. cond b (Some start) (position_from (λ (r : Row). bytes_eq r.name name) (start + 1) rows)) ((bytes_eq-Decides r.name name).1 named) ∙ ap Some none
-own-place (r ∷ rows) (suc row) start name apart within named =
-    let other : bytes_eq r.name name ≡ false = other_text r.name name (λ same. apart zero (suc row) (omega arith) within (same ∙ sym named)) in
-    let more : start + 1 + row ≡ start + suc row = omega arith in
+own-place (r ∷ rows) (suc place) start name apart within named =
+    let other : bytes_eq r.name name ≡ false = other_text r.name name (λ same. apart zero (suc place) (omega arith) within (same ∙ sym named)) in
+    let more : start + 1 + place ≡ start + suc place = omega arith in
     ap (λ b. cond b (Some start) (position_from (λ (r : Row). bytes_eq r.name name) (start + 1) rows)) other
-    ∙ own-place rows row (start + 1) name (λ i j lt in_rows. apart (suc i) (suc j) (omega arith) (omega arith)) (omega arith) named
+    ∙ own-place rows place (start + 1) name (λ i j lt in_rows. apart (suc i) (suc j) (omega arith) (omega arith)) (omega arith) named
     ∙ ap Some more
 
-pub place_of-named : (rows : List Row) (row : ℕ) (name : List ℕ) → IsTree rows → IsHandle rows row → name_at rows row ≡ name → place_of rows name ≡ Some row
-place_of-named rows row name tree within named =
-    let zero_more : 0 + row ≡ row = omega arith in
-    position_from-zero (λ (r : Row). bytes_eq r.name name) rows ∙ own-place rows row 0 name tree.distinct within named ∙ ap Some zero_more
+pub place_of-named : (rows : List Row) (place : ℕ) (name : List ℕ) → IsTree rows → IsHandle rows place → name_at rows place ≡ name → place_of rows name ≡ Some place
+place_of-named rows place name tree within named =
+    let zero_more : 0 + place ≡ place = omega arith in
+    position_from-zero (λ (r : Row). bytes_eq r.name name) rows ∙ own-place rows place 0 name tree.distinct within named ∙ ap Some zero_more
 
 -- where a name is follows from the names
 place-by_names : (before after : List Row) (start : ℕ) (name : List ℕ) → names_of before ≡ names_of after → position_from (λ (r : Row). bytes_eq r.name name) start before ≡ position_from (λ (r : Row). bytes_eq r.name name) start after

@@ -1,5 +1,5 @@
--- The rows of a tree: named values in one list, each structure before what stands in it (IEC 61850-8-1, the
--- mapping of names to MMS named variables, whose words are parted by `$`).
+-- The rows of a tree: named values in one list, each structure before what stands in it (IEC
+-- 61850-8-1, the mapping of names to MMS named variables, whose words are parted by `$`).
 use Rattle.std.specs.Prelude.{◌≡◌, ◌≢◌, ℕ, ◌+◌, ◌<◌, Option, Some, None, option_map, option_and_then, IfSome, IsSomeAnd, List, [], ◌∷◌, length, map, filter, find, drop, slice_index_or, slice_set, position, if◌then◌else◌}
 use Rattle.std.specs.List.{position_from}
 use Rattle.std.specs.Str.{bytes_eq}

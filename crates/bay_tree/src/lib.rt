@@ -1,9 +1,10 @@
-// The tree of named values that clients browse: rows in the order of their names, each a structure or
-// a leaf with a typed value (IEC 61850-8-1, mapping of names to MMS named variables).
+// The tree of named values that clients browse: rows in the order of their names, each a structure
+// or a leaf with a typed value (IEC 61850-8-1, mapping of names to MMS named variables).
 //
-// Handed out: `tree` (the tree and its calls), `row` and `leaf` (what it is built of and holds), `page`
-// (a page of names), `fault`, `search` (whether rows make a tree), `laws` (what a write leaves). Inside:
-// `node` (the rows as an arena, each with its links), `index` (the places of names), `name` (a name with its last word).
+// Handed out: `tree` (the tree and its calls), `row` and `leaf` (what it is built of and holds),
+// `page` (a page of names), `fault`, `search` (whether rows make a tree), `laws` (what a write
+// leaves). Inside: `node` (the rows as an arena, each with its links), `index` (the places of
+// names), `name` (a name with its last word).
 #![tactic(auto)]
 
 pub mod fault;

@@ -36,8 +36,8 @@ fn is_below_structure(rows: &[Row], index: &Index, place: usize) -> bool
     }
 }
 
-/// Whether rows make a tree: their names are distinct, and each name's parent is a structure before it.
-/// It makes an index of the names, and so takes memory.
+/// Whether rows make a tree: their names are distinct, and each name's parent is a structure before
+/// it. It makes an index of the names, and so takes memory.
 pub fn is_tree(alloc: Global, rows: &[Row]) -> Result<bool, AllocError>
     ensures { IfOk result (λ is. IsTrue is ↔ IsTree rows.now) }
 {

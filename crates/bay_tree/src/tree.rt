@@ -5,7 +5,8 @@ ghost use Rattle.bay_tree.specs.Names.{IsNamed, parent_of, word_of};
 ghost use Rattle.bay_tree.specs.Rows.{IsTree, IsHandle, place_of, name_at, leaf_at, leaf_of, kind_at, names_of, kinds_of, with_leaf, with_leaf_of, first_below_from, first_below, next_beside, places_below, places_behind, places_since};
 ghost use Rattle.bay_tree.specs.Kinds.{kind_of};
 ghost use Rattle.bay_tree.specs.Order.{place_if};
-ghost use Rattle.bay_tree.specs.Page.{page_after, start_after, IsUnknown};
+ghost use Rattle.bay_tree.specs.Page.{page_after, IsUnknown};
+ghost use Rattle.bay_tree.specs.Page as spec;
 
 use crate::fault::{NamesFault, TreeFault};
 use crate::index::{Index, index_of};
@@ -52,7 +53,8 @@ impl Model for Tree {
     ghost invariant = { λ t. IsArena t.nodes.items t.index };
 }
 
-/// Gives a place a value. A plain value that follows one of its own type is written over it, which saves the move of a whole leaf.
+/// Gives a place a value. A plain value that follows one of its own type is written over it, which
+/// saves the move of a whole leaf.
 #[inline(always)]
 fn put_leaf(place: &mut Option<Leaf>, leaf: Leaf)
     ensures { place.new ≡ Some leaf }
@@ -177,7 +179,8 @@ impl Tree {
         Some(Handle { index })
     }
 
-    /// The next row below the same parent; None for a row of one word, and after the parent's last row.
+    /// The next row below the same parent; None for a row of one word, and after the parent's last
+    /// row.
     pub fn beside(&self, handle: Handle) -> Option<Handle>
         requires { IsHandle self.now handle }
         ensures next { result ≡ next_beside self.now handle }
@@ -232,8 +235,8 @@ impl Tree {
         self.nodes[handle.index].name.word()
     }
 
-    /// The first names that follow a row's, or the first of all where no name is given, and whether there are
-    /// more. Want of memory changes nothing.
+    /// The first names that follow a row's, or the first of all where no name is given, and whether
+    /// there are more. Want of memory changes nothing.
     pub fn names_after(&self, after: Option<&str>, count: usize) -> Result<Names, NamesFault>
         ensures page { IfOk result (λ page. page ≡ page_after self.now (option_copied after.entry) count) }
         ensures unknown { (result ≡ Err NamesFault.NoSuchName) ↔ IsUnknown self.now (option_copied after.entry) }
@@ -271,7 +274,7 @@ impl Tree {
 
     /// Where the rows after a name begin; without a name at the first.
     fn start_after(&self, after: Option<&str>) -> Option<usize>
-        ensures start { result ≡ start_after self.now (option_copied after.entry) }
+        ensures start { result ≡ spec.start_after self.now (option_copied after.entry) }
         ensures within { IfSome result (λ start. start ≤ length self.now) }
     {
         match after {

@@ -35,7 +35,8 @@ fn verify_often(alloc: Global, octets: &[u8], rounds: u32) -> Result<u64> {
     Ok(total)
 }
 
-/// Scans so many times, and gives the sum of the steps.
+/// Scans an image without points so many times, each 1 ms after the last, and gives the sum of the
+/// steps.
 fn scan_often(machine: &mut Machine, rounds: u32) -> Result<u64> {
     let mut total = 0_u64;
     for round in 0..rounds {

@@ -19,6 +19,7 @@ enum Stage {
     Verify,
 }
 
+/// The stage that a word names.
 fn stage_of(word: &str) -> Option<Stage> {
     match word {
         "read" => Some(Stage::Read),

@@ -1,7 +1,8 @@
-// Does jobs of the layers so many times, and prints what comes of each. The scripts in bench/ time it from outside.
+// Does jobs of the layers so many times, and prints what comes of each. The scripts in bench/ time
+// it from outside.
 //
-// Each line of the standard input is a job: its word, its numbers, and the octets that it works on, in hexadecimal digits, or `@` for
-// all that follows the line.
+// Each line of the standard input is a job: its word, its numbers, and the octets that it works on,
+// in hexadecimal digits, or `@` for all that follows the line.
 //
 //     ber-read ROUNDS OCTETS     lists of BER elements inside one another are read
 //     ber-write LISTS ROUNDS     10,000 elements are written, chains of an integer inside so many lists

@@ -15,7 +15,8 @@ pub struct Found {
     pub sum: u64,
 }
 
-/// A connection whose association these octets have opened, in hexadecimal digits, two requests parted by a space.
+/// A connection whose association these octets have opened, in hexadecimal digits, two requests
+/// parted by a space.
 pub fn opened(alloc: Global, opening: &str) -> Result<Connection> {
     let mut client = Connection::new(alloc, 1);
     for word in opening.split(" ") {
@@ -96,6 +97,7 @@ fn write_often(alloc: Global, client: &Connection, names: &[Text], rounds: u32) 
     Ok(found)
 }
 
+/// The names of a text, one a line.
 fn names_of(alloc: Global, text: &str) -> Result<Vec<Text>> {
     let mut names = Vec::new(alloc);
     for line in text.lines() {
@@ -109,8 +111,8 @@ pub fn found_text(alloc: Global, found: &Found) -> Result<String> {
     Ok(format!(in alloc; "count {} sum {}", found.count, found.sum)?)
 }
 
-/// What comes of reading a request so many times. What opens an association stands in the first line, and behind it the frame of
-/// the request.
+/// What comes of reading a request so many times. What opens an association stands in the first
+/// line, and behind it the frame of the request.
 pub fn request_text(alloc: Global, rounds: u32, octets: &[u8]) -> Result<String> {
     let (opening, frame) = str::from_utf8(octets)?
         .split_once("\n")
@@ -121,7 +123,8 @@ pub fn request_text(alloc: Global, rounds: u32, octets: &[u8]) -> Result<String>
     found_text(alloc, &found)
 }
 
-/// What comes of writing a response with the names of these lines so many times. What opens an association stands in the first line.
+/// What comes of writing a response with the names of these lines so many times. What opens an
+/// association stands in the first line.
 pub fn names_text(alloc: Global, rounds: u32, octets: &[u8]) -> Result<String> {
     let (opening, names) = str::from_utf8(octets)?
         .split_once("\n")

@@ -45,8 +45,8 @@ fn walk(octets: &[u8]) -> Result<Found, BerFault>
     Ok(Found { elements, sum })
 }
 
-/// Walks so many times, each time with the number of the round as the last octet: the elements of one walk, and the sum
-/// of all.
+/// Walks so many times, each time with the number of the round as the last octet: the elements of
+/// one walk, and the sum of all.
 pub fn walk_often(octets: &mut [u8], rounds: u32) -> Result<Found, BerFault>
     ensures { IfOk result (λ found. 2 * found.elements ≤ length octets.new) }
 {

@@ -77,7 +77,8 @@ fn list_often(tree: &Tree, rounds: u32) -> Result<Found> {
     Ok(found)
 }
 
-/// Reads the logical node with this name so many times, each time as a response that is sent to a client.
+/// Reads the logical node with this name so many times, each time as a response that is sent to a
+/// client.
 fn send_node_often(alloc: Global, tree: &Tree, client: &Connection, rounds: u32) -> Result<Found> {
     let mut found = Found { count: 0, sum: 0 };
     for round in 0..rounds {
@@ -96,7 +97,8 @@ fn send_node_often(alloc: Global, tree: &Tree, client: &Connection, rounds: u32)
     Ok(found)
 }
 
-/// What comes of a job on the tree of a bay; what opens an association stands in the first line, and the bay behind it.
+/// What comes of a job on the tree of a bay; what opens an association stands in the first line,
+/// and the bay behind it.
 pub fn tree_text(alloc: Global, job: &str, rounds: u32, octets: &[u8]) -> Result<String> {
     let (opening, text) = str::from_utf8(octets)?.split_once("\n").context("no bay")?;
     let tree = tree_of(alloc, text)?;

@@ -1,4 +1,5 @@
-// What the programs of cases share: the words of a line, octets as cases spell them, and what is told of those that differ.
+// What the programs of cases share: the words of a line, octets as cases spell them, and what is
+// told of those that differ.
 //
 // - `words`: the words of a line.
 // - `octets`: octets in hexadecimal digits.

@@ -1,4 +1,5 @@
-// Octets as cases spell them: in hexadecimal digits, `-` for none; `07*9` is nine times 07, and `+` joins.
+// Octets as cases spell them: in hexadecimal digits, `-` for none; `07*9` is nine times 07, and `+`
+// joins.
 use anyhow::Result;
 use std::alloc::Global;
 

@@ -2,7 +2,8 @@
 use anyhow::{Result, bail};
 use std::alloc::Global;
 
-/// How many cases there were, how many came out otherwise than they say, and a line for each of those.
+/// How many cases there were, how many came out otherwise than they say, and a line for each of
+/// those.
 #[derive(Drop)]
 pub struct Told {
     cases: u32,
@@ -20,7 +21,8 @@ impl Told {
         }
     }
 
-    /// Tells what came of the case of a line: whether it is as it says, or why it could not be looked at.
+    /// Tells what came of the case of a line: whether it is as it says, or why it could not be
+    /// looked at.
     pub fn tell(&mut self, line: &str, outcome: Result<bool>) -> Result<()> {
         self.cases = self.cases.saturating_add(1);
         match outcome {
@@ -32,7 +34,8 @@ impl Told {
         Ok(())
     }
 
-    /// All that is told: a line for each case that differs, and how many do. Fails where there was no case at all.
+    /// All that is told: a line for each case that differs, and how many do. Fails where there was
+    /// no case at all.
     pub fn finish(self) -> Result<String> {
         let Told {
             cases,

@@ -9,6 +9,7 @@ use Rattle.il_text.specs.declared.program.Operator.{Operator}
 use Rattle.il_text.specs.declared.program.Output.TheVariants.{Q, Et}
 use Rattle.il_text.specs.declared.program.StoreKind.{StoreKind}
 use Rattle.il_text.specs.declared.program.StoreKind.TheVariants as store
+use Rattle.il_image.specs.Effects.{◌>>=◌}
 use Rattle.il_image.specs.Values.{number_of, type_of}
 use Rattle.il_image.specs.declared.instr.Instr.{Instr}
 use Rattle.il_image.specs.declared.instr.Instr.TheVariants.{Slot, Not}
@@ -25,7 +26,7 @@ use Rattle.il_check.specs.declared.typed.TypedOperand.{TypedOperand}
 use Rattle.il_check.specs.declared.typed.TypedOperand.TheVariants as operand
 use Rattle.il_compile.specs.Code.{slot_number, fetch, negation, sense_instr, operated, store_code, operation_code, entry_code, entries_code}
 use Rattle.il_compile.specs.Correct.{HasTypes}
-use Rattle.il_compile.specs.Meaning.{◌>>=◌, Memory, State, combined, inverse_if, output_of, slot_value, read, with_value, written, stored, acted, without_result, mean_entry, mean_entries}
+use Rattle.il_compile.specs.Meaning.{Memory, State, combined, inverse_if, output_of, slot_value, read, with_value, written, stored, acted, without_result, mean_entry, mean_entries}
 use Rattle.il_compile.specs.Senses.{Sense, connects, computes, compares, sense_of, widening_of}
 use Rattle.il_compile.proofs.Memories.{flat, set_same, There, there, changed, timer_there}
 use Rattle.il_compile.proofs.Straight.{Core, core, Does, DoesAll, both, alone, pushed, dropped, inverted, wider, joined, fetched, kept, set_if, reset_if, output_fetched, elapsed_fetched}
@@ -144,7 +145,8 @@ module _ (c : Checked) (now : ℕ) where
 
   -- ---- operations
 
-  -- what code gives from cells and a memory: what is meant, with its result in one cell on those below
+  -- what code gives from cells and a memory: what is meant, with its result in one cell on those
+  -- below
   pub record Gives (code : List Instr) (from : Core) (below : List Value) (t : Option ElementaryType) (meant : Option State) : Type 0 where
     pub state : State
     pub is : meant ≡ Some state

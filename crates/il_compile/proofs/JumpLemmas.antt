@@ -3,8 +3,9 @@ use Rattle.std.proofs.Common.{◌≡◌, ℕ, ◌==◌, Bool, true, false, if◌
 use Rattle.il_text.specs.declared.program.Condition.{Condition}
 use Rattle.il_check.specs.Program.{Item, label, transfer, plain}
 use Rattle.il_check.specs.declared.typed.Transfer.TheVariants as go
+use Rattle.il_image.specs.Effects.{◌>>=◌}
 use Rattle.il_compile.specs.Laws.{items_behind, mean_behind}
-use Rattle.il_compile.specs.Meaning.{◌>>=◌, State, goes, mean_from}
+use Rattle.il_compile.specs.Meaning.{State, goes, mean_from}
 
 sought : (now l : ℕ) (is : List Item) (s : State) → mean_from now (Some l) is s ≡ mean_behind now (items_behind l is) s
 sought now l [] s = refl

@@ -5,6 +5,7 @@ use Rattle.bay_base.specs.declared.types.ElementaryType.{ElementaryType}
 use Rattle.bay_base.specs.declared.types.ElementaryType.TheVariants as elementary
 use Rattle.il_text.specs.declared.program.Condition.{Condition}
 use Rattle.il_text.specs.declared.program.Condition.TheVariants.{Always, IfTrue, IfFalse}
+use Rattle.il_image.specs.Effects.{◌>>=◌}
 use Rattle.il_image.specs.Images.{Each, all_spelled}
 use Rattle.il_image.specs.Machine.{State as Machine, Turn, Goes, Halts, Traps, Ending, Halted, act, ending_of, turn_of}
 use Rattle.il_image.proofs.BegunLemmas.{loose_run as run, loose_turn as turn}
@@ -21,7 +22,7 @@ use Rattle.il_check.specs.declared.typed.Transfer.{Transfer}
 use Rattle.il_check.specs.declared.typed.Transfer.TheVariants as go
 use Rattle.il_compile.specs.Code.{unset, entry_code, transfer_code, octets, octets_before, distance, items_code, program_code}
 use Rattle.il_compile.specs.Correct.{HasTypes, Means}
-use Rattle.il_compile.specs.Meaning.{Memory, State, ◌>>=◌, goes, mean_from}
+use Rattle.il_compile.specs.Meaning.{Memory, State, goes, mean_from}
 use Rattle.il_compile.specs.Senses.{when_of}
 use Rattle.il_compile.proofs.Calls.{call_does}
 use Rattle.il_compile.proofs.Entries.{Agrees, holding, entry_does}

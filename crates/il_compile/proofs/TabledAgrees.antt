@@ -1,4 +1,5 @@
--- Rows of which each is allowed, and to each of which another leads, are a table that agrees with the code.
+-- Rows of which each is allowed, and to each of which another leads, are a table that agrees with
+-- the code.
 use Rattle.std.proofs.Common.{◌≡◌, ◌≢◌, ℕ, ◌+◌, ◌≤◌, ◌⊎◌, inl, inr, ⊎_elim, IsSome, List, [], ◌∷◌, ◌++◌, length, Option, Some, None, refl, sym, ap, subst, ◌∙◌, arith, append_assoc}
 use Rattle.il_image.specs.Effects.{effect}
 use Rattle.il_image.specs.Images.{Each, Image}
@@ -12,7 +13,8 @@ use Rattle.il_compile.proofs.TabledRows.{At, Row, at_found, at_place, behind_row
 
 -- ---- rows that are allowed
 
--- The instruction is allowed on its kinds, and what it gives enters the rows behind it where it leads.
+-- The instruction is allowed on its kinds, and what it gives enters the rows behind it where it
+-- leads.
 pub record IsRight (image : Image) (r : Row) (behind : List Row) : Type 0 where
   pub after : List Kind
   pub effect : effect (slot_types image) (length image.timers) r.instr r.kinds ≡ Some after
@@ -29,7 +31,8 @@ right_at image (x ∷ before) r behind h = right_at image before r behind h.1
 
 -- ---- instructions to which others lead
 
--- To each instruction another leads, or the premise holds of how many octets it is behind the first.
+-- To each instruction another leads, or the premise holds of how many octets it is behind the
+-- first.
 abbrev pub AreReached : (ℕ → Type 0) → List Instr → Type 0
 AreReached P [] = Unit {0}
 AreReached P (i ∷ is) = P 0 × AreReached (λ d. P (length (spelling i) + d) ⊎ LeadsTo i 0 d) is

@@ -122,7 +122,8 @@ same_coming : (now : Coming) (t u : Option ElementaryType) → now ≡ Some t �
 same_coming now t u e f = let g : Some t ≡ Some u = sym e ∙ f in cc
 
 module _ (c : Checked) (labels : Labelling) where
-  -- the rows of the items and of HALT: what comes enters the first, what a label has the first behind it, and all the last
+  -- the rows of the items and of HALT: what comes enters the first, what a label has the first
+  -- behind it, and all the last
   pub record Tail (is : List Item) (named : List ℕ) (now : Coming) : Type 0 where
     pub rows : List Row
     pub same : instrs_of rows ≡ items_code (length c.externals) is ++ Halt ∷ []

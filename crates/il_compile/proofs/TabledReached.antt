@@ -52,8 +52,8 @@ module _ (c : Checked) (labels : Labelling) where
   no_lower (transfer (go.Call n args) ∷ is) passed named now l ok h = no_lower is passed named (Some None) l ok.2 h
   no_lower (plain e ∷ is) passed named now l ok h = no_lower is passed named (Some ok.1) l ok.3 h
 
-  -- what is led to from above: the first item, where something comes to it, each label below that was named, and, where nothing
-  -- comes, the end or some label
+  -- what is led to from above: the first item, where something comes to it, each label below that
+  -- was named, and, where nothing comes, the end or some label
   pub record IsLed (P : ℕ → Type 0) (is : List Item) (named : List ℕ) (now : Coming) : Type 0 where
     pub comes : (t : Option ElementaryType) → now ≡ Some t → P 0
     pub jumps : (l : ℕ) → is_named named l ≡ true → has_label is l ≡ true → P (octets_before (length c.externals) l is)

@@ -112,7 +112,8 @@ comparable c elementary.Dint l e h = rw (sym e) refl
 comparable c elementary.Lint l e h = rw (sym e) refl
 comparable c elementary.Time l e h = rw (sym e) refl
 
--- an operator makes a value of two of a type that it takes, of which the second is not 0 where it divides
+-- an operator makes a value of two of a type that it takes, of which the second is not 0 where it
+-- divides
 pub combined_made : (sense : Sense) (a b : Value) → type_of b ≡ type_of a → sense_takes sense (type_of a) ≡ true → sense_divides sense && int_eq (number_of b) (pos 0) ≡ false
     → Made (combined sense a b) (sense_gives sense (type_of a))
 combined_made (connects x) (Truth a) (Truth b) e h z = record { value = Truth (connected x a b); is = refl; type = refl }

@@ -1,4 +1,5 @@
--- Inner: what the compiler knows of the items behind a place, as it goes from the last item to the first.
+-- Inner: what the compiler knows of the items behind a place, as it goes from the last item to the
+-- first.
 use Rattle.std.specs.Prelude.{◌≡◌, ℕ, ◌+◌, ◌≤◌, List, min, reverse, Option, [], nat_eq}
 use Rattle.std.specs.HashMap.{get}
 use Rattle.std.specs.Option.{unwrap_or}
@@ -32,8 +33,8 @@ AreSpellable externals is = Each (IsSpellable externals) is
 abbrev pub KnowsPlaces : ℕ → (ℕ → Option ℕ) → List Item → Type 0
 KnowsPlaces externals places is = (l : ℕ) → octets_before externals l is + unwrap_or (places l) 0 ≡ octets (items_code externals is)
 
--- The items' instructions, the last first, with the octets that they have, counted up to 65,536; where they have fewer, the
--- instructions and the places of labels are known.
+-- The items' instructions, the last first, with the octets that they have, counted up to 65,536;
+-- where they have fewer, the instructions and the places of labels are known.
 pub record IsBehind (externals : ℕ) (is : List Item) (instrs : List Instr) (size : ℕ) (places : ℕ → Option ℕ) : Type 0 where
   pub counted : size ≡ min (octets (items_code externals is)) 65_536
   pub code : octets (items_code externals is) ≤ 65_535 → reverse instrs ≡ items_code externals is

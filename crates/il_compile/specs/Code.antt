@@ -121,7 +121,8 @@ transfer_code externals (go.Call n args) distance = arguments_code externals n a
 abbrev pub octets : List Instr → ℕ
 octets code = length (all_spelled code)
 
--- the octets of the items up to a label, or of all where there is none; those of a jump are the same at each distance
+-- the octets of the items up to a label, or of all where there is none; those of a jump are the
+-- same at each distance
 abbrev pub octets_before : ℕ → ℕ → List Item → ℕ
 octets_before externals l [] = 0
 octets_before externals l (label n ∷ is) = if n == l then 0 else octets_before externals l is

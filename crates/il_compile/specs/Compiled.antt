@@ -13,7 +13,8 @@ use Rattle.il_compile.specs.declared.fault.CompileFault.TheVariants.{CodeTooLong
 abbrev pub point_of : External → ImagePoint
 point_of e = record { name = e.name; elementary = e.kind; writable = e.writable }
 
--- The points are the externals; slots are the externals and then the variables, in the order of their declarations.
+-- The points are the externals; slots are the externals and then the variables, in the order of
+-- their declarations.
 abbrev pub image_of : Checked → Image
 image_of c = record {
   points = map point_of c.externals;

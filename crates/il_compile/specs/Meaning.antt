@@ -1,6 +1,6 @@
--- What a program means (IEC 61131-3:2003, 3.2 and table 52): by structure, on a current result, the variables and the timers,
--- at a moment. What meets a result that is not set, a name that is not there, a value of another type or a divisor of 0 means
--- nothing.
+-- What a program means (IEC 61131-3:2003, 3.2 and table 52): by structure, on a current result, the
+-- variables and the timers, at a moment. What meets a result that is not set, a name that is not
+-- there, a value of another type or a divisor of 0 means nothing.
 use Rattle.std.specs.Prelude.{ℕ, ℤ, pos, ◌&&◌, ◌==◌, Bool, true, false, not, List, [], ◌∷◌, slice_get, slice_set, Option, None, Some, option_map, if◌then◌else◌}
 use Rattle.std.specs.Ordering.{int_eq}
 use Rattle.bay_base.specs.Types.{same_type}
@@ -14,6 +14,7 @@ use Rattle.il_text.specs.declared.program.Output.TheVariants.{Q, Et}
 use Rattle.il_text.specs.declared.program.StoreKind.{StoreKind}
 use Rattle.il_text.specs.declared.program.StoreKind.TheVariants as store
 use Rattle.il_image.specs.Arithmetic.{compared, computed, connected, widened}
+use Rattle.il_image.specs.Effects.{◌>>=◌}
 use Rattle.il_image.specs.Machine.{divides, is_comparable, value_in}
 use Rattle.il_image.specs.Timers.{called}
 use Rattle.il_image.specs.Values.{number_of, type_of}
@@ -36,7 +37,8 @@ use Rattle.il_check.specs.declared.typed.TypedOperand.{TypedOperand}
 use Rattle.il_check.specs.declared.typed.TypedOperand.TheVariants as operand
 use Rattle.il_compile.specs.Senses.{Sense, connects, computes, compares, sense_of, widening_of}
 
--- the values of the externals, the variables and the timers, each by its name's place among the declarations
+-- the values of the externals, the variables and the timers, each by its name's place among the
+-- declarations
 pub record Memory : Type 0 where
   pub externals : List Value
   pub variables : List Value
@@ -46,11 +48,6 @@ pub record Memory : Type 0 where
 pub record State : Type 0 where
   pub result : Option Value
   pub memory : Memory
-
-infixl 10 ◌>>=◌
-abbrev pub ◌>>=◌ : {A B : Type 0} → Option A → (A → Option B) → Option B
-None >>= f = None
-(Some x) >>= f = f x
 
 -- ---- values
 
@@ -217,8 +214,8 @@ run_timer now n args s = do
 
 -- ---- the items
 
--- At a moment, the items one behind the other; or where a label is sought, those behind it. A jump goes on behind its label, and
--- a return ends the run.
+-- At a moment, the items one behind the other; or where a label is sought, those behind it. A jump
+-- goes on behind its label, and a return ends the run.
 abbrev pub mean_from : ℕ → Option ℕ → List Item → State → Option State
 mean_from now None [] s = Some s
 mean_from now (Some l) [] s = None

@@ -1,4 +1,5 @@
--- What the operators do, and the conversions, timers and conditions of Instruction List in the words of images.
+-- What the operators do, and the conversions, timers and conditions of Instruction List in the
+-- words of images.
 use Rattle.il_text.specs.declared.program.Condition.{Condition}
 use Rattle.il_text.specs.declared.program.Condition.TheVariants as condition
 use Rattle.il_text.specs.declared.program.Conversion.{Conversion}

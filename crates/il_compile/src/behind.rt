@@ -1,4 +1,5 @@
-// The items of a program from the last to the first: a jump's distance is known when what it passes over is.
+// The items of a program from the last to the first: a jump's distance is known when what it passes
+// over is.
 ghost use Rattle.std.specs.Prelude.{◌≡◌, ℕ, List, ◌+◌, ◌≤◌, ◌∷◌, [], ◌++◌, length, map, min, reverse, IfOk, OnOk};
 ghost use Rattle.il_image.specs.Spelling.{spelling};
 ghost use Rattle.il_check.specs.Program.{Item, label, plain, transfer};
@@ -30,6 +31,7 @@ pub(crate) struct Behind {
     pub(crate) line: Vec<Instr>,
 }
 
+// How many octets an instruction has.
 fn octets_of(instr: Instr) -> u32
     ensures { result ≡ length (spelling instr) }
 {
@@ -49,6 +51,7 @@ fn octets_of(instr: Instr) -> u32
     }
 }
 
+// The octets of both, counted up to 65,536.
 fn joined(a: u32, b: u32) -> u32
     requires left { a ≤ 65_536 }
     requires right { b ≤ 65_536 }
@@ -58,7 +61,8 @@ fn joined(a: u32, b: u32) -> u32
     if sum < BOUND { sum } else { BOUND }
 }
 
-// Puts instructions before those behind, which stand with the last first; the octets of all of them.
+// Puts instructions before those behind, which stand with the last first; the octets of all of
+// them.
 fn put_before(
     behind: &mut Vec<Instr>,
     octets: u32,
@@ -102,6 +106,7 @@ impl Behind {
         Ok(())
     }
 
+    // A label stands where the octets behind it begin.
     fn put_label(&mut self, number: usize) -> Result<(), AllocError>
         ensures { (externals : ℕ) (is : List Item) → IsSettled externals is self.old → OnOk result (IsSettled externals (label number ∷ is) self.new) }
     {
@@ -109,6 +114,7 @@ impl Behind {
         Ok(())
     }
 
+    // Puts the instructions of an operation or a parenthesis.
     fn put_plain(&mut self, externals: usize, entry: &TypedEntry) -> Result<(), AllocError>
         requires bounded { self.old.octets ≤ 65_536 }
         requires spellable { IsSpellableEntry externals (entry_view entry.now) }
@@ -118,6 +124,7 @@ impl Behind {
         self.settle()
     }
 
+    // Puts a jump over the octets between it and its label.
     fn put_jump(&mut self, condition: Condition, label: usize) -> Result<(), AllocError>
         requires { self.old.octets ≤ 65_536 }
         ensures { (externals : ℕ) (is : List Item) → IsSettled externals is self.old → OnOk result (IsSettled externals (transfer (Transfer.Jump condition label) ∷ is) self.new) }
@@ -128,6 +135,7 @@ impl Behind {
         self.settle()
     }
 
+    // Puts a jump over all that is behind it.
     fn put_return(&mut self, condition: Condition) -> Result<(), AllocError>
         requires { self.old.octets ≤ 65_536 }
         ensures { (externals : ℕ) (is : List Item) → IsSettled externals is self.old → OnOk result (IsSettled externals (transfer (Transfer.Return condition) ∷ is) self.new) }
@@ -137,6 +145,7 @@ impl Behind {
         self.settle()
     }
 
+    // Puts a call of a timer.
     fn put_timer(
         &mut self,
         externals: usize,
@@ -151,6 +160,7 @@ impl Behind {
         self.settle()
     }
 
+    // Puts an item before those behind it.
     fn put_item(&mut self, externals: usize, item: &TypedItem) -> Result<(), AllocError>
         requires bounded { self.old.octets ≤ 65_536 }
         requires spellable { IsSpellable externals (item_view item.now) }

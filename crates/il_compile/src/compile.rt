@@ -7,9 +7,10 @@ ghost use Rattle.il_check.specs.Program.{Checked};
 ghost use Rattle.il_check.specs.ProgramViews.{checked_view, item_view};
 ghost use Rattle.il_check.specs.TypedProgram.{HasName, IsTyped};
 ghost use Rattle.il_compile.specs.Code as spec;
-ghost use Rattle.il_compile.specs.Compiled.{compiled_of, image_of, image_size, point_of, points_octets};
+ghost use Rattle.il_compile.specs.Compiled.{compiled_of, image_of, image_size, points_octets};
+ghost use Rattle.il_compile.specs.Compiled as spec_compiled;
 ghost use Rattle.il_compile.specs.Correct.{DoesTheText};
-ghost use Rattle.il_compile.specs.Senses.{timer_of};
+ghost use Rattle.il_compile.specs.Senses as senses;
 ghost use Rattle.il_compile.specs.declared.fault.CompileFault.TheVariants.{OutOfMemory};
 
 use crate::behind::{Behind, behind_all};
@@ -28,8 +29,9 @@ use std::alloc::{AllocError, Global};
 /// The most octets that an image may have.
 const MAX_OCTETS: usize = 65_535;
 
+/// The point that an external variable is.
 fn point_of(alloc: Global, external: &External) -> Result<ImagePoint, AllocError>
-    ensures { IfOk result (λ point. point ≡ point_of external.now) }
+    ensures { IfOk result (λ point. point ≡ spec_compiled.point_of external.now) }
 {
     Ok(ImagePoint {
         name: Text::from_str(alloc, external.name.as_str())?,
@@ -38,8 +40,9 @@ fn point_of(alloc: Global, external: &External) -> Result<ImagePoint, AllocError
     })
 }
 
+/// The points of the external variables, in their order.
 fn points_of(alloc: Global, externals: &[External]) -> Result<Vec<ImagePoint>, AllocError>
-    ensures { IfOk result (λ points. points.items ≡ map point_of externals.now) }
+    ensures { IfOk result (λ points. points.items ≡ map spec_compiled.point_of externals.now) }
 {
     let mut points = Vec::new(alloc);
     for external in externals {
@@ -48,6 +51,7 @@ fn points_of(alloc: Global, externals: &[External]) -> Result<Vec<ImagePoint>, A
     Ok(points)
 }
 
+/// The initial values of the variables, in their order.
 fn values_of(alloc: Global, variables: &[Variable]) -> Result<Vec<Value>, AllocError>
     ensures { IfOk result (λ values. values.items ≡ map (λ v. v.initial) variables.now) }
 {
@@ -58,8 +62,9 @@ fn values_of(alloc: Global, variables: &[Variable]) -> Result<Vec<Value>, AllocE
     Ok(values)
 }
 
+/// A kind of timer as the machine names it.
 fn timer_of(kind: text::TimerKind) -> TimerKind
-    ensures { result ≡ timer_of kind }
+    ensures { result ≡ senses.timer_of kind }
 {
     match kind {
         text::TimerKind::OnDelay => TimerKind::OnDelay,
@@ -67,8 +72,9 @@ fn timer_of(kind: text::TimerKind) -> TimerKind
     }
 }
 
+/// The kinds of the timers, in their order.
 fn kinds_of(alloc: Global, timers: &[Timer]) -> Result<Vec<TimerKind>, AllocError>
-    ensures { IfOk result (λ kinds. kinds.items ≡ map (λ t. timer_of t.kind) timers.now) }
+    ensures { IfOk result (λ kinds. kinds.items ≡ map (λ t. senses.timer_of t.kind) timers.now) }
 {
     let mut kinds = Vec::new(alloc);
     for timer in timers {
@@ -91,7 +97,8 @@ fn points_size(externals: &[External]) -> usize
     size
 }
 
-/// The octets of a program's code: a cell for the result, the instructions of the items, of which the last stands first, and HALT.
+/// The octets of a program's code: a cell for the result, the instructions of the items, of which
+/// the last stands first, and HALT.
 fn spell_all(alloc: Global, behind: Vec<Instr>) -> Result<Vec<u8>, AllocError>
     ensures { IfOk result (λ code. code.items ≡ all_spelled (spec.unset ∷ reverse behind.items ++ Instr.Halt ∷ [])) }
 {
@@ -105,8 +112,8 @@ fn spell_all(alloc: Global, behind: Vec<Instr>) -> Result<Vec<u8>, AllocError>
     Ok(code)
 }
 
-/// The octets of an image beside those of its code, in version 2 of the format: the mark and the version, four counts, and
-/// what is counted.
+/// The octets of an image beside those of its code, in version 2 of the format: the mark and the
+/// version, four counts, and what is counted.
 fn head_size(program: &Typed) -> usize
     requires { IsTyped (checked_view program.now) }
     ensures value { result ≡ 13 + points_octets program.now.externals + 9 * length program.now.variables + length program.now.timers }
@@ -115,6 +122,7 @@ fn head_size(program: &Typed) -> usize
     13 + points_size(program.externals()) + 9 * program.variables().len() + program.timers().len()
 }
 
+/// The image of a program; CodeTooLong where it would have more than 65,535 octets.
 fn compiled(alloc: Global, program: &Typed) -> Result<Image, CompileFault>
     ensures image { Gives OutOfMemory (λ image. image) result (compiled_of (checked_view program.now)) }
     ensures typed { IsTyped (checked_view program.now) }
@@ -136,22 +144,25 @@ fn compiled(alloc: Global, program: &Typed) -> Result<Image, CompileFault>
     ))
 }
 
-/// Compiles a checked program. The image has the externals as points, the variables with their initial values, the timers, and
-/// the code; slots are the externals and then the variables, in the order of their declarations, and a timer's number is its
-/// place among the timers.
+/// Compiles a checked program. The image has the externals as points, the variables with their
+/// initial values, the timers, and the code; slots are the externals and then the variables, in the
+/// order of their declarations, and a timer's number is its place among the timers.
 ///
-/// The code begins with a cell for the current result; each instruction acts on the topmost cell (IEC 61131-3:2003, table 52), a
-/// parenthesis on one of its own, and the code ends with HALT.
+/// The code begins with a cell for the current result; each instruction acts on the topmost cell
+/// (IEC 61131-3:2003, table 52), a parenthesis on one of its own, and the code ends with HALT.
 ///
-/// The only fault but want of memory is `CodeTooLong`, exactly where the image as it is written would have more than 65,535
-/// octets. The code of each program takes memory, so of want of memory cases alone show that it comes only where memory was refused.
+/// The only fault but want of memory is `CodeTooLong`, exactly where the image as it is written
+/// would have more than 65,535 octets. The code of each program takes memory, so of want of memory
+/// cases alone show that it comes only where memory was refused.
 pub fn compile(alloc: Global, program: &Typed) -> Result<Image, CompileFault>
     // The image of the program, or that it is too long, unless memory ran out.
     ensures image { Gives OutOfMemory (λ image. image) result (compiled_of (checked_view program.now)) }
-    // From all values of the program's types, at each moment, the machine runs the code without a trap to HALT, in no more steps
-    // than the code has octets, and leaves in slots and timers what the program means.
+    // From all values of the program's types, at each moment, the machine runs the code without a
+    // trap to HALT, in no more steps than the code has octets, and leaves in slots and timers what
+    // the program means.
     ensures follows { IfOk result (λ image. DoesTheText (checked_view program.now) image.code) }
-    // A table of kinds agrees with the code: each instruction is allowed on what stands on the stack before it, and is reached.
+    // A table of kinds agrees with the code: each instruction is allowed on what stands on the
+    // stack before it, and is reached.
     ensures tabled { IfOk result (λ image. HasTable image) }
 {
     let image = compiled(alloc, program)?;

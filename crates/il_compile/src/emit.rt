@@ -42,6 +42,7 @@ fn fetch(externals: usize, operand: TypedOperand) -> Instr
     }
 }
 
+/// The width of an operation on numbers of a type.
 fn width_of(kind: ElementaryType) -> Width
     ensures { result ≡ spec.width_of kind }
 {
@@ -74,6 +75,7 @@ fn operator_instr(operator: Operator, kind: ElementaryType) -> Instr
     }
 }
 
+/// A conversion as the machine names it.
 fn widening_of(conversion: Conversion) -> Widening
     ensures { result ≡ senses.widening_of conversion }
 {
@@ -94,6 +96,7 @@ pub(crate) fn when_of(condition: Condition) -> When
     }
 }
 
+/// What the machine does with an input of a timer.
 fn input_use(input: Input) -> TimerUse
     ensures { result ≡ spec.input_use input }
 {
@@ -111,6 +114,7 @@ pub(crate) fn put(code: &mut Vec<Instr>, instr: Instr) -> Result<(), AllocError>
     Ok(())
 }
 
+/// Appends a NOT, where the operand is negated.
 fn put_negation(code: &mut Vec<Instr>, negated: bool) -> Result<(), AllocError>
     ensures { OnOk result (code.new.items ≡ code.old.items ++ spec.negation negated) }
 {
@@ -133,6 +137,7 @@ fn put_operated(
     put(code, operator_instr(operator, kind))
 }
 
+/// Appends a store of the result, which stays on the stack.
 fn put_store(code: &mut Vec<Instr>, kind: StoreKind, slot: u16) -> Result<(), AllocError>
     ensures { OnOk result (code.new.items ≡ code.old.items ++ spec.store_code kind slot) }
 {
@@ -148,6 +153,7 @@ fn put_store(code: &mut Vec<Instr>, kind: StoreKind, slot: u16) -> Result<(), Al
     }
 }
 
+/// Appends the instructions of an operation.
 fn put_operation(
     code: &mut Vec<Instr>,
     externals: usize,
@@ -203,6 +209,7 @@ pub(crate) fn put_entry(
     }
 }
 
+/// Appends an argument of a call: its operand, and where it goes.
 fn put_argument(
     code: &mut Vec<Instr>,
     externals: usize,

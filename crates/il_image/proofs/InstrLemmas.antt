@@ -96,7 +96,8 @@ known_is version (Some o) opcode e = go version o opcode (is_known version o) re
 
 -- ---- values and widths
 
--- A value that was read: its number is spelled, and it is the value of the type that the number gives.
+-- A value that was read: its number is spelled, and it is the value of the type that the number
+-- gives.
 pub record TookValue (size : Size) (t : ElementaryType) (octets : List ℕ) (v : Value) (rest : List ℕ) : Type 0 where
   pub front : Front (octet_count size) (signed_octets size (number_of v)) octets rest
   pub type : type_of v ≡ t
@@ -222,7 +223,8 @@ pub behind_octets : (front rest : List ℕ) → AreOctets (front ++ rest) → Ar
 behind_octets [] rest fits = fits
 behind_octets (x ∷ front) rest fits = behind_octets front rest (λ i. fits (suc i))
 
--- An instruction that was read is spelled, and is one that can be, of an opcode that the version has.
+-- An instruction that was read is spelled, and is one that can be, of an opcode that the version
+-- has.
 pub record TookInstr (version : Version) (octets : List ℕ) (i : Instr) (rest : List ℕ) : Type 0 where
   pub front : Front (length (spelling i)) (spelling i) octets rest
   pub good : AreOctets octets → IsInstr i

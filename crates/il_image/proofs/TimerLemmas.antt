@@ -2,8 +2,8 @@
 use Rattle.std.proofs.Common.{◌≡◌, ◌-◌, ◌⊎◌, inl, inr, Bool, true, false, List, [], ◌∷◌, ◌++◌, refl, sym, ap, subst, ◌∙◌, arith}
 use Rattle.std.specs.Prelude.{◌↔◌}
 use Rattle.std.proofs.lemmas.Bool.{leb-true, le-leb, ltb-true, lt-ltb}
-use Rattle.il_image.specs.declared.timer.Phase.{Phase}
-use Rattle.il_image.specs.declared.timer.Phase.TheVariants.{Idle, Held, Since}
+use Rattle.il_image.specs.declared.timer.TimerPhase.{TimerPhase}
+use Rattle.il_image.specs.declared.timer.TimerPhase.TheVariants.{Idle, Held, Since}
 use Rattle.il_image.specs.declared.timer.TimerKind.{TimerKind}
 use Rattle.il_image.specs.declared.timer.TimerKind.TheVariants.{OnDelay, OffDelay}
 use Rattle.il_image.specs.Timers.{Call, AllHave, SomeHas, after, phase_after, output_of, IsBroken, LastRun, HasPassed, HasNotPassed}
@@ -46,12 +46,12 @@ one_first input calls a d r s = same_first input r.later r.before s.later s.befo
 -- ---- the on-delay timer
 
 -- what the phase of a TON says of its calls
-abbrev Delays : Phase → List Call → Type 0
+abbrev Delays : TimerPhase → List Call → Type 0
 Delays Idle calls = IsBroken true calls
 Delays Held calls = ⊥
 Delays (Since start) calls = (first : Call) × LastRun true calls first × (first.moment ≡ start)
 
-on_step : (c : Call) (calls : List Call) (input : Bool) (phase : Phase) → c.input ≡ input → Delays phase calls → Delays (phase_after OnDelay input phase c.moment) (c ∷ calls)
+on_step : (c : Call) (calls : List Call) (input : Bool) (phase : TimerPhase) → c.input ≡ input → Delays phase calls → Delays (phase_after OnDelay input phase c.moment) (c ∷ calls)
 on_step c calls false phase is h = λ e. absurd cc
 on_step c calls true Idle is h = (c, one_run true c calls is h, refl)
 on_step c calls true Held is h = absurd h
@@ -65,7 +65,7 @@ on_phase : (calls : List Call) → Delays (after OnDelay calls).phase calls
 on_phase [] = tt
 on_phase (c ∷ calls) = rw (kind_kept OnDelay calls) (on_step c calls c.input (after OnDelay calls).phase refl (on_phase calls))
 
-on_output : (c : Call) (calls : List Call) (phase : Phase) → Delays phase (c ∷ calls) → (output_of OnDelay c.preset phase c.moment ≡ true) ↔ HasPassed c calls
+on_output : (c : Call) (calls : List Call) (phase : TimerPhase) → Delays phase (c ∷ calls) → (output_of OnDelay c.preset phase c.moment ≡ true) ↔ HasPassed c calls
 on_output c calls Idle h = ((λ e. absurd cc), (λ p. absurd (not_broken true p.run.later p.run.before p.first p.run.first_has p.run.later_have (subst (IsBroken true) p.run.parts h))))
 on_output c calls Held h = absurd h
 on_output c calls (Since start) h = (
@@ -88,7 +88,7 @@ LastIs input [] = ⊥
 LastIs input (c ∷ calls) = c.input ≡ input
 
 -- what the phase of a TOF says of its calls
-abbrev Holds : Phase → List Call → Type 0
+abbrev Holds : TimerPhase → List Call → Type 0
 Holds Idle calls = AllHave false calls
 Holds Held calls = LastIs true calls
 Holds (Since start) calls = ((first : Call) × LastRun false calls first × (first.moment ≡ start)) × SomeHas true calls
@@ -97,7 +97,7 @@ broken_last : (calls : List Call) → LastIs true calls → IsBroken false calls
 broken_last [] h = absurd h
 broken_last (c ∷ calls) h = ((λ e. absurd cc), inl h)
 
-off_step : (c : Call) (calls : List Call) (input : Bool) (phase : Phase) → c.input ≡ input → Holds phase calls → Holds (phase_after OffDelay input phase c.moment) (c ∷ calls)
+off_step : (c : Call) (calls : List Call) (input : Bool) (phase : TimerPhase) → c.input ≡ input → Holds phase calls → Holds (phase_after OffDelay input phase c.moment) (c ∷ calls)
 off_step c calls true phase is h = is
 off_step c calls false Idle is h = (is, h)
 off_step c calls false Held is h = let b = broken_last calls h in ((c, one_run false c calls is b.0, refl), inr b.1)
@@ -114,7 +114,7 @@ run_is_false c calls (d ∷ later) before first parts has all = let e = all.0 in
 not_false : (b : Bool) → b ≡ true → b ≡ false → ⊥
 not_false b e d = absurd cc
 
-off_output : (c : Call) (calls : List Call) (phase : Phase) → Holds phase (c ∷ calls) → (output_of OffDelay c.preset phase c.moment ≡ true) ↔ ((c.input ≡ true) ⊎ HasNotPassed c calls)
+off_output : (c : Call) (calls : List Call) (phase : TimerPhase) → Holds phase (c ∷ calls) → (output_of OffDelay c.preset phase c.moment ≡ true) ↔ ((c.input ≡ true) ⊎ HasNotPassed c calls)
 off_output c calls Idle h = ((λ e. absurd cc), (λ p. elim p [ inl e ↦ absurd (not_false c.input e h.0) | inr q ↦ absurd (all_or_some calls h.1 q.held) ]))
 off_output c calls Held h = ((λ e. inl h), (λ p. refl))
 off_output c calls (Since start) h =

@@ -1,4 +1,5 @@
--- Arithmetic and comparisons of the integer types (IEC 61131-3:2003, tables 24 and 28), once for all widths.
+-- Arithmetic and comparisons of the integer types (IEC 61131-3:2003, tables 24 and 28), once for
+-- all widths.
 use Rattle.std.specs.Prelude.{ℤ, pos, ◌≡◌, ◌+ℤ◌, ◌-ℤ◌, ◌*ℤ◌, ◌&&◌, ◌||◌, Bool, not, int_div, int_lt, int_le, Option, Some, None, if◌then◌else◌}
 use Rattle.std.specs.Int.{Width as Bits, w16, w32, w64, int_wrap}
 use Rattle.std.specs.Ordering.{int_eq}

@@ -107,7 +107,8 @@ abbrev pub fault_behind : Read Instr → (List ℕ → Option ImageFault) → Op
 fault_behind (Ok r) fault_of = fault_of r.1
 fault_behind (Err fault) fault_of = Some fault
 
--- the fault of the first octets that spell no instruction; no code has more instructions than octets
+-- the fault of the first octets that spell no instruction; no code has more instructions than
+-- octets
 abbrev pub code_fault : Version → ℕ → List ℕ → Option ImageFault
 code_fault version zero octets = None
 code_fault version (suc most) [] = None
@@ -137,7 +138,8 @@ decoded octets = do
   code ← code_at version.0 timers.1
   Ok (record { points = points.0; variables = variables.0; timers = timers.0; code = code })
 
--- The octets begin with the mark, a version and the number of points: what is read of these takes no memory.
+-- The octets begin with the mark, a version and the number of points: what is read of these takes
+-- no memory.
 pub record TakesMemory (octets : List ℕ) : Type 0 where
   pub version : Version
   pub rest : List ℕ

@@ -84,7 +84,8 @@ with_truth slots n kinds = slice_get slots n >>= (λ t. if same_type t elementar
 abbrev pub with_timer : ℕ → ℕ → Option (List Kind) → Option (List Kind)
 with_timer timers n kinds = if nat_lt n timers then kinds else None
 
--- the kinds after an instruction, where it is allowed, for the types of the slots and the number of timers
+-- the kinds after an instruction, where it is allowed, for the types of the slots and the number of
+-- timers
 abbrev pub effect : List ElementaryType → ℕ → Instr → List Kind → Option (List Kind)
 effect slots timers Halt kinds = Some kinds
 effect slots timers (Push v) kinds = Some (kind_of v ∷ kinds)

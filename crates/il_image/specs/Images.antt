@@ -16,8 +16,8 @@ use Rattle.il_image.specs.Octets.{number_octets, signed_octets}
 use Rattle.il_image.specs.Spelling.{IsInstr, spelling}
 use Rattle.il_image.specs.Values.{number_of, type_of, value_of}
 
--- the points that the code uses, its variables with their initial values, its timers, and its octets; slots are the points
--- and then the variables
+-- the points that the code uses, its variables with their initial values, its timers, and its
+-- octets; slots are the points and then the variables
 pub record Image : Type 0 where
   pub points : List ImagePoint
   pub variables : List Value
@@ -57,7 +57,8 @@ pub record IsCode (code : List ℕ) : Type 0 where
   pub are : Each IsInstr instrs
   pub spelled : code ≡ all_spelled instrs
 
--- What the format can say: counts of 16 bits, names, values of their types, and code of instructions.
+-- What the format can say: counts of 16 bits, names, values of their types, and code of
+-- instructions.
 pub record IsImage (i : Image) : Type 0 where
   pub points : length i.points ≤ 65_535
   pub variables : length i.variables ≤ 65_535

@@ -24,7 +24,8 @@ use Rattle.il_image.specs.Places.{begun_at}
 use Rattle.il_image.specs.Timers.{called}
 use Rattle.il_image.specs.Values.{number_of, type_of}
 
--- the place of the next instruction, the cells of the operand stack with the top first, the slots, and the timers
+-- the place of the next instruction, the cells of the operand stack with the top first, the slots,
+-- and the timers
 pub record State : Type 0 where
   pub place : ℕ
   pub cells : List Value
@@ -46,7 +47,8 @@ pub data Turn : Type 0 where
   Halts : Turn
   Traps : Trap → Turn
 
--- ---- what steps are made of; what an instruction wants is looked at in this order: slot or timer, cells, kinds, divisor, room
+-- ---- what steps are made of; what an instruction wants is looked at in this order: slot or timer,
+-- cells, kinds, divisor, room
 
 -- goes on at a place, with these cells
 abbrev pub goes : ℕ → List Value → State → Turn
@@ -216,8 +218,8 @@ turn_of now (Some read) s = act now read.0 read.1 s
 abbrev pub turn : List ℕ → ℕ → State → Turn
 turn code now s = turn_of now (begun_at code s.place) s
 
--- how a run ends: at HALT, with the slots, the timers and the number of steps, HALT's too; in a trap; or not within so many
--- steps
+-- how a run ends: at HALT, with the slots, the timers and the number of steps, HALT's too; in a
+-- trap; or not within so many steps
 pub data Ending : Type 0 where
   Halted : List Value → List TimerState → ℕ → Ending
   Trapped : Trap → Ending

@@ -1,4 +1,5 @@
--- Reading one item at the front of octets: the item and the octets behind it, or the first fault from the left.
+-- Reading one item at the front of octets: the item and the octets behind it, or the first fault
+-- from the left.
 use Rattle.std.specs.Prelude.{ℕ, ℤ, ◌≡◌, ◌+◌, ◌-◌, ◌≤◌, ◌++◌, List, [], ◌∷◌, length, drop, Option, Some, None, Result, Ok, Err, nat_lt, if◌then◌else◌}
 use Rattle.std.specs.Int.{w16, cast_signed, from_be_bytes}
 use Rattle.bay_base.specs.declared.types.ElementaryType.{ElementaryType}
@@ -27,9 +28,9 @@ abbrev pub ◌>>=◌ : {A B : Type 0} → Result A ImageFault → (A → Result 
 (Err e) >>= f = Err e
 
 -- What a function answered, seen by view, is what reading gives.
-abbrev pub Gives : {X Y : Type 0} → (X → Y) → Result X ImageFault → Result Y ImageFault → Type 0
-Gives view (Ok x) read = read ≡ Ok (view x)
-Gives view (Err e) read = read ≡ Err e
+abbrev pub IsRead : {X Y : Type 0} → (X → Y) → Result X ImageFault → Result Y ImageFault → Type 0
+IsRead view (Ok x) read = read ≡ Ok (view x)
+IsRead view (Err e) read = read ≡ Err e
 
 -- what an octet or a number stands for, where it stands for something
 abbrev pub known : {A : Type 0} → Option A → Result A ImageFault

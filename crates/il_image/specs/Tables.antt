@@ -51,7 +51,8 @@ Table = ℕ → Option (List Kind)
 abbrev pub Enters : Table → ℕ → List Kind → Type 0
 Enters table place kinds = (most : List Kind) × (table place ≡ Some most) × AreWithin kinds most
 
--- The instruction at the place is allowed on these kinds, and what it gives enters each of its successors.
+-- The instruction at the place is allowed on these kinds, and what it gives enters each of its
+-- successors.
 pub record IsAllowed (image : Image) (table : Table) (place : ℕ) (kinds : List Kind) : Type 0 where
   pub instr : Instr
   pub next : ℕ
@@ -60,8 +61,9 @@ pub record IsAllowed (image : Image) (table : Table) (place : ℕ) (kinds : List
   pub effect : effect (slot_types image) (length image.timers) instr kinds ≡ Some after
   pub enters : (to : ℕ) → LeadsTo instr next to → Enters table to after
 
--- The table agrees with the code: it has kinds exactly at the places of the code, none of them before the first instruction
--- and at most 32 anywhere; each instruction is allowed on them; and each place but the first is a successor of another.
+-- The table agrees with the code: it has kinds exactly at the places of the code, none of them
+-- before the first instruction and at most 32 anywhere; each instruction is allowed on them; and
+-- each place but the first is a successor of another.
 pub record Agrees (image : Image) (table : Table) : Type 0 where
   pub starts : table 0 ≡ Some []
   pub places : (place : ℕ) → IsSome (table place) ↔ IsPlace image.code place

@@ -1,7 +1,7 @@
 -- Timers (IEC 61131-3:2003, table 38).
 use Rattle.std.specs.Prelude.{ℕ, ◌≡◌, ◌-◌, ◌<◌, ◌≤◌, ◌⊎◌, Bool, true, false, List, [], ◌∷◌, ◌++◌, min, nat_le, nat_lt}
-use Rattle.il_image.specs.declared.timer.Phase.{Phase}
-use Rattle.il_image.specs.declared.timer.Phase.TheVariants.{Idle, Held, Since}
+use Rattle.il_image.specs.declared.timer.TimerPhase.{TimerPhase}
+use Rattle.il_image.specs.declared.timer.TimerPhase.TheVariants.{Idle, Held, Since}
 use Rattle.il_image.specs.declared.timer.Timer.{Timer}
 use Rattle.il_image.specs.declared.timer.TimerKind.{TimerKind}
 use Rattle.il_image.specs.declared.timer.TimerKind.TheVariants.{OnDelay, OffDelay}
@@ -10,7 +10,7 @@ abbrev pub first_state : TimerKind → Timer
 first_state kind = record { kind = kind; input = false; preset = 0; phase = Idle; output = false; elapsed = 0 }
 
 -- the phase after a call with this IN at the moment m
-abbrev pub phase_after : TimerKind → Bool → Phase → ℕ → Phase
+abbrev pub phase_after : TimerKind → Bool → TimerPhase → ℕ → TimerPhase
 phase_after OnDelay false phase m = Idle
 phase_after OnDelay true Idle m = Since m
 phase_after OnDelay true Held m = Since m
@@ -21,14 +21,14 @@ phase_after OffDelay false Held m = Since m
 phase_after OffDelay false (Since start) m = Since start
 
 -- Q: a TON's delay is over, or a TOF's is not
-abbrev pub output_of : TimerKind → ℕ → Phase → ℕ → Bool
+abbrev pub output_of : TimerKind → ℕ → TimerPhase → ℕ → Bool
 output_of kind preset Idle m = false
 output_of kind preset Held m = true
 output_of OnDelay preset (Since start) m = nat_le preset (m - start)
 output_of OffDelay preset (Since start) m = nat_lt (m - start) preset
 
 -- ET
-abbrev pub elapsed_of : ℕ → Phase → ℕ → ℕ
+abbrev pub elapsed_of : ℕ → TimerPhase → ℕ → ℕ
 elapsed_of preset Idle m = 0
 elapsed_of preset Held m = 0
 elapsed_of preset (Since start) m = min (m - start) preset
@@ -73,14 +73,15 @@ pub record LastRun (input : Bool) (calls : List Call) (first : Call) : Type 0 wh
   pub later_have : AllHave input later
   pub begins : IsBroken input before
 
--- The last call has IN TRUE, and PT has passed by then since the first call of the unbroken run of IN TRUE.
+-- The last call has IN TRUE, and PT has passed by then since the first call of the unbroken run of
+-- IN TRUE.
 pub record HasPassed (last : Call) (earlier : List Call) : Type 0 where
   pub first : Call
   pub run : LastRun true (last ∷ earlier) first
   pub passed : last.preset ≤ last.moment - first.moment
 
--- An earlier call than the last has IN TRUE, and less than PT has passed by the last since the first call of the
--- unbroken run of IN FALSE.
+-- An earlier call than the last has IN TRUE, and less than PT has passed by the last since the
+-- first call of the unbroken run of IN FALSE.
 pub record HasNotPassed (last : Call) (earlier : List Call) : Type 0 where
   pub first : Call
   pub run : LastRun false (last ∷ earlier) first

@@ -1,4 +1,5 @@
-// Arithmetic, comparisons, connectives and widening of values (IEC 61131-3:2003, tables 22, 24, 26 and 28).
+// Arithmetic, comparisons, connectives and widening of values (IEC 61131-3:2003, tables 22, 24, 26
+// and 28).
 ghost use Rattle.std.specs.Prelude.{◌≡◌};
 ghost use Rattle.il_image.specs.declared.arithmetic.Width.{Width};
 ghost use Rattle.il_image.specs.Arithmetic.{DividesBy, compared, computed, connected, type_of_width, widened, wrapped};
@@ -80,7 +81,8 @@ fn compute_wide(operation: Operation, first: i64, second: i64) -> i64
     }
 }
 
-/// The result of an operation on two numbers: the exact integer, reduced into the width. A divisor is not 0.
+/// The result of an operation on two numbers: the exact integer, reduced into the width. A divisor
+/// is not 0.
 pub fn compute(operation: Operation, width: Width, first: i64, second: i64) -> i64
     requires { DividesBy operation second }
     ensures { result ≡ computed operation width first second }

@@ -1,10 +1,12 @@
 // Images read from octets, from the left up to the first fault.
 ghost use Rattle.std.specs.Prelude.{◌≡◌, ◌≤◌, ◌^◌, ◌<◌, length, IsErrOf, IsTrue, MatchResult, None, Some};
 ghost use Rattle.std.specs.List.{list_all};
-ghost use Rattle.bay_base.specs.Exact.{Gives as GivesButMemory};
-ghost use Rattle.il_image.specs.Decoding.{TakesMemory, access_at, access_of, behind, code_at, code_fault, counted_at, decoded, kind_of_octet, name_at, name_of_length, point_at, timer_at, type_at, type_of_octet, variable_at, version_at};
-ghost use Rattle.il_image.specs.Images.{is_name_octet, mark, value_size};
-ghost use Rattle.il_image.specs.Reading.{Gives};
+ghost use Rattle.bay_base.specs.Exact.{Gives};
+ghost use Rattle.il_image.specs.Decoding.{TakesMemory, access_of, behind, code_fault, counted_at, decoded, kind_of_octet};
+ghost use Rattle.il_image.specs.Decoding as spec;
+ghost use Rattle.il_image.specs.Images.{mark};
+ghost use Rattle.il_image.specs.Images as spec_images;
+ghost use Rattle.il_image.specs.Reading.{IsRead};
 
 use crate::fault::ImageFault;
 use crate::image::{Image, ImagePoint};
@@ -20,7 +22,7 @@ use std::alloc::Global;
 
 // The octets behind the mark.
 fn behind_mark(octets: &[u8]) -> Result<&[u8], ImageFault>
-    ensures { Gives (λ r. r.now) result (behind mark octets.now) }
+    ensures { IsRead (λ r. r.now) result (behind mark octets.now) }
 {
     match octets {
         [0x49, 0x4C, 0x42, 0x43, rest @ ..] => Ok(rest),
@@ -29,8 +31,9 @@ fn behind_mark(octets: &[u8]) -> Result<&[u8], ImageFault>
     }
 }
 
+// The version of the format.
 fn version_at(octets: &[u8]) -> Result<(Version, &[u8]), ImageFault>
-    ensures { Gives (λ r. (r.0, r.1.now)) result (version_at octets.now) }
+    ensures { IsRead (λ r. (r.0, r.1.now)) result (spec.version_at octets.now) }
 {
     match octets {
         [0x01, rest @ ..] => Ok((Version::One, rest)),
@@ -42,7 +45,7 @@ fn version_at(octets: &[u8]) -> Result<(Version, &[u8]), ImageFault>
 
 // The type that an octet stands for.
 fn type_of_octet(version: Version, octet: u8) -> Option<ElementaryType>
-    ensures { result ≡ type_of_octet version octet }
+    ensures { result ≡ spec.type_of_octet version octet }
 {
     match octet {
         0x01 => Some(ElementaryType::Bool),
@@ -54,8 +57,9 @@ fn type_of_octet(version: Version, octet: u8) -> Option<ElementaryType>
     }
 }
 
+// The type at the front of octets.
 fn type_at(version: Version, octets: &[u8]) -> Result<(ElementaryType, &[u8]), ImageFault>
-    ensures { Gives (λ r. (r.0, r.1.now)) result (type_at version octets.now) }
+    ensures { IsRead (λ r. (r.0, r.1.now)) result (spec.type_at version octets.now) }
 {
     let (octet, rest) = octet_at(octets)?;
     match type_of_octet(version, octet) {
@@ -66,7 +70,7 @@ fn type_at(version: Version, octets: &[u8]) -> Result<(ElementaryType, &[u8]), I
 
 // Whether a point may be written.
 fn access_at(octets: &[u8]) -> Result<(bool, &[u8]), ImageFault>
-    ensures { Gives (λ r. (r.0, r.1.now)) result (access_at octets.now) }
+    ensures { IsRead (λ r. (r.0, r.1.now)) result (spec.access_at octets.now) }
 {
     let (octet, rest) = octet_at(octets)?;
     match octet {
@@ -76,22 +80,23 @@ fn access_at(octets: &[u8]) -> Result<(bool, &[u8]), ImageFault>
     }
 }
 
+// Whether an octet may stand in a name: a capital letter, a digit or `_`.
 fn is_name_octet(octet: u8) -> bool
-    ensures { result ≡ is_name_octet octet }
+    ensures { result ≡ spec_images.is_name_octet octet }
 {
     matches!(octet, b'A'..=b'Z' | b'0'..=b'9' | b'_')
 }
 
 // Whether each octet may stand in a name.
 fn is_name(octets: &[u8]) -> bool
-    ensures { result ≡ list_all is_name_octet octets.now }
+    ensures { result ≡ list_all spec_images.is_name_octet octets.now }
 {
     octets.iter().all(|octet| is_name_octet(*octet))
 }
 
 // Octets that may stand in a name are text.
 fn text_of(octets: &[u8]) -> &str
-    requires { IsTrue (list_all is_name_octet octets.now) }
+    requires { IsTrue (list_all spec_images.is_name_octet octets.now) }
     ensures { result.now ≡ octets.now }
 {
     match str::from_utf8(octets) {
@@ -102,7 +107,7 @@ fn text_of(octets: &[u8]) -> &str
 
 // A name of this length.
 fn name_of_length(count: usize, octets: &[u8]) -> Result<(&str, &[u8]), ImageFault>
-    ensures { Gives (λ r. (r.0.now, r.1.now)) result (name_of_length count octets.now) }
+    ensures { IsRead (λ r. (r.0.now, r.1.now)) result (spec.name_of_length count octets.now) }
 {
     if octets.len() < count {
         if is_name(octets) {
@@ -117,8 +122,9 @@ fn name_of_length(count: usize, octets: &[u8]) -> Result<(&str, &[u8]), ImageFau
     Ok((text_of(name), rest))
 }
 
+// A name behind the octet of its length, which is 1 to 64.
 fn name_at(octets: &[u8]) -> Result<(&str, &[u8]), ImageFault>
-    ensures { Gives (λ r. (r.0.now, r.1.now)) result (name_at octets.now) }
+    ensures { IsRead (λ r. (r.0.now, r.1.now)) result (spec.name_at octets.now) }
 {
     let (count, rest) = octet_at(octets)?;
     if count == 0 || count > 64 {
@@ -127,13 +133,14 @@ fn name_at(octets: &[u8]) -> Result<(&str, &[u8]), ImageFault>
     name_of_length(usize::from(count), rest)
 }
 
+// A point: its type, whether it may be written, and its name.
 #[tactic(auto, unfolding(crate::specs::Decoding::point_at))]
 fn point_at(
     alloc: Global,
     version: Version,
     octets: &[u8],
 ) -> Result<(ImagePoint, &[u8]), ImageFault>
-    ensures { GivesButMemory ImageFault.OutOfMemory (λ r. (r.0, r.1.now)) result (point_at version octets.now) }
+    ensures { Gives ImageFault.OutOfMemory (λ r. (r.0, r.1.now)) result (spec.point_at version octets.now) }
 {
     let (elementary, rest) = type_at(version, octets)?;
     let (writable, rest) = access_at(rest)?;
@@ -151,7 +158,7 @@ fn point_at(
 
 // The size of initial values.
 fn value_size(version: Version) -> Size
-    ensures { result ≡ value_size version }
+    ensures { result ≡ spec_images.value_size version }
 {
     match version {
         Version::One => Size::Four,
@@ -159,17 +166,19 @@ fn value_size(version: Version) -> Size
     }
 }
 
+// A variable: its type and its initial value.
 #[tactic(auto, unfolding(crate::specs::Decoding::variable_at))]
 fn variable_at(version: Version, octets: &[u8]) -> Result<(Value, &[u8]), ImageFault>
-    ensures { Gives (λ r. (r.0, r.1.now)) result (variable_at version octets.now) }
+    ensures { IsRead (λ r. (r.0, r.1.now)) result (spec.variable_at version octets.now) }
 {
     let (elementary, rest) = type_at(version, octets)?;
     value_at(value_size(version), elementary, rest)
 }
 
+// A timer's kind. Version 1 has no octet for it, and only timers on delay.
 #[tactic(auto, unfolding(crate::specs::Decoding::timer_at))]
 fn timer_at(version: Version, octets: &[u8]) -> Result<(TimerKind, &[u8]), ImageFault>
-    ensures { Gives (λ r. (r.0, r.1.now)) result (timer_at version octets.now) }
+    ensures { IsRead (λ r. (r.0, r.1.now)) result (spec.timer_at version octets.now) }
 {
     if version == Version::One {
         return Ok((TimerKind::OnDelay, octets));
@@ -182,12 +191,13 @@ fn timer_at(version: Version, octets: &[u8]) -> Result<(TimerKind, &[u8]), Image
     }
 }
 
+// The points behind their count.
 fn points_at(
     alloc: Global,
     version: Version,
     octets: &[u8],
 ) -> Result<(Listing<ImagePoint>, &[u8]), ImageFault>
-    ensures read { GivesButMemory ImageFault.OutOfMemory (λ r. (r.0, r.1.now)) result (counted_at (point_at version) octets.now) }
+    ensures read { Gives ImageFault.OutOfMemory (λ r. (r.0, r.1.now)) result (counted_at (spec.point_at version) octets.now) }
     ensures memory { IsErrOf result ImageFault.OutOfMemory → 2 ≤ length octets.now }
 {
     let (count, mut rest) = number_at(octets)?;
@@ -200,12 +210,13 @@ fn points_at(
     Ok((Listing::new(points), rest))
 }
 
+// The variables behind their count.
 fn variables_at(
     alloc: Global,
     version: Version,
     octets: &[u8],
 ) -> Result<(Listing<Value>, &[u8]), ImageFault>
-    ensures { GivesButMemory ImageFault.OutOfMemory (λ r. (r.0, r.1.now)) result (counted_at (variable_at version) octets.now) }
+    ensures { Gives ImageFault.OutOfMemory (λ r. (r.0, r.1.now)) result (counted_at (spec.variable_at version) octets.now) }
 {
     let (count, mut rest) = number_at(octets)?;
     let mut variables = Vec::new(alloc);
@@ -217,12 +228,13 @@ fn variables_at(
     Ok((Listing::new(variables), rest))
 }
 
+// The timers behind their count.
 fn timers_at(
     alloc: Global,
     version: Version,
     octets: &[u8],
 ) -> Result<(Listing<TimerKind>, &[u8]), ImageFault>
-    ensures { GivesButMemory ImageFault.OutOfMemory (λ r. (r.0, r.1.now)) result (counted_at (timer_at version) octets.now) }
+    ensures { Gives ImageFault.OutOfMemory (λ r. (r.0, r.1.now)) result (counted_at (spec.timer_at version) octets.now) }
 {
     let (count, mut rest) = number_at(octets)?;
     let mut timers = Vec::new(alloc);
@@ -249,7 +261,7 @@ fn check_code(version: Version, code: &[u8]) -> Result<(), ImageFault>
 // The octets of the code, which are all that is left.
 #[tactic(auto, unfolding(crate::specs::Decoding::code_at))]
 fn code_at(alloc: Global, version: Version, octets: &[u8]) -> Result<Listing<u8>, ImageFault>
-    ensures { GivesButMemory ImageFault.OutOfMemory (λ c. c) result (code_at version octets.now) }
+    ensures { Gives ImageFault.OutOfMemory (λ c. c) result (spec.code_at version octets.now) }
 {
     let (count, code) = number_at(octets)?;
     let count = usize::from(count);
@@ -261,12 +273,13 @@ fn code_at(alloc: Global, version: Version, octets: &[u8]) -> Result<Listing<u8>
     Err(ImageFault::Truncated)
 }
 
-/// The image that octets spell, in version 1 or 2 of the format, or their first fault from the left. Memory can be wanting only where the
-/// octets begin with the mark, a version and the number of points; what is taken is a few times the octets', and one octet for each timer
-/// of version 1, of which there are at most 65,535.
+/// The image that octets spell, in version 1 or 2 of the format, or their first fault from the
+/// left. Memory can be wanting only where the octets begin with the mark, a version and the number
+/// of points; what is taken is a few times the octets', and one octet for each timer of version 1,
+/// of which there are at most 65,535.
 #[tactic(auto, unfolding(crate::specs::Decoding::decoded))]
 pub fn decode(alloc: Global, octets: &[u8]) -> Result<Image, ImageFault>
-    ensures image { GivesButMemory ImageFault.OutOfMemory (λ i. i) result (decoded octets.now) }
+    ensures image { Gives ImageFault.OutOfMemory (λ i. i) result (decoded octets.now) }
     ensures memory { IsErrOf result ImageFault.OutOfMemory → TakesMemory octets.now }
 {
     let rest = behind_mark(octets)?;

@@ -1,6 +1,7 @@
 // Images written as octets.
 ghost use Rattle.std.specs.Prelude.{◌≡◌, ◌++◌, ◌≤◌, IfOk, OnOk, length};
-ghost use Rattle.il_image.specs.Images.{Each, HasName, counted, encoded, point_octets, timer_octets, type_octet, variable_octets};
+ghost use Rattle.il_image.specs.Images.{Each, HasName, counted, encoded, point_octets, timer_octets, variable_octets};
+ghost use Rattle.il_image.specs.Images as spec;
 
 use crate::image::{Image, ImagePoint};
 use crate::opcode::Version;
@@ -12,7 +13,7 @@ use std::alloc::{AllocError, Global};
 
 // The octet of a type.
 fn type_octet(elementary: ElementaryType) -> u8
-    ensures { result ≡ type_octet elementary }
+    ensures { result ≡ spec.type_octet elementary }
 {
     match elementary {
         ElementaryType::Bool => 0x01,
@@ -23,6 +24,8 @@ fn type_octet(elementary: ElementaryType) -> u8
     }
 }
 
+// Appends a point as an image has it: its type, whether it may be written, and its name behind its
+// length.
 fn push_point(octets: &mut Vec<u8>, point: &ImagePoint) -> Result<(), AllocError>
     requires { HasName point.now }
     ensures { OnOk result (octets.new.items ≡ octets.old.items ++ point_octets point.now) }
@@ -34,6 +37,7 @@ fn push_point(octets: &mut Vec<u8>, point: &ImagePoint) -> Result<(), AllocError
     octets.extend_from_slice(name)
 }
 
+// Appends the points behind their count.
 fn push_points(octets: &mut Vec<u8>, points: &[ImagePoint]) -> Result<(), AllocError>
     requires few { length points.now ≤ 65_535 }
     requires names { Each HasName points.now }
@@ -46,6 +50,7 @@ fn push_points(octets: &mut Vec<u8>, points: &[ImagePoint]) -> Result<(), AllocE
     Ok(())
 }
 
+// Appends a variable: its type and its initial value.
 fn push_variable(octets: &mut Vec<u8>, value: Value) -> Result<(), AllocError>
     ensures { OnOk result (octets.new.items ≡ octets.old.items ++ variable_octets Version.Two value) }
 {
@@ -53,6 +58,7 @@ fn push_variable(octets: &mut Vec<u8>, value: Value) -> Result<(), AllocError>
     push_signed(octets, Size::Eight, value.number())
 }
 
+// Appends the variables behind their count.
 fn push_variables(octets: &mut Vec<u8>, values: &[Value]) -> Result<(), AllocError>
     requires { length values.now ≤ 65_535 }
     ensures { OnOk result (octets.new.items ≡ octets.old.items ++ counted (variable_octets Version.Two) values.now) }
@@ -64,6 +70,7 @@ fn push_variables(octets: &mut Vec<u8>, values: &[Value]) -> Result<(), AllocErr
     Ok(())
 }
 
+// Appends a timer's kind.
 fn push_timer(octets: &mut Vec<u8>, kind: TimerKind) -> Result<(), AllocError>
     ensures { OnOk result (octets.new.items ≡ octets.old.items ++ timer_octets Version.Two kind) }
 {
@@ -73,6 +80,7 @@ fn push_timer(octets: &mut Vec<u8>, kind: TimerKind) -> Result<(), AllocError>
     }
 }
 
+// Appends the timers behind their count.
 fn push_timers(octets: &mut Vec<u8>, kinds: &[TimerKind]) -> Result<(), AllocError>
     requires { length kinds.now ≤ 65_535 }
     ensures { OnOk result (octets.new.items ≡ octets.old.items ++ counted (timer_octets Version.Two) kinds.now) }

@@ -15,8 +15,8 @@ pub enum ImageFault {
     /// The version is none of those that are read.
     #[error("the version of the image is not known")]
     BadVersion,
-    /// An octet is outside its table, a value outside its type, or a name is not of 1 to 64 upper-case letters, digits and
-    /// underscores.
+    /// An octet is outside its table, a value outside its type, or a name is not of 1 to 64
+    /// upper-case letters, digits and underscores.
     #[error("an octet of the image stands for nothing")]
     BadOpcode,
     /// The octets or the code end within an item, or octets follow the code.

@@ -18,9 +18,10 @@ pub struct ImagePoint {
     pub writable: bool,
 }
 
-/// A program's code in octets, and what it uses. Slots are the points and then the variables, in their order. An image
-/// holds only what its format can say: at most 65,535 points, variables, timers and octets of code, names that are names,
-/// values of their types, and code that is instructions one behind the other.
+/// A program's code in octets, and what it uses. Slots are the points and then the variables, in
+/// their order. An image holds only what its format can say: at most 65,535 points, variables,
+/// timers and octets of code, names that are names, values of their types, and code that is
+/// instructions one behind the other.
 #[derive(Drop)]
 pub struct Image {
     points: Listing<ImagePoint>,

@@ -9,8 +9,8 @@ use crate::value::Value;
 use crate::write::{Size, push_number, push_octet, push_signed};
 use std::alloc::AllocError;
 
-/// An instruction of the stack machine. Slots and timers are numbered from 0. A distance counts octets forward from the next
-/// instruction.
+/// An instruction of the stack machine. Slots and timers are numbered from 0. A distance counts
+/// octets forward from the next instruction.
 #[derive(Clone, Copy, PartialEq, Eq)]
 pub enum Instr {
     /// Ends the run.
@@ -72,7 +72,8 @@ impl Instr {
         }
     }
 
-    /// Appends the spelling of an instruction to octets. After a want of memory, a front of it may stand behind them.
+    /// Appends the spelling of an instruction to octets. After a want of memory, a front of it may
+    /// stand behind them.
     pub fn spell(self, octets: &mut Vec<u8>) -> Result<(), AllocError>
         ensures ok { OnOk result (octets.new.items ≡ octets.old.items ++ spelling self) }
         ensures err { OnErr result (Extends octets.old.items octets.new.items) }

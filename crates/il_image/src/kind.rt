@@ -1,12 +1,12 @@
 // What is known of a value on the operand stack.
 ghost use Rattle.std.specs.Prelude.{◌≡◌};
-ghost use Rattle.il_image.specs.Kinds.{is_within, join};
+ghost use Rattle.il_image.specs.Kinds as spec;
 
 use crate::arithmetic::Width;
 use bay_base::types::ElementaryType;
 
-/// What is known of a value on the operand stack. That a number is not zero says more than its type, and a type more than
-/// nothing.
+/// What is known of a value on the operand stack. That a number is not zero says more than its
+/// type, and a type more than nothing.
 #[derive(Clone, Copy, PartialEq, Eq)]
 pub enum Kind {
     /// Some value.
@@ -19,7 +19,7 @@ pub enum Kind {
 
 /// Whether each value of the kind `lower` is one of the kind `upper`.
 pub fn is_within(lower: Kind, upper: Kind) -> bool
-    ensures { result ≡ is_within lower upper }
+    ensures { result ≡ spec.is_within lower upper }
 {
     match (lower, upper) {
         (_, Kind::Any) => true,
@@ -32,7 +32,7 @@ pub fn is_within(lower: Kind, upper: Kind) -> bool
 
 /// The least kind above both.
 pub fn join(first: Kind, second: Kind) -> Kind
-    ensures { result ≡ join first second }
+    ensures { result ≡ spec.join first second }
 {
     if is_within(first, second) {
         return second;

@@ -1,6 +1,7 @@
-// Code images: values and their arithmetic, timers, instructions and their spelling in octets, and the images that hold a
-// compiled program. The machine that runs an image, and what it means for code to agree with a table of kinds, stand
-// here as definitions, which the compiler, the verifier and the machine share.
+// Code images: values and their arithmetic, timers, instructions and their spelling in octets, and
+// the images that hold a compiled program. The machine that runs an image, and what it means for
+// code to agree with a table of kinds, stand here as definitions, which the compiler, the verifier
+// and the machine share.
 #![tactic(auto)]
 
 pub mod arithmetic;

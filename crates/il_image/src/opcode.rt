@@ -1,6 +1,7 @@
 // What the first octet of an instruction says.
 ghost use Rattle.std.specs.Prelude.{◌≡◌};
-ghost use Rattle.il_image.specs.Opcodes.{is_known, octet_of, opcode_of, width_octet, width_of};
+ghost use Rattle.il_image.specs.Opcodes.{octet_of, opcode_of};
+ghost use Rattle.il_image.specs.Opcodes as spec;
 
 use crate::arithmetic::{Comparison, Operation, Width};
 use bay_base::types::ElementaryType;
@@ -65,7 +66,8 @@ pub enum TimerUse {
     LoadElapsed,
 }
 
-/// The first octet of an instruction. What the instruction needs besides stands in the octets behind it.
+/// The first octet of an instruction. What the instruction needs besides stands in the octets
+/// behind it.
 #[derive(Clone, Copy)]
 pub enum Opcode {
     Halt,
@@ -174,7 +176,7 @@ impl Opcode {
 
     /// Whether a version has the opcode.
     pub fn is_known(self, version: Version) -> bool
-        ensures { result ≡ is_known version self }
+        ensures { result ≡ spec.is_known version self }
     {
         match (version, self) {
             (Version::One, Opcode::Push(ElementaryType::Lint)) => false,
@@ -186,7 +188,7 @@ impl Opcode {
 
 /// The octet of a width.
 pub(crate) fn width_octet(width: Width) -> u8
-    ensures { result ≡ width_octet width }
+    ensures { result ≡ spec.width_octet width }
 {
     match width {
         Width::Int => 0x02,
@@ -197,7 +199,7 @@ pub(crate) fn width_octet(width: Width) -> u8
 
 /// The width that has an octet in a version, if there is one.
 pub(crate) fn width_of(version: Version, octet: u8) -> Option<Width>
-    ensures { result ≡ width_of version octet }
+    ensures { result ≡ spec.width_of version octet }
 {
     match octet {
         0x02 => Some(Width::Int),

@@ -1,7 +1,8 @@
-// Readers of one item at the front of octets. Each answers the item and the octets behind it, or the first fault from the
-// left, and takes no memory.
+// Readers of one item at the front of octets. Each answers the item and the octets behind it, or
+// the first fault from the left, and takes no memory.
 ghost use Rattle.std.specs.Prelude.{◌≡◌, ◌+◌, ◌<◌, ◌≤◌, IfOk, IfSome, length};
-ghost use Rattle.il_image.specs.Reading.{Gives, instr_at, instr_from, number_at, octet_at, operand_from, placed, signed_at, value_at, width_at};
+ghost use Rattle.il_image.specs.Reading.{IsRead, placed};
+ghost use Rattle.il_image.specs.Reading as spec;
 
 use crate::arithmetic::Width;
 use crate::fault::ImageFault;
@@ -13,7 +14,7 @@ use bay_base::types::ElementaryType;
 
 /// One octet.
 pub(crate) fn octet_at(octets: &[u8]) -> Result<(u8, &[u8]), ImageFault>
-    ensures { Gives (λ r. (r.0, r.1.now)) result (octet_at octets.now) }
+    ensures { IsRead (λ r. (r.0, r.1.now)) result (spec.octet_at octets.now) }
 {
     match octets {
         [octet, rest @ ..] => Ok((*octet, rest)),
@@ -23,7 +24,7 @@ pub(crate) fn octet_at(octets: &[u8]) -> Result<(u8, &[u8]), ImageFault>
 
 /// A number of two octets.
 pub(crate) fn number_at(octets: &[u8]) -> Result<(u16, &[u8]), ImageFault>
-    ensures { Gives (λ r. (r.0, r.1.now)) result (number_at octets.now) }
+    ensures { IsRead (λ r. (r.0, r.1.now)) result (spec.number_at octets.now) }
 {
     match octets {
         [high, low, rest @ ..] => Ok((u16::from_be_bytes([*high, *low]), rest)),
@@ -33,7 +34,7 @@ pub(crate) fn number_at(octets: &[u8]) -> Result<(u16, &[u8]), ImageFault>
 
 // A number in two's complement.
 fn signed_at(size: Size, octets: &[u8]) -> Result<(i64, &[u8]), ImageFault>
-    ensures { Gives (λ r. (r.0, r.1.now)) result (signed_at size octets.now) }
+    ensures { IsRead (λ r. (r.0, r.1.now)) result (spec.signed_at size octets.now) }
 {
     match (size, octets) {
         (Size::One, [a, rest @ ..]) => Ok((i64::from(i8::from_be_bytes([*a])), rest)),
@@ -54,7 +55,7 @@ pub(crate) fn value_at(
     elementary: ElementaryType,
     octets: &[u8],
 ) -> Result<(Value, &[u8]), ImageFault>
-    ensures { Gives (λ r. (r.0, r.1.now)) result (value_at size elementary octets.now) }
+    ensures { IsRead (λ r. (r.0, r.1.now)) result (spec.value_at size elementary octets.now) }
 {
     let (number, rest) = signed_at(size, octets)?;
     match Value::of(elementary, number) {
@@ -65,7 +66,7 @@ pub(crate) fn value_at(
 
 // A width of the version.
 fn width_at(version: Version, octets: &[u8]) -> Result<(Width, &[u8]), ImageFault>
-    ensures { Gives (λ r. (r.0, r.1.now)) result (width_at version octets.now) }
+    ensures { IsRead (λ r. (r.0, r.1.now)) result (spec.width_at version octets.now) }
 {
     let (octet, rest) = octet_at(octets)?;
     match width_of(version, octet) {
@@ -80,7 +81,7 @@ fn operand_from(
     opcode: Opcode,
     octets: &[u8],
 ) -> Result<(Instr, &[u8]), ImageFault>
-    ensures { Gives (λ r. (r.0, r.1.now)) result (operand_from version opcode octets.now) }
+    ensures { IsRead (λ r. (r.0, r.1.now)) result (spec.operand_from version opcode octets.now) }
 {
     match opcode {
         Opcode::Halt => Ok((Instr::Halt, octets)),
@@ -115,7 +116,7 @@ fn operand_from(
 /// An instruction of the version.
 #[tactic(auto, unfolding(crate::specs::Reading::instr_from))]
 pub(crate) fn instr_from(version: Version, octets: &[u8]) -> Result<(Instr, &[u8]), ImageFault>
-    ensures { Gives (λ r. (r.0, r.1.now)) result (instr_from version octets.now) }
+    ensures { IsRead (λ r. (r.0, r.1.now)) result (spec.instr_from version octets.now) }
 {
     let (octet, rest) = octet_at(octets)?;
     match Opcode::of(octet) {
@@ -124,10 +125,11 @@ pub(crate) fn instr_from(version: Version, octets: &[u8]) -> Result<(Instr, &[u8
     }
 }
 
-// The instruction that stands first in the last octets of code of this length, and the place behind it.
+// The instruction that stands first in the last octets of code of this length, and the place behind
+// it.
 fn first_of(size: usize, octets: &[u8]) -> Option<(Instr, usize)>
     requires { length octets.now ≤ size }
-    ensures { result ≡ placed size (instr_from Version.Two octets.now) }
+    ensures { result ≡ placed size (spec.instr_from Version.Two octets.now) }
 {
     match instr_from(Version::Two, octets) {
         Ok((instr, rest)) => Some((instr, size - rest.len())),
@@ -137,7 +139,7 @@ fn first_of(size: usize, octets: &[u8]) -> Option<(Instr, usize)>
 
 /// The instruction that stands at a place of the code, and the place behind it, if there is one.
 pub fn instr_at(code: &[u8], place: usize) -> Option<(Instr, usize)>
-    ensures value { result ≡ instr_at code.now place }
+    ensures value { result ≡ spec.instr_at code.now place }
     ensures forward { IfSome result (λ r. (place < r.1) × (r.1 ≤ length code.now)) }
 {
     if place >= code.len() {

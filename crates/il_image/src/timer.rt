@@ -1,6 +1,8 @@
-// Timers (IEC 61131-3:2003, table 38): one call as a function of the timer, its inputs and the moment.
+// Timers (IEC 61131-3:2003, table 38): one call as a function of the timer, its inputs and the
+// moment.
 ghost use Rattle.std.specs.Prelude.{◌≡◌};
-ghost use Rattle.il_image.specs.Timers.{called, elapsed_of, first_state, output_of, phase_after};
+ghost use Rattle.il_image.specs.Timers.{called, first_state, phase_after};
+ghost use Rattle.il_image.specs.Timers as spec;
 
 /// A kind of timer.
 #[derive(Clone, Copy, Debug, PartialEq, Eq)]
@@ -13,8 +15,9 @@ pub enum TimerKind {
 
 /// Where a timer stands in its delay.
 #[derive(Clone, Copy)]
-pub enum Phase {
-    /// No delay runs, and the timer has nothing to delay: IN of a TON is FALSE, or IN of a TOF was never TRUE.
+pub enum TimerPhase {
+    /// No delay runs, and the timer has nothing to delay: IN of a TON is FALSE, or IN of a TOF was
+    /// never TRUE.
     Idle,
     /// IN of a TOF is TRUE.
     Held,
@@ -30,7 +33,7 @@ pub struct Timer {
     pub input: bool,
     /// PT in milliseconds.
     pub preset: u32,
-    pub phase: Phase,
+    pub phase: TimerPhase,
     /// Q.
     pub output: bool,
     /// ET in milliseconds.
@@ -38,54 +41,54 @@ pub struct Timer {
 }
 
 // The phase that a call of a TON at this moment leaves.
-fn on_delay_phase(input: bool, phase: Phase, now: u64) -> Phase
+fn on_delay_phase(input: bool, phase: TimerPhase, now: u64) -> TimerPhase
     ensures { result ≡ phase_after TimerKind.OnDelay input phase now }
 {
     if !input {
-        return Phase::Idle;
+        return TimerPhase::Idle;
     }
     match phase {
-        Phase::Idle | Phase::Held => Phase::Since(now),
-        Phase::Since(begun) => Phase::Since(begun),
+        TimerPhase::Idle | TimerPhase::Held => TimerPhase::Since(now),
+        TimerPhase::Since(begun) => TimerPhase::Since(begun),
     }
 }
 
 // The phase that a call of a TOF at this moment leaves.
-fn off_delay_phase(input: bool, phase: Phase, now: u64) -> Phase
+fn off_delay_phase(input: bool, phase: TimerPhase, now: u64) -> TimerPhase
     ensures { result ≡ phase_after TimerKind.OffDelay input phase now }
 {
     if input {
-        return Phase::Held;
+        return TimerPhase::Held;
     }
     match phase {
-        Phase::Idle => Phase::Idle,
-        Phase::Held => Phase::Since(now),
-        Phase::Since(start) => Phase::Since(start),
+        TimerPhase::Idle => TimerPhase::Idle,
+        TimerPhase::Held => TimerPhase::Since(now),
+        TimerPhase::Since(start) => TimerPhase::Since(start),
     }
 }
 
 // Q.
-fn output_of(kind: TimerKind, preset: u32, phase: Phase, now: u64) -> bool
-    ensures { result ≡ output_of kind preset phase now }
+fn output_of(kind: TimerKind, preset: u32, phase: TimerPhase, now: u64) -> bool
+    ensures { result ≡ spec.output_of kind preset phase now }
 {
     match (kind, phase) {
-        (_, Phase::Idle) => false,
-        (_, Phase::Held) => true,
-        (TimerKind::OnDelay, Phase::Since(start)) => {
+        (_, TimerPhase::Idle) => false,
+        (_, TimerPhase::Held) => true,
+        (TimerKind::OnDelay, TimerPhase::Since(start)) => {
             now.saturating_sub(start) >= u64::from(preset)
         }
-        (TimerKind::OffDelay, Phase::Since(start)) => {
+        (TimerKind::OffDelay, TimerPhase::Since(start)) => {
             now.saturating_sub(start) < u64::from(preset)
         }
     }
 }
 
 // ET.
-fn elapsed_of(preset: u32, phase: Phase, now: u64) -> u32
-    ensures { result ≡ elapsed_of preset phase now }
+fn elapsed_of(preset: u32, phase: TimerPhase, now: u64) -> u32
+    ensures { result ≡ spec.elapsed_of preset phase now }
 {
     match phase {
-        Phase::Since(start) => now.saturating_sub(start).min(u64::from(preset)) as u32,
+        TimerPhase::Since(start) => now.saturating_sub(start).min(u64::from(preset)) as u32,
         _ => 0,
     }
 }
@@ -99,7 +102,7 @@ impl Timer {
             kind,
             input: false,
             preset: 0,
-            phase: Phase::Idle,
+            phase: TimerPhase::Idle,
             output: false,
             elapsed: 0,
         }

@@ -1,6 +1,7 @@
 // Values of the elementary types, and the numbers that they have.
 ghost use Rattle.std.specs.Prelude.{◌≡◌};
-ghost use Rattle.il_image.specs.Values.{number_of, type_of, value_of};
+ghost use Rattle.il_image.specs.Values.{number_of, value_of};
+ghost use Rattle.il_image.specs.Values as spec;
 
 use bay_base::types::ElementaryType;
 
@@ -22,7 +23,7 @@ pub enum Value {
 impl Value {
     /// The type whose value this is.
     pub fn type_of(self) -> ElementaryType
-        ensures { result ≡ type_of self }
+        ensures { result ≡ spec.type_of self }
     {
         match self {
             Value::Truth(_) => ElementaryType::Bool,

@@ -23,8 +23,8 @@ named_memory c values timers = record {
 abbrev pub changed_at : {A : Type 0} → List ℕ → A → (List ℕ → A) → List ℕ → A
 changed_at name x values other = if bytes_eq name other then x else values other
 
--- What is read where a name says so is what maps from names have for it, in upper case; and what is written there changes them there and
--- nowhere else.
+-- What is read where a name says so is what maps from names have for it, in upper case; and what is
+-- written there changes them there and nowhere else.
 pub record GoesByNames (names : Names) (c : Checked) (values : List ℕ → Value) (timers : List ℕ → Timer) : Type 0 where
   pub reads : (name : List ℕ) (s : Slot) (kind : ElementaryType) (writable : Bool) → names.meaning name ≡ Some (meaning.Variable s kind writable) →
       slot_value s (named_memory c values timers) ≡ Some (values (upper name))

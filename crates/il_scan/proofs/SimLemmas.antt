@@ -1,5 +1,5 @@
--- An instruction that is allowed on the kinds before it does to words what the machine of typed values does to the values that they
--- stand for.
+-- An instruction that is allowed on the kinds before it does to words what the machine of typed
+-- values does to the values that they stand for.
 use Rattle.std.proofs.Common.{◌≡◌, ℕ, zero, suc, ◌+◌, ◌<◌, ◌≤◌, ℤ, pos, Bool, true, false, not, cond, ◌&&◌, ◌||◌, List, [], ◌∷◌, length, refl, sym, ap, subst, ◌∙◌, arith, Option, Some, None}
 use Rattle.std.specs.Prelude.{slice_get, slice_set, nat_lt}
 use Rattle.std.specs.Ordering.{int_eq}
@@ -24,8 +24,8 @@ use Rattle.il_image.specs.declared.opcode.SlotUse.TheVariants.{Load, Store, SetI
 use Rattle.il_image.specs.declared.opcode.When.TheVariants.{Always, IfTrue, IfFalse}
 use Rattle.il_image.specs.declared.opcode.Widening.TheVariants.{IntToDint, DintToLint}
 use Rattle.il_image.specs.declared.opcode.TimerUse.TheVariants.{SetInput, SetPreset, Run, LoadOutput, LoadElapsed}
-use Rattle.il_image.specs.declared.timer.Phase.{Phase}
-use Rattle.il_image.specs.declared.timer.Phase.TheVariants.{Idle, Held, Since}
+use Rattle.il_image.specs.declared.timer.TimerPhase.{TimerPhase}
+use Rattle.il_image.specs.declared.timer.TimerPhase.TheVariants.{Idle, Held, Since}
 use Rattle.il_image.specs.declared.timer.Timer.{Timer as TimerState}
 use Rattle.il_image.specs.declared.timer.TimerKind.TheVariants.{OnDelay}
 use Rattle.il_image.specs.declared.value.Value.{Value}
@@ -123,7 +123,7 @@ timers_set [] n t h g = tt
 timers_set (u ∷ timers) zero t h g = (g, h.1)
 timers_set (u ∷ timers) (suc n) t h g = (h.0, timers_set timers n t h.1 g)
 
-elapsed_within : (preset : ℕ) (phase : Phase) (m : ℕ) → preset ≤ 0x7FFF_FFFF → elapsed_of preset phase m ≤ 0x7FFF_FFFF
+elapsed_within : (preset : ℕ) (phase : TimerPhase) (m : ℕ) → preset ≤ 0x7FFF_FFFF → elapsed_of preset phase m ≤ 0x7FFF_FFFF
 elapsed_within preset Idle m h = omega arith
 elapsed_within preset Held m h = omega arith
 elapsed_within preset (Since start) m h = omega arith
@@ -139,7 +139,8 @@ state place cells slots timers = record { place = place; cells = cells; slots = 
 abbrev pub words_for : List Value → List Value → List TimerState → Words
 words_for cells slots timers = words (words_of cells) (words_of slots) timers
 
--- It needs no more than the words have, goes on at a place, and the words then stand for the values then, which fit the kinds.
+-- It needs no more than the words have, goes on at a place, and the words then stand for the values
+-- then, which fit the kinds.
 pub record Does (types : List ElementaryType) (count now : ℕ) (i : Instr) (next place : ℕ) (cells slots : List Value) (timers : List TimerState) (kinds : List Kind) : Type 0 where
   pub ready : IsReady i (words_for cells slots timers)
   pub to : ℕ

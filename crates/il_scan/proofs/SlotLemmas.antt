@@ -20,7 +20,7 @@ use Rattle.il_image.proofs.MapLemmas.{mapped_turn}
 use Rattle.bay_base.specs.Types.{same_type}
 use Rattle.std.proofs.lemmas.Bool.{and_parts}
 use Rattle.std.specs.Prelude.{is_some}
-use Rattle.il_scan.specs.Scans.{AreInputs, first_input, first_slots, first_value, outputs_of, read_only, type_of_point, with_inputs}
+use Rattle.il_scan.specs.Scans.{AreInputs, first_input, first_slots, default_value, outputs_of, read_only, type_of_point, with_inputs}
 use Rattle.il_scan.specs.PointPlaces.{are_inputs, begins_with, is_of}
 use Rattle.il_scan.specs.Standing.{AreWords, IsHeld, IsTimer, given_by}
 use Rattle.il_scan.specs.Words.{AreTyped, StandFor, value_at, values_of, words_of}
@@ -125,14 +125,14 @@ same_slot types words others n e = get_value types words n ∙ ap (zipped (slice
 
 -- ---- at first
 
-first_number : (t : ElementaryType) → number_of (first_value t) ≡ pos 0
+first_number : (t : ElementaryType) → number_of (default_value t) ≡ pos 0
 first_number elementary.Bool = refl
 first_number elementary.Int = refl
 first_number elementary.Dint = refl
 first_number elementary.Lint = refl
 first_number elementary.Time = refl
 
-first_typed : (t : ElementaryType) → (type_of (first_value t) ≡ t) × IsValue (first_value t)
+first_typed : (t : ElementaryType) → (type_of (default_value t) ≡ t) × IsValue (default_value t)
 first_typed elementary.Bool = (refl, refl)
 first_typed elementary.Int = (refl, refl)
 first_typed elementary.Dint = (refl, refl)

@@ -9,14 +9,15 @@ use Rattle.il_verify.specs.Verdicts.{IsSafe}
 use Rattle.il_scan.specs.Scans.{AreInputs, Held, Scans, outputs_of}
 use Rattle.il_scan.specs.Standing.{Typed}
 
--- A scan with these inputs at this moment comes to an end: there are a state and a number of steps after it.
+-- A scan with these inputs at this moment comes to an end: there are a state and a number of steps
+-- after it.
 pub record Ends (old : Held) (inputs : List Value) (now : ℕ) : Type 0 where
   pub new : Held
   pub steps : ℕ
   pub scans : Scans old inputs now new steps (outputs_of old.image.points new.slots)
 
--- Code of octets with an agreeing table, which writes what it may, ends in each scan: from all slots and timers of its types, with all
--- inputs that fit, at each moment.
+-- Code of octets with an agreeing table, which writes what it may, ends in each scan: from all
+-- slots and timers of its types, with all inputs that fit, at each moment.
 abbrev pub NeverGoesWrong : Type 0
 NeverGoesWrong =
     (image : Image) (slots : List Value) (timers : List Timer) (inputs : List Value) (now : ℕ) → AreOctets image.code → IsSafe image

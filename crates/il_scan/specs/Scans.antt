@@ -13,7 +13,8 @@ use Rattle.il_image.specs.Timers.{first_state}
 use Rattle.il_verify.specs.Verdicts.{IsBudget, IsDepth}
 use Rattle.il_scan.specs.Words.{AreTyped, values_of}
 
--- what callers see of a machine: its verified image, and what its slots and its timers hold between scans
+-- what callers see of a machine: its verified image, and what its slots and its timers hold between
+-- scans
 pub record Held : Type 0 where
   pub image : Image
   pub slots : List Value
@@ -26,17 +27,17 @@ held image slots timers = record { image = image; slots = values_of (slot_types 
 -- ---- the first state
 
 -- FALSE, or 0 of a type
-abbrev pub first_value : ElementaryType → Value
-first_value elementary.Bool = Truth false
-first_value elementary.Int = Short (pos 0)
-first_value elementary.Dint = Long (pos 0)
-first_value elementary.Lint = Wide (pos 0)
-first_value elementary.Time = Span 0
+abbrev pub default_value : ElementaryType → Value
+default_value elementary.Bool = Truth false
+default_value elementary.Int = Short (pos 0)
+default_value elementary.Dint = Long (pos 0)
+default_value elementary.Lint = Wide (pos 0)
+default_value elementary.Time = Span 0
 
 -- the points' slots, and behind them the variables' with their initial values
 abbrev pub first_slots : List ImagePoint → List Value → List Value
 first_slots [] variables = variables
-first_slots (p ∷ points) variables = first_value p.elementary ∷ first_slots points variables
+first_slots (p ∷ points) variables = default_value p.elementary ∷ first_slots points variables
 
 abbrev pub held_first : Image → Held
 held_first image = record { image = image; slots = first_slots image.points image.variables; timers = map first_state image.timers }
@@ -54,7 +55,8 @@ read_only points = filter (λ p. not p.writable) points
 abbrev pub type_of_point : ImagePoint → ElementaryType
 type_of_point p = p.elementary
 
--- There is one input for each point that may only be read, in the table's order, and it is of its type.
+-- There is one input for each point that may only be read, in the table's order, and it is of its
+-- type.
 abbrev pub AreInputs : List ImagePoint → List Value → Type 0
 AreInputs points inputs = AreTyped (map type_of_point (read_only points)) inputs
 
@@ -87,7 +89,8 @@ abbrev pub IsWithin : List ℕ → ℕ → ℕ → ℕ → State → Type 0
 IsWithin code now depth zero s = length s.cells ≤ depth
 IsWithin code now depth (suc most) s = (length s.cells ≤ depth) × ((next : State) → turn code now s ≡ Goes next → IsWithin code now depth most next)
 
--- The machine's run from these inputs at this moment ends at HALT, after so many steps, with these slots and timers.
+-- The machine's run from these inputs at this moment ends at HALT, after so many steps, with these
+-- slots and timers.
 pub record Scans (old : Held) (inputs : List Value) (now : ℕ) (new : Held) (steps : ℕ) (outputs : List Value) : Type 0 where
   -- the image stays
   pub image : new.image ≡ old.image

@@ -1,4 +1,5 @@
--- Inner: where the machine of typed values stands in verified code, and what one step of the machine of words has to do there.
+-- Inner: where the machine of typed values stands in verified code, and what one step of the
+-- machine of words has to do there.
 use Rattle.std.specs.Prelude.{ℕ, ℤ, ◌≡◌, ◌≤◌, IsSome, if◌then◌else◌, true, List, [], ◌∷◌, length, slice_get, Option, Some, None}
 use Rattle.bay_base.specs.declared.types.ElementaryType.{ElementaryType}
 use Rattle.il_image.specs.declared.kind.Kind.{Kind}
@@ -60,7 +61,8 @@ pub record StandsAt (image : Image) (place : ℕ) (w : Words) (s : State) : Type
 abbrev pub KeepsSlots : Image → Words → Words → Type 0
 KeepsSlots image old new = (n : ℕ) → is_read_only (slots_of image) n ≡ true → slice_get new.slots n ≡ slice_get old.slots n
 
--- What the machine of typed values does from the state, words have come to: it halts where there is no next place, and else goes there.
+-- What the machine of typed values does from the state, words have come to: it halts where there is
+-- no next place, and else goes there.
 abbrev pub Turns : Image → ℕ → State → Option ℕ → Words → Type 0
 Turns image now s None after = (turn image.code now s ≡ Halts) × (after ≡ words_at s) × IsHalt image.code s.place
 Turns image now s (Some to) after =
@@ -78,7 +80,8 @@ pub record IsHeld (image : Image) (slots : List ℤ) (timers : List Timer) : Typ
 abbrev pub first_state : Image → List ℤ → List Timer → State
 first_state image slots timers = start (values_of (slot_types image) slots) timers
 
--- The run of the image's code from these slots and timers ends with the others, after so many steps.
+-- The run of the image's code from these slots and timers ends with the others, after so many
+-- steps.
 pub record RunsTo (image : Image) (now : ℕ) (slots : List ℤ) (timers : List Timer) (new_slots : List ℤ) (new_timers : List Timer) (steps : ℕ) : Type 0 where
   pub halts : (most : ℕ) → steps ≤ most → run image.code now most (first_state image slots timers) 0 ≡ Halted (values_of (slot_types image) new_slots) new_timers steps
   pub within : (budget : ℕ) → IsBudget image.code budget → steps ≤ budget
@@ -89,7 +92,8 @@ pub record RunsTo (image : Image) (now : ℕ) (slots : List ℤ) (timers : List 
 
 -- ---- the machine
 
--- what a machine keeps: it knows the places of its points, and there is an output for each point that may be written
+-- what a machine keeps: it knows the places of its points, and there is an output for each point
+-- that may be written
 pub record IsKept (image : Image) (slots : List ℤ) (timers : List Timer) (reads writes : List ℕ) (outputs : List Value) : Type 0 where
   pub held : IsHeld image slots timers
   pub read : reads ≡ read_places 0 image.points

@@ -1,4 +1,5 @@
--- Inner: what each instruction does to words, with no test of what they are, and what it needs for that.
+-- Inner: what each instruction does to words, with no test of what they are, and what it needs for
+-- that.
 use Rattle.std.specs.Prelude.{ℕ, ℤ, pos, ◌≡◌, ◌+◌, ◌<◌, ◌≤◌, Bool, not, List, ◌∷◌, length, drop, slice_index_or, slice_set, unsigned_abs, Option, Some, None, if◌then◌else◌}
 use Rattle.std.specs.Ordering.{int_eq}
 use Rattle.il_image.specs.declared.instr.Instr.{Instr}
@@ -42,8 +43,9 @@ timer_at timers n = slice_index_or timers n (first_state OnDelay)
 abbrev pub word_of : Bool → ℤ
 word_of b = if b then pos 1 else pos 0
 
-abbrev pub is_true : ℤ → Bool
-is_true w = not (int_eq w (pos 0))
+-- the BOOL of a word, which is TRUE for any word but 0
+abbrev pub is_not_zero : ℤ → Bool
+is_not_zero w = not (int_eq w (pos 0))
 
 -- AND, OR and XOR of the words of two BOOLs
 abbrev pub joined : Connective → ℤ → ℤ → ℤ
@@ -58,7 +60,7 @@ slot_worked SetIf n m = record m { slots = slice_set m.slots n (if int_eq (top m
 slot_worked ResetIf n m = record m { slots = slice_set m.slots n (if int_eq (top m.stack) (pos 0) then slot_at m.slots n else pos 0) }
 
 abbrev pub timer_worked : ℕ → TimerUse → ℕ → Words → Words
-timer_worked now SetInput n m = record m { stack = drop 1 m.stack; timers = slice_set m.timers n (record (timer_at m.timers n) { input = is_true (top m.stack) }) }
+timer_worked now SetInput n m = record m { stack = drop 1 m.stack; timers = slice_set m.timers n (record (timer_at m.timers n) { input = is_not_zero (top m.stack) }) }
 timer_worked now SetPreset n m = record m { stack = drop 1 m.stack; timers = slice_set m.timers n (record (timer_at m.timers n) { preset = unsigned_abs (top m.stack) }) }
 timer_worked now Run n m = record m { timers = slice_set m.timers n (called (timer_at m.timers n) now) }
 timer_worked now LoadOutput n m = record m { stack = word_of (timer_at m.timers n).output ∷ m.stack }

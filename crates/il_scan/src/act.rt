@@ -5,7 +5,7 @@ ghost use Rattle.il_image.specs.Arithmetic.{DividesBy, compared, computed};
 ghost use Rattle.il_image.specs.Timers as time;
 ghost use Rattle.il_scan.specs.Working as spec;
 ghost use Rattle.il_scan.specs.Words.{slot_at};
-ghost use Rattle.il_scan.specs.Working.{IsReady, IsSpan, is_true, joined, timer_at, word_of, worked, words};
+ghost use Rattle.il_scan.specs.Working.{IsReady, IsSpan, is_not_zero, joined, timer_at, word_of, worked, words};
 
 use crate::stack::Stack;
 use il_image::arithmetic::{Comparison, Operation, Width, compare, compute};
@@ -81,7 +81,8 @@ fn calculate(stack: &mut Stack, operation: Operation, width: Width)
     stack.replace_top(compute(operation, width, first, second));
 }
 
-/// ADD, SUB, MUL, DIV or MOD. Each is a call of its own, so that what is done is known where the opcode is.
+/// ADD, SUB, MUL, DIV or MOD. Each is a call of its own, so that what is done is known where the
+/// opcode is.
 #[inline(always)]
 fn calculate_by(stack: &mut Stack, operation: Operation, width: Width)
     requires two { 1 < length stack.old }
@@ -182,7 +183,7 @@ fn set_input(stack: &mut Stack, timers: &mut [Timer], number: u16)
     requires some { 0 < length stack.old }
     requires there { number < length timers.old }
     ensures stack { stack.new ≡ drop 1 stack.old }
-    ensures timers { timers.new ≡ slice_set timers.old number (record (timer_at timers.old number) { input = is_true (spec.top stack.old) }) }
+    ensures timers { timers.new ≡ slice_set timers.old number (record (timer_at timers.old number) { input = is_not_zero (spec.top stack.old) }) }
 {
     let word = stack.pop();
     let timer = &mut timers[usize::from(number)];
@@ -234,7 +235,8 @@ fn load_elapsed(stack: &mut Stack, timers: &[Timer], number: u16)
     stack.push(i64::from(timer.elapsed));
 }
 
-/// Does the instruction with this place behind it, at this moment, and gives the place of the next one if there is one.
+/// Does the instruction with this place behind it, at this moment, and gives the place of the next
+/// one if there is one.
 #[inline(always)]
 pub(crate) fn act(
     now: u64,

@@ -1,5 +1,6 @@
-// The virtual machine that runs verified images. It tests nothing that the verifier has shown: no type, no depth, no divisor, no
-// slot, no timer and no place. A value on its stack or in a slot is a word of 64 bits, the value's number, without its type.
+// The virtual machine that runs verified images. It tests nothing that the verifier has shown: no
+// type, no depth, no divisor, no slot, no timer and no place. A value on its stack or in a slot is
+// a word of 64 bits, the value's number, without its type.
 //
 // - `stack`: the operand stack.
 // - `fetch`: the instruction at a place.

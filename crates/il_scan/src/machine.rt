@@ -22,7 +22,8 @@ use il_verify::verify::Verified;
 use std::alloc::{AllocError, Global};
 use std::marker::Model;
 
-/// A machine with a verified image, its slots and its timers. Contracts see the slots as typed values.
+/// A machine with a verified image, its slots and its timers. Contracts see the slots as typed
+/// values.
 #[derive(Drop)]
 pub struct Machine {
     verified: Verified,
@@ -53,7 +54,8 @@ pub struct Scan<'a> {
     pub outputs: &'a [Value],
 }
 
-/// The slots and the timers of a machine, where its inputs go and its outputs come from, and the room for outputs.
+/// The slots and the timers of a machine, where its inputs go and its outputs come from, and the
+/// room for outputs.
 #[derive(Drop)]
 struct Memory {
     slots: Vec<i64>,
@@ -126,8 +128,9 @@ fn run_once(
 impl Machine {
     ghost use Rattle.il_scan.specs.Loan.{LendsOutputs};
 
-    /// A machine whose variables have their initial values, whose points are FALSE or 0, and whose timers were never called. For want of
-    /// memory, which can come only where the image has a slot or a timer, the verified image comes back.
+    /// A machine whose variables have their initial values, whose points are FALSE or 0, and whose
+    /// timers were never called. For want of memory, which can come only where the image has a slot
+    /// or a timer, the verified image comes back.
     pub fn new(alloc: Global, verified: Verified) -> Result<Machine, Verified>
         ensures ok { IfOk result (λ m. m ≡ held_first verified) }
         ensures back { IfErr result (λ v. v ≡ verified) }
@@ -159,17 +162,20 @@ impl Machine {
         &self.verified
     }
 
-    /// Whether a scan can take these inputs: there is one for each point that may only be read, in the image's order, of its type.
+    /// Whether a scan can take these inputs: there is one for each point that may only be read, in
+    /// the image's order, of its type.
     pub fn fits(&self, inputs: &[Value]) -> bool
         ensures { IsTrue result ↔ AreInputs self.now.image.points inputs.now }
     {
         are_inputs(self.verified.image().points(), inputs)
     }
 
-    /// One scan: the points that may only be read take the inputs, of which there is one for each in the image's order, of its type; the
-    /// code runs once from its first instruction to a HALT, at the moment `now` in milliseconds; and the points that may be written are
-    /// the outputs, which `outputs` gives. It counts the instructions that were executed, HALT among them. It refuses nothing and takes
-    /// no memory. A timer's start after the moment counts as no time gone.
+    /// One scan: the points that may only be read take the inputs, of which there is one for each
+    /// in the image's order, of its type; the code runs once from its first instruction to a HALT,
+    /// at the moment `now` in milliseconds; and the points that may be written are the outputs,
+    /// which `outputs` gives. It counts the instructions that were executed, HALT among them. It
+    /// refuses nothing and takes no memory. A timer's start after the moment counts as no time
+    /// gone.
     pub fn scan_points<I: Inputs>(&mut self, inputs: &I, now: u64) -> u32
         requires { I.types inputs.now ≡ map type_of_point (read_only self.old.image.points) }
         ensures { Scans self.old (I.values inputs.now) now self.new result (outputs_of self.new.image.points self.new.slots) }

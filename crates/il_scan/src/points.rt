@@ -2,7 +2,8 @@
 ghost use Rattle.std.specs.Prelude.{◌≡◌, ◌<◌, Some, length, map, slice_get};
 ghost use Rattle.il_image.specs.Images.{IsValue};
 ghost use Rattle.il_image.specs.Values.{type_of};
-ghost use Rattle.il_scan.specs.Places.{is_true, output_value};
+ghost use Rattle.il_scan.specs.Places.{output_value};
+ghost use Rattle.il_scan.specs.Places as spec;
 ghost use Rattle.il_scan.specs.PointPlaces.{AllBelow};
 ghost use Rattle.il_scan.specs.PointPlaces.{AreValues};
 ghost use Rattle.il_scan.specs.Standing.{AreWords};
@@ -12,7 +13,8 @@ use il_image::image::ImagePoint;
 use il_image::value::Value;
 use std::marker::Model;
 
-/// What gives a scan its inputs: a value for each point that may only be read, in the image's order.
+/// What gives a scan its inputs: a value for each point that may only be read, in the image's
+/// order.
 pub trait Inputs {
     ghost use Rattle.std.specs.Prelude.{◌≡◌, List, length};
     ghost use Rattle.bay_base.specs.declared.types.ElementaryType.{ElementaryType};
@@ -99,7 +101,7 @@ impl<'a> Outputs<'a> {
     /// Whether there is a point at a place among those that may be written, and its value is TRUE.
     #[inline(always)]
     pub fn is_true(&self, place: usize) -> bool
-        ensures { result ≡ is_true (slice_get self.now place) }
+        ensures { result ≡ spec.is_true (slice_get self.now place) }
     {
         if place < self.writes.len() {
             is_true(self.points, self.slots, self.writes[place])

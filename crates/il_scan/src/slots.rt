@@ -5,7 +5,7 @@ ghost use Rattle.il_image.specs.Values as values;
 ghost use Rattle.il_scan.specs.PointPlaces as places;
 ghost use Rattle.il_scan.specs.PointPlaces.{writable_count};
 ghost use Rattle.il_scan.specs.Standing.{AreWords};
-ghost use Rattle.il_scan.specs.Places.{is_true, output_value};
+ghost use Rattle.il_scan.specs.Places as spec;
 ghost use Rattle.il_scan.specs.PointPlaces.{AllBelow, read_places, with_words, write_places};
 ghost use Rattle.il_scan.specs.Words.{AreTyped, slot_at, value_at, words_of};
 
@@ -127,7 +127,7 @@ fn value_of(elementary: ElementaryType, word: i64) -> Value
 pub(crate) fn output_value(points: &[ImagePoint], slots: &[i64], place: usize) -> Value
     requires words { AreWords points.now slots.now }
     requires within { place < length points.now }
-    ensures { result ≡ output_value points.now slots.now place }
+    ensures { result ≡ spec.output_value points.now slots.now place }
 {
     value_of(points[place].elementary, slots[place])
 }
@@ -135,7 +135,7 @@ pub(crate) fn output_value(points: &[ImagePoint], slots: &[i64], place: usize) -
 /// Whether a word of this type stands for TRUE.
 #[inline(always)]
 fn is_true_word(elementary: ElementaryType, word: i64) -> bool
-    ensures { result ≡ is_true (Some (value_at elementary word)) }
+    ensures { result ≡ spec.is_true (Some (value_at elementary word)) }
 {
     match elementary {
         ElementaryType::Bool => word == 1,
@@ -148,7 +148,7 @@ fn is_true_word(elementary: ElementaryType, word: i64) -> bool
 pub(crate) fn is_true(points: &[ImagePoint], slots: &[i64], place: usize) -> bool
     requires words { AreWords points.now slots.now }
     requires within { place < length points.now }
-    ensures { result ≡ is_true (Some (output_value points.now slots.now place)) }
+    ensures { result ≡ spec.is_true (Some (spec.output_value points.now slots.now place)) }
 {
     is_true_word(points[place].elementary, slots[place])
 }
@@ -163,13 +163,14 @@ pub(crate) fn give_outputs(
     requires words { AreWords points.now slots.now }
     requires within { AllBelow (length points.now) writes.now }
     requires room { length outputs.old ≡ length writes.now }
-    ensures { outputs.new ≡ map (output_value points.now slots.now) writes.now }
+    ensures { outputs.new ≡ map (spec.output_value points.now slots.now) writes.now }
 {
     for k in 0..writes.len() {
         outputs[k] = output_value(points, slots, writes[k]);
     }
 }
 
+/// Appends a word 0 for each point.
 fn push_zeros(slots: &mut Vec<i64>, points: &[ImagePoint]) -> Result<(), AllocError>
     ensures ok { OnOk result (slots.new.items ≡ slots.old.items ++ map (λ _. pos 0) points.now) }
     ensures memory { IfErr result (λ e. 0 < length points.now) }
@@ -180,6 +181,7 @@ fn push_zeros(slots: &mut Vec<i64>, points: &[ImagePoint]) -> Result<(), AllocEr
     Ok(())
 }
 
+/// Appends the word of each variable's initial value.
 fn push_numbers(slots: &mut Vec<i64>, variables: &[Value]) -> Result<(), AllocError>
     ensures ok { OnOk result (slots.new.items ≡ slots.old.items ++ words_of variables.now) }
     ensures memory { IfErr result (λ e. 0 < length variables.now) }

@@ -5,8 +5,8 @@ ghost use Rattle.il_scan.specs.Working as spec;
 use arrayvec::ArrayVec;
 use std::marker::Model;
 
-/// The operand stack. That there is room for a word that is put on it, and a word where one is taken, is known of verified code, so it is
-/// not asked.
+/// The operand stack. That there is room for a word that is put on it, and a word where one is
+/// taken, is known of verified code, so it is not asked.
 #[derive(Drop)]
 pub(crate) struct Stack {
     words: ArrayVec<i64, 32>,

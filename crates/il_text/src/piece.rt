@@ -1,7 +1,8 @@
 // Where the pieces of a text and its comments end.
 ghost use Rattle.std.specs.Prelude.{◌≡◌, ◌+◌, ◌-◌, ◌<◌, ◌≤◌, ◌∷◌, true, false, length, drop, slice_index, slice_range};
 ghost use Rattle.il_text.specs.Pieces as spec;
-ghost use Rattle.il_text.specs.Runs.{IsRun, IsPiece, is_negated_and};
+ghost use Rattle.il_text.specs.Runs.{IsRun, IsPiece};
+ghost use Rattle.il_text.specs.Runs as spec_runs;
 
 use crate::character::{byte_at, is_linked};
 
@@ -52,7 +53,7 @@ fn run_end(bytes: &[u8], start: usize) -> usize
 #[tactic(auto, unfolding(crate::specs::Runs::is_negated_and))]
 fn is_negated_and(bytes: &[u8], at: usize) -> bool
     requires { at < length bytes.now }
-    ensures { result ≡ is_negated_and bytes.now at }
+    ensures { result ≡ spec_runs.is_negated_and bytes.now at }
 {
     bytes[at] == b'&'
         && byte_at(bytes, at + 1).to_ascii_uppercase() == b'N'

@@ -1,4 +1,5 @@
--- An instruction that is allowed on kinds is allowed on kinds within them, and gives kinds within those that it gives there.
+-- An instruction that is allowed on kinds is allowed on kinds within them, and gives kinds within
+-- those that it gives there.
 use Rattle.std.proofs.Common.{◌≡◌, ℕ, Bool, true, false, cond, List, [], ◌∷◌, refl, ap, subst, ◌∙◌, Option, Some, None}
 use Rattle.std.specs.Prelude.{nat_lt, slice_get}
 use Rattle.bay_base.specs.declared.types.ElementaryType.{ElementaryType}

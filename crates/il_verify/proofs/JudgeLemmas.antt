@@ -1,4 +1,5 @@
--- An instruction has no fault of its own exactly where it is allowed on the kinds, writes what it may, and leaves at most 32.
+-- An instruction has no fault of its own exactly where it is allowed on the kinds, writes what it
+-- may, and leaves at most 32.
 use Rattle.std.proofs.Common.{◌≡◌, ℕ, suc, ◌<◌, ◌≤◌, Bool, true, false, cond, List, [], ◌∷◌, length, map, refl, ap, subst, arith, Option, Some, None, inl, inr}
 use Rattle.std.specs.Prelude.{nat_lt, slice_get}
 use Rattle.std.proofs.lemmas.Bool.{cases_lt, lt-ltb, le-ltb}

@@ -41,7 +41,8 @@ path_on : (code : List ℕ) (n from q : ℕ) → Path code n from → IsSuccesso
 path_on code zero from q p s = absurd p
 path_on code (suc n) from q p s = rw add-one (from, p, s)
 
--- A mark has the length of a longest path that arrives, and the budget is that of a longest path that has ended.
+-- A mark has the length of a longest path that arrives, and the budget is that of a longest path
+-- that has ended.
 pub record Lengths (code : List ℕ) (done budget : ℕ) (now : Marks) : Type 0 where
   pub paths : (q : ℕ) (m : Mark) → done ≤ q → now q ≡ Some m → Path code m.longest q
   pub most : (q n : ℕ) → done ≤ q → Arrives code done n q → (m : Mark) × (now q ≡ Some m) × (n ≤ m.longest)

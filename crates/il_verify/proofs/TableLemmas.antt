@@ -1,4 +1,5 @@
--- The least table of code whose places have no fault agrees with the code, and a first fault leaves no table that agrees.
+-- The least table of code whose places have no fault agrees with the code, and a first fault leaves
+-- no table that agrees.
 use Rattle.std.proofs.Common.{◌≡◌, ℕ, zero, suc, ◌+◌, ◌<◌, ◌≤◌, true, false, List, [], length, refl, sym, ap, subst, ◌∙◌, arith, Option, Some, None, ◌⊎◌, inl, inr}
 use Rattle.std.specs.Prelude.{IsSome}
 use Rattle.std.proofs.lemmas.Bool.{cases_eq}
@@ -189,7 +190,8 @@ module _ (image : Image) (table : Table) (done : ℕ) (front : IsFront image tab
   top_at : (place : ℕ) → IsPlace image.code place → (top : List Kind) × (other place ≡ Some top)
   top_at place is = value_of (other place) ((agrees_so.places place).1 is)
 
-  -- what comes to a place is within what the other table has there, if that is so of the places before
+  -- what comes to a place is within what the other table has there, if that is so of the places
+  -- before
   comes_within : (bound to : ℕ) (top others : List Kind) → other to ≡ Some top → ((q : ℕ) (kinds : List Kind) → q < bound → table q ≡ Some kinds → Enters other q kinds) → Comes image table bound to others → AreWithin others top
   comes_within bound to top others is below comes = elim comes [
     | inl e ↦

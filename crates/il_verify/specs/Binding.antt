@@ -9,7 +9,8 @@ use Rattle.bay_config.specs.declared.bay.Point.{Point}
 use Rattle.il_image.specs.declared.image.ImagePoint.{ImagePoint}
 use Rattle.il_image.specs.Images.{Image}
 
--- An image's point and a point of the bay have one name, as Instruction List compares names, one type and one writability.
+-- An image's point and a point of the bay have one name, as Instruction List compares names, one
+-- type and one writability.
 abbrev pub is_point : ImagePoint → Point → Bool
 is_point p b = same_name p.name b.name && (same_type p.elementary b.kind && beq p.writable b.writable)
 

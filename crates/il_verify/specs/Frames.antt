@@ -1,4 +1,5 @@
--- Inner: what the code keeps of places that are still to come, and what one instruction makes of it.
+-- Inner: what the code keeps of places that are still to come, and what one instruction makes of
+-- it.
 use Rattle.std.specs.Prelude.{ℕ, ◌≡◌, ◌≢◌, ◌+◌, ◌<◌, ◌≤◌, ◌==◌, ◌⊎◌, ◌↔◌, Bool, true, false, List, [], ◌∷◌, length, reverse, Option, Some, None, option_and_then, option_map, slice_get, if◌then◌else◌}
 use Rattle.il_image.specs.declared.instr.Instr.{Instr}
 use Rattle.il_image.specs.declared.instr.Instr.TheVariants.{Halt, Push, Drop, Slot, Not, Combine, Compute, Compare, Widen, Jump, Timer}
@@ -53,7 +54,8 @@ marks_of pending place = option_map mark_of (frame_at pending place)
 abbrev pub beside : {A : Type 0} → ℕ → Option A → (ℕ → Option A) → ℕ → Option A
 beside place known others q = if q == place then known else others q
 
--- Another path comes to a place: the new mark is the least above the old one, if there is one, and this.
+-- Another path comes to a place: the new mark is the least above the old one, if there is one, and
+-- this.
 pub record Grows (come : Mark) (old : Option Mark) (new : Mark) : Type 0 where
   pub over : AreWithin come.kinds new.kinds
   pub keeps : (m : Mark) → old ≡ Some m → AreWithin m.kinds new.kinds

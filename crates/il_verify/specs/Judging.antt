@@ -18,7 +18,8 @@ use Rattle.il_verify.specs.declared.fault.VerifyFault.TheVariants.{StackEmpty, S
 use Rattle.il_verify.specs.declared.slots.Slot.{Slot as UsedSlot}
 use Rattle.il_verify.specs.Slots.{types_of}
 
--- the slot or the timer that an instruction names is missing, where there are so many slots and timers
+-- the slot or the timer that an instruction names is missing, where there are so many slots and
+-- timers
 abbrev pub missing : ℕ → ℕ → Instr → Option VerifyFault
 missing slots timers (Slot slot_use n) = if nat_lt n slots then None else Some NoSlot
 missing slots timers (Timer timer_use n) = if nat_lt n timers then None else Some NoTimer
@@ -56,7 +57,8 @@ undivided other = other
 abbrev pub effect_on : List UsedSlot → ℕ → List Kind → Instr → Option (List Kind)
 effect_on slots timers kinds i = effect (types_of slots) timers i kinds
 
--- a value is of a wrong kind where the instruction is not allowed with any divisor, and else only the divisor may be zero
+-- a value is of a wrong kind where the instruction is not allowed with any divisor, and else only
+-- the divisor may be zero
 abbrev pub unfit : Option (List Kind) → Option (List Kind) → Option VerifyFault
 unfit None actual = Some WrongKind
 unfit (Some with_any) None = Some ZeroDivisor

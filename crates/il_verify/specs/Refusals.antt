@@ -21,7 +21,8 @@ use Rattle.il_verify.specs.Slots.{slots_of}
 abbrev pub after : Image → Instr → List Kind → Option (List Kind)
 after image instr kinds = effect (slot_types image) (length image.timers) instr kinds
 
--- The table has kinds before the instruction at a place, which leads to the other place, and gives these.
+-- The table has kinds before the instruction at a place, which leads to the other place, and gives
+-- these.
 pub record ComesFrom (image : Image) (table : Table) (from to : ℕ) (kinds : List Kind) : Type 0 where
   pub instr : Instr
   pub next : ℕ
@@ -31,7 +32,8 @@ pub record ComesFrom (image : Image) (table : Table) (from to : ℕ) (kinds : Li
   pub gives : after image instr before ≡ Some kinds
   pub leads : LeadsTo instr next to
 
--- These kinds come to the place: none at the start of the code, and what an instruction before `done` gives that leads there.
+-- These kinds come to the place: none at the start of the code, and what an instruction before
+-- `done` gives that leads there.
 abbrev pub Comes : Image → Table → ℕ → ℕ → List Kind → Type 0
 Comes image table done to kinds = ((to ≡ 0) × (kinds ≡ [])) ⊎ ((from : ℕ) × (from < done) × ComesFrom image table from to kinds)
 
@@ -41,8 +43,8 @@ pub record IsMerge (image : Image) (table : Table) (done to : ℕ) (kinds : List
   pub above : (others : List Kind) → Comes image table done to others → AreWithin others kinds
   pub least : (top : List Kind) → ((others : List Kind) → Comes image table done to others → AreWithin others top) → AreWithin kinds top
 
--- The place has no fault: its instruction has none on the kinds there, leads to instructions alone, and gives as many kinds as
--- come there from places before it.
+-- The place has no fault: its instruction has none on the kinds there, leads to instructions alone,
+-- and gives as many kinds as come there from places before it.
 pub record Passes (image : Image) (table : Table) (place : ℕ) : Type 0 where
   pub instr : Instr
   pub next : ℕ
@@ -55,7 +57,8 @@ pub record Passes (image : Image) (table : Table) (place : ℕ) : Type 0 where
   pub targets : (to : ℕ) → LeadsTo instr next to → IsPlace image.code to
   pub depths : (to : ℕ) → LeadsTo instr next to → (others : List Kind) → Comes image table place to others → length others ≡ length gives
 
--- The table has the least kinds at each place below `done`, and nothing elsewhere; and none of these places has a fault.
+-- The table has the least kinds at each place below `done`, and nothing elsewhere; and none of
+-- these places has a fault.
 pub record IsFront (image : Image) (table : Table) (done : ℕ) : Type 0 where
   pub only : (place : ℕ) (kinds : List Kind) → table place ≡ Some kinds → (place < done) × IsPlace image.code place
   pub merged : (place : ℕ) (kinds : List Kind) → table place ≡ Some kinds → IsMerge image table place place kinds
@@ -103,7 +106,8 @@ pub record GoesPast (image : Image) (table : Table) (place : ℕ) : Type 0 where
   pub leads : LeadsTo at.instr at.next at.next
   pub past : at.next ≡ length image.code
 
--- One that leads to instructions alone gives another number of kinds than comes to one of them from a place before it.
+-- One that leads to instructions alone gives another number of kinds than comes to one of them from
+-- a place before it.
 pub record Clashes (image : Image) (table : Table) (place : ℕ) : Type 0 where
   pub at : Arrives image table place
   pub gives : List Kind

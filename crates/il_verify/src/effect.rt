@@ -1,10 +1,13 @@
-// What an instruction does to the kinds on the stack, and the faults that it has by itself. The top is the last element.
+// What an instruction does to the kinds on the stack, and the faults that it has by itself. The top
+// is the last element.
 ghost use Rattle.std.specs.Prelude.{◌≡◌, ◌≢◌, Some, None, reverse, length, OnOk, OnErr, IfErr, IfSome, IfNone, IsTrue, MatchResult, [], ◌∷◌, ◌⊎◌, ℕ, List};
-ghost use Rattle.il_image.specs.Machine.{divides};
-ghost use Rattle.il_image.specs.Effects.{are_compared, below, compares, effect, kind_of, looks_at, second_kind, two, type_of_kind, widens, with_truth};
+ghost use Rattle.il_image.specs.Machine as spec_machine;
+ghost use Rattle.il_image.specs.Effects.{below, compares, effect, looks_at, second_kind, two, type_of_kind, widens, with_truth};
+ghost use Rattle.il_image.specs.Effects as spec;
 ghost use Rattle.il_image.specs.declared.kind.Kind.{Kind};
 ghost use Rattle.il_verify.specs.Judging.{computes, truth, unfit};
-ghost use Rattle.il_verify.specs.Judging.{fault_of, is_read_only, misfit, missing, operands, writes_read_only};
+ghost use Rattle.il_verify.specs.Judging.{fault_of, is_read_only, misfit, missing};
+ghost use Rattle.il_verify.specs.Judging as spec_judging;
 ghost use Rattle.il_verify.specs.Slots.{types_of};
 
 use crate::fault::VerifyFault;
@@ -16,6 +19,7 @@ use il_image::kind::{Kind, is_within};
 use il_image::opcode::{SlotUse, TimerUse, When, Widening};
 use il_image::value::Value;
 
+// Puts a kind on the stack.
 fn put(kinds: &mut Vec<Kind>, kind: Kind) -> Result<(), VerifyFault>
     ensures ok { OnOk result (reverse kinds.new.items ≡ kind ∷ reverse kinds.old.items) }
     ensures err { IfErr result (λ f. f ≡ VerifyFault.OutOfMemory) }
@@ -48,7 +52,7 @@ fn look(kinds: &[Kind], wanted: Kind) -> Result<(), VerifyFault>
 
 // What is known of a value.
 fn kind_of(value: Value) -> Kind
-    ensures { result ≡ kind_of value }
+    ensures { result ≡ spec.kind_of value }
 {
     match value {
         Value::Short(number) if number != 0 => Kind::NotZero(Width::Int),
@@ -68,8 +72,9 @@ fn take_two(kinds: &mut Vec<Kind>) -> Option<(Kind, Kind)>
     Some((top, second))
 }
 
+// Whether an operation needs a divisor that is not zero.
 fn divides(operation: Operation) -> bool
-    ensures { result ≡ divides operation }
+    ensures { result ≡ spec_machine.divides operation }
 {
     match operation {
         Operation::Div | Operation::Mod => true,
@@ -120,8 +125,9 @@ fn type_of(kind: Kind) -> Option<ElementaryType>
     }
 }
 
+// Whether a comparison takes values of these types: of one type, and of BOOL only for = and <>.
 fn are_compared(comparison: Comparison, first: ElementaryType, second: ElementaryType) -> bool
-    ensures { result ≡ are_compared comparison first second }
+    ensures { result ≡ spec.are_compared comparison first second }
 {
     let equality = match comparison {
         Comparison::Eq | Comparison::Ne => true,
@@ -255,7 +261,7 @@ fn find_named(slots: usize, timers: usize, instr: Instr) -> Result<(), VerifyFau
 
 // The number of values that an instruction takes or looks at.
 fn operands(instr: Instr) -> usize
-    ensures { result ≡ operands instr }
+    ensures { result ≡ spec_judging.operands instr }
 {
     match instr {
         Instr::Combine(_) | Instr::Compute(_, _) | Instr::Compare(_) => 2,
@@ -270,7 +276,7 @@ fn operands(instr: Instr) -> usize
 
 // Whether an instruction writes a slot that may only be read.
 fn writes_read_only(slots: &[Slot], instr: Instr) -> bool
-    ensures { result ≡ writes_read_only slots.now instr }
+    ensures { result ≡ spec_judging.writes_read_only slots.now instr }
 {
     match instr {
         Instr::Slot(SlotUse::Store | SlotUse::SetIf | SlotUse::ResetIf, number) => {

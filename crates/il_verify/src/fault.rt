@@ -6,9 +6,10 @@ ghost use Rattle.il_verify.specs.declared.fault.VerifyFault.TheVariants.{OutOfMe
 use std::alloc::{AllocError, AllocFailed};
 use thiserror::Error;
 
-/// Why an image is refused. At one place the first of these is answered: no predecessor; no slot or no timer; too few values on the
-/// stack; a value of a wrong kind; a divisor that may be zero; a write to a point that may only be read; too many values on the stack;
-/// a jump to no instruction; an end without HALT or JUMP; stacks of two depths before one place.
+/// Why an image is refused. At one place the first of these is answered: no predecessor; no slot or
+/// no timer; too few values on the stack; a value of a wrong kind; a divisor that may be zero; a
+/// write to a point that may only be read; too many values on the stack; a jump to no instruction;
+/// an end without HALT or JUMP; stacks of two depths before one place.
 #[derive(Clone, Copy, Debug, PartialEq, Eq, Error)]
 pub enum VerifyFault {
     /// An instruction wants more values than lie on the stack.
@@ -41,8 +42,8 @@ pub enum VerifyFault {
     /// The code ends without HALT or JUMP, or there is none.
     #[error("the code does not end at a HALT or a JUMP")]
     NoHalt,
-    /// A point is not the bay's with its type and its writability, or stands twice; there are more than 512 slots or 64 timers; or a
-    /// point is written that may only be read.
+    /// A point is not the bay's with its type and its writability, or stands twice; there are more
+    /// than 512 slots or 64 timers; or a point is written that may only be read.
     #[error("the image does not fit the bay")]
     BadBinding,
     /// There is no memory for the pass over the code.

@@ -1,7 +1,8 @@
 // The frames of the places that are still to come.
 ghost use Rattle.std.specs.Prelude.{ℕ, ◌-◌, ◌≡◌, ◌≢◌, ◌+◌, ◌<◌, ◌^◌, Some, None, length, reverse, OnOk, IfOk, IfErr, IfSome, IsSome, option_map, true};
 ghost use Rattle.il_verify.specs.declared.frame.Frame.{Frame};
-ghost use Rattle.il_verify.specs.Frames.{Clashing, Falls, Grows, JumpClash, Jumps, Mark, Pends, beside, frame_at, goes_on, joins, mark_of, marks_of};
+ghost use Rattle.il_verify.specs.Frames.{Clashing, Falls, Grows, JumpClash, Jumps, Mark, Pends, beside, frame_at, joins, mark_of, marks_of};
+ghost use Rattle.il_verify.specs.Frames as spec;
 
 use crate::fault::VerifyFault;
 use il_image::instr::Instr;
@@ -18,6 +19,7 @@ pub(crate) struct Frame {
     pub longest: u32,
 }
 
+// A copy of the kinds on a stack.
 fn copy_of(alloc: Global, kinds: &[Kind]) -> Result<Vec<Kind>, AllocError>
     ensures { IfOk result (λ v. v.items ≡ kinds.now) }
 {
@@ -118,7 +120,7 @@ pub(crate) fn jump(
 
 /// Whether an instruction may be followed by the next one.
 pub(crate) fn goes_on(instr: Instr) -> bool
-    ensures { result ≡ goes_on instr }
+    ensures { result ≡ spec.goes_on instr }
 {
     match instr {
         Instr::Halt | Instr::Jump(When::Always, _) => false,
@@ -146,7 +148,7 @@ pub(crate) fn fall(
     pending: &mut Vec<Option<Frame>>,
 ) -> Result<Option<Frame>, VerifyFault>
     ensures ok { IfOk result (λ behind. Falls instr next (mark_of frame) (marks_of pending.old.items) (beside next (option_map mark_of behind) (marks_of pending.new.items))) }
-    ensures err { IfErr result (λ f. (f ≡ VerifyFault.DepthClash) × ((goes_on instr ≡ true) × Clashing (marks_of pending.old.items next) (mark_of frame).kinds)) }
+    ensures err { IfErr result (λ f. (f ≡ VerifyFault.DepthClash) × ((spec.goes_on instr ≡ true) × Clashing (marks_of pending.old.items next) (mark_of frame).kinds)) }
 {
     let old = taken(pending, next);
     if !goes_on(instr) {

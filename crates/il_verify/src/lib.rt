@@ -1,4 +1,5 @@
-// The verifier of code images: it accepts exactly the code that can't go wrong, from whatever hand it comes.
+// The verifier of code images: it accepts exactly the code that can't go wrong, from whatever hand
+// it comes.
 //
 // - `fault`: why an image is refused.
 // - `points`: whether an image's points are points of the bay.

@@ -2,7 +2,7 @@
 ghost use Rattle.std.specs.Prelude.{◌≡◌, ◌≢◌, ◌<◌, ◌↔◌, IfErr, IfOk, IsTrue, length, max};
 ghost use Rattle.il_image.specs.Images.{IsImage};
 ghost use Rattle.il_verify.specs.Frames.{IsPlan};
-ghost use Rattle.il_verify.specs.Passing.{raised};
+ghost use Rattle.il_verify.specs.Passing as spec;
 ghost use Rattle.il_verify.specs.Refusals.{FailsAt};
 ghost use Rattle.il_verify.specs.Verdicts.{IsMeasured};
 
@@ -43,6 +43,7 @@ fn stop_at(fault: VerifyFault, place: usize) -> Stop
     }
 }
 
+// Whether a scan ends here.
 fn is_halt(instr: Instr) -> bool
     ensures { IsTrue result ↔ (instr ≡ Instr.Halt) }
 {
@@ -54,12 +55,13 @@ fn is_halt(instr: Instr) -> bool
 
 // The budget after a place, which may be a HALT.
 fn raised(halts: bool, longest: u32, budget: u32) -> u32
-    ensures { result ≡ raised halts longest budget }
+    ensures { result ≡ spec.raised halts longest budget }
 {
     if halts { longest.max(budget) } else { budget }
 }
 
-/// Goes over the places in their order. A frame moves to the next place; one is copied only for a jump.
+/// Goes over the places in their order. A frame moves to the next place; one is copied only for a
+/// jump.
 pub(crate) fn pass(alloc: Global, image: &Image, plan: &Plan) -> Result<Measures, Stop>
     requires plan { IsPlan image.now plan.now }
     requires some { 0 < length image.now.code }

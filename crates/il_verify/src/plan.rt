@@ -10,7 +10,8 @@ use il_image::image::Image;
 use il_image::opcode::Opcode;
 use std::alloc::{AllocError, Global};
 
-/// The slots, the number of timers, and for each octet of the code whether an instruction begins there.
+/// The slots, the number of timers, and for each octet of the code whether an instruction begins
+/// there.
 #[derive(Drop)]
 pub(crate) struct Plan {
     pub slots: Vec<Slot>,
@@ -61,6 +62,8 @@ pub(crate) fn is_place(starts: &[bool], place: usize) -> bool
     }
 }
 
+/// What an image's instructions are judged by: its slots, its timers, and where its instructions
+/// start.
 pub(crate) fn plan_of(alloc: Global, image: &Image) -> Result<Plan, AllocError>
     ensures { IfOk result (λ plan. IsPlan image.now plan) }
 {

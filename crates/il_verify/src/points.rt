@@ -2,7 +2,7 @@
 ghost use Rattle.std.specs.Prelude.{◌≡◌};
 ghost use Rattle.std.specs.List.{list_any};
 ghost use Rattle.std.specs.Str.{bytes_eq};
-ghost use Rattle.il_verify.specs.Binding.{are_points, fits, is_point};
+ghost use Rattle.il_verify.specs.Binding as spec;
 
 use bay_base::names::same_name;
 use bay_config::bay::Point;
@@ -10,7 +10,7 @@ use il_image::image::{Image, ImagePoint};
 
 // Whether an image's point is this point of the bay.
 fn is_point(point: &ImagePoint, other: &Point) -> bool
-    ensures { result ≡ is_point point.now other.now }
+    ensures { result ≡ spec.is_point point.now other.now }
 {
     same_name(point.name.as_str(), other.name.as_str())
         && point.elementary == other.kind
@@ -19,7 +19,7 @@ fn is_point(point: &ImagePoint, other: &Point) -> bool
 
 // Whether the point is one of the bay's.
 fn is_of_bay(bay: &[Point], point: &ImagePoint) -> bool
-    ensures { result ≡ list_any (λ b. is_point point.now b) bay.now }
+    ensures { result ≡ list_any (λ b. spec.is_point point.now b) bay.now }
 {
     bay.iter().any(|other| is_point(point, other))
 }
@@ -33,7 +33,7 @@ fn has_name(points: &[ImagePoint], name: &str) -> bool
 
 // Whether each point is one of the bay's, and none stands twice.
 fn are_points(bay: &[Point], points: &[ImagePoint]) -> bool
-    ensures { result ≡ are_points bay.now points.now }
+    ensures { result ≡ spec.are_points bay.now points.now }
 {
     let mut rest = points;
     while let [point, others @ ..] = rest {
@@ -48,7 +48,7 @@ fn are_points(bay: &[Point], points: &[ImagePoint]) -> bool
 /// Whether the image's points are the bay's, and its slots and timers are not too many.
 #[tactic(auto, unfolding(crate::specs::Binding::fits))]
 pub(crate) fn fits(bay: &[Point], image: &Image) -> bool
-    ensures { result ≡ fits bay.now image.now }
+    ensures { result ≡ spec.fits bay.now image.now }
 {
     image.points().len() + image.variables().len() <= 512
         && image.timers().len() <= 64

@@ -1,6 +1,7 @@
 // The slots that the code uses.
 ghost use Rattle.std.specs.Prelude.{◌≡◌, ◌++◌, IfOk, OnOk, map};
-ghost use Rattle.il_verify.specs.Slots.{point_slot, slots_of, variable_slot};
+ghost use Rattle.il_verify.specs.Slots.{point_slot, variable_slot};
+ghost use Rattle.il_verify.specs.Slots as spec;
 
 use bay_base::types::ElementaryType;
 use il_image::image::{Image, ImagePoint};
@@ -14,6 +15,7 @@ pub struct Slot {
     pub writable: bool,
 }
 
+// Appends the slot of each point.
 fn push_points(slots: &mut Vec<Slot>, points: &[ImagePoint]) -> Result<(), AllocError>
     ensures { OnOk result (slots.new.items ≡ slots.old.items ++ map point_slot points.now) }
 {
@@ -26,6 +28,7 @@ fn push_points(slots: &mut Vec<Slot>, points: &[ImagePoint]) -> Result<(), Alloc
     Ok(())
 }
 
+// Appends the slot of each variable, which may be written.
 fn push_variables(slots: &mut Vec<Slot>, variables: &[Value]) -> Result<(), AllocError>
     ensures { OnOk result (slots.new.items ≡ slots.old.items ++ map variable_slot variables.now) }
 {
@@ -41,7 +44,7 @@ fn push_variables(slots: &mut Vec<Slot>, variables: &[Value]) -> Result<(), Allo
 /// The points' slots, and then the variables'.
 #[tactic(auto, unfolding(crate::specs::Slots::slots_of))]
 pub(crate) fn slots_of(alloc: Global, image: &Image) -> Result<Vec<Slot>, AllocError>
-    ensures { IfOk result (λ slots. slots.items ≡ slots_of image.now) }
+    ensures { IfOk result (λ slots. slots.items ≡ spec.slots_of image.now) }
 {
     let mut slots = Vec::new(alloc);
     push_points(&mut slots, image.points())?;

@@ -13,7 +13,8 @@ use il_image::image::Image;
 use std::alloc::Global;
 use std::marker::Model;
 
-/// An image whose code can't go wrong: a table of kinds agrees with it, and it writes no point that may only be read.
+/// An image whose code can't go wrong: a table of kinds agrees with it, and it writes no point that
+/// may only be read.
 #[derive(Drop)]
 pub struct Verified {
     image: Image,
@@ -51,7 +52,8 @@ impl Verified {
         self.budget
     }
 
-    /// The most values that lie on the stack before an instruction: the length of a longest list of an agreeing table, 0 to 32.
+    /// The most values that lie on the stack before an instruction: the length of a longest list of
+    /// an agreeing table, 0 to 32.
     pub fn depth(&self) -> u32
         ensures { IsDepth self.now result }
     {
@@ -59,8 +61,9 @@ impl Verified {
     }
 }
 
-/// An image that is refused, with its first fault and the place of it: the octet of the code at which the instruction begins, counted
-/// from 0. It is 0 where the image does not fit the bay, and for want of memory.
+/// An image that is refused, with its first fault and the place of it: the octet of the code at
+/// which the instruction begins, counted from 0. It is 0 where the image does not fit the bay, and
+/// for want of memory.
 #[derive(Drop)]
 pub struct Refused {
     pub image: Image,
@@ -102,10 +105,13 @@ fn check(alloc: Global, image: &Image, points: &[Point]) -> Result<Measures, Sto
     }
 }
 
-/// Accepts an image exactly where it fits the bay with these points, a table of kinds agrees with its code, and no instruction writes a
-/// point that may only be read; want of memory aside. Another is refused with its first fault in the format's order: what does not fit the
-/// bay, or else that there is no code, or else the first fault of the first place that has one. A refused image comes back as it was.
-/// Memory can be wanting only where the image fits the bay and has code. It takes time in proportion to the code, and room for an empty frame for each octet up to the furthest place that a jump names.
+/// Accepts an image exactly where it fits the bay with these points, a table of kinds agrees with
+/// its code, and no instruction writes a point that may only be read; want of memory aside. Another
+/// is refused with its first fault in the format's order: what does not fit the bay, or else that
+/// there is no code, or else the first fault of the first place that has one. A refused image comes
+/// back as it was. Memory can be wanting only where the image fits the bay and has code. It takes
+/// time in proportion to the code, and room for an empty frame for each octet up to the furthest
+/// place that a jump names.
 pub fn verify(alloc: Global, image: Image, points: &[Point]) -> Result<Verified, Refused>
     ensures same { IfOk result (λ v. v ≡ image) }
     ensures accepted { IfOk result (λ v. IsVerified points.now image) }

@@ -1,4 +1,5 @@
-// One instruction at its place: what it does there, and what comes of it at the places to which it leads.
+// One instruction at its place: what it does there, and what comes of it at the places to which it
+// leads.
 ghost use Rattle.std.specs.Prelude.{◌≡◌, ◌≢◌, ◌<◌, ◌-◌, ◌^◌, ℕ, IfErr, IfOk, OnOk, option_map};
 ghost use Rattle.std.specs.Bool.{OnFalse, OnTrue};
 ghost use Rattle.il_image.specs.Tables.{IsPlace};

@@ -40,7 +40,8 @@ pub(crate) fn machine_of(alloc: Global, verified: Verified) -> Result<Machine> {
     }
 }
 
-/// What is judged of an image: it is accepted with a depth and a budget, or refused with a fault's number at a place.
+/// What is judged of an image: it is accepted with a depth and a budget, or refused with a fault's
+/// number at a place.
 #[derive(Clone, Copy, PartialEq, Eq)]
 struct Verdict {
     accepted: bool,
@@ -48,6 +49,7 @@ struct Verdict {
     second: u64,
 }
 
+/// An accepted image, with its depth and its budget.
 fn acceptance(verified: &Verified) -> Verdict {
     Verdict {
         accepted: true,
@@ -56,6 +58,7 @@ fn acceptance(verified: &Verified) -> Verdict {
     }
 }
 
+/// A refused image, with the number of its fault and its place.
 fn refusal(refused: &Refused) -> Verdict {
     Verdict {
         accepted: false,

@@ -1,6 +1,6 @@
 // Cases of texts: what is read of them, or why they are refused.
 use crate::shown::{declarations_of, instruction_of, outline_of};
-use crate::texts::{Frame, outcome_of, refusal_of, repeated};
+use crate::texts::{Surroundings, outcome_of, refusal_of, repeated};
 use anyhow::{Context, Result, bail};
 use cases::words::first_word;
 use std::alloc::Global;
@@ -18,17 +18,17 @@ fn refusal_in(number: &str, line: &str) -> Result<(u8, usize)> {
 }
 
 /// The text that a line spells, with what stands around it.
-fn framed(alloc: Global, frame: Frame, line: &str) -> Result<String> {
+fn surrounded(alloc: Global, surroundings: Surroundings, line: &str) -> Result<String> {
     let text = unescaped(alloc, line)?;
-    frame.around(alloc, text.as_str())
+    surroundings.around(alloc, text.as_str())
 }
 
 /// Whether a text is read, or refused with this number at this line: `NUMBER LINE TEXT`.
-fn is_judged(alloc: Global, frame: Frame, words: &str) -> Result<bool> {
+fn is_judged(alloc: Global, surroundings: Surroundings, words: &str) -> Result<bool> {
     let (number, rest) = first_word(words);
     let (line, body) = first_word(rest);
     let wanted = refusal_in(number, line)?;
-    let text = framed(alloc, frame, body)?;
+    let text = surrounded(alloc, surroundings, body)?;
     Ok(outcome_of(alloc, text.as_str())? == wanted)
 }
 
@@ -61,9 +61,9 @@ fn shown_of(alloc: Global, kind: &str, text: &str) -> Result<String> {
 }
 
 /// Whether a text is read as it says: `WANTED|TEXT`.
-fn is_shown(alloc: Global, frame: Frame, kind: &str, words: &str) -> Result<bool> {
+fn is_shown(alloc: Global, surroundings: Surroundings, kind: &str, words: &str) -> Result<bool> {
     let (wanted, text) = words.split_once("|").context("no text")?;
-    let text = framed(alloc, frame, text)?;
+    let text = surrounded(alloc, surroundings, text)?;
     let shown = shown_of(alloc, kind, text.as_str())?;
     if shown.as_str() != wanted {
         bail!("it is {shown}");
@@ -74,13 +74,13 @@ fn is_shown(alloc: Global, frame: Frame, kind: &str, words: &str) -> Result<bool
 /// Whether the case of a text comes out as it says.
 pub(crate) fn is_text(alloc: Global, kind: &str, words: &str) -> Result<bool> {
     match kind {
-        "text" => is_judged(alloc, Frame::Whole, words),
-        "body" => is_judged(alloc, Frame::Body, words),
-        "local" => is_judged(alloc, Frame::Local, words),
-        "external" => is_judged(alloc, Frame::External, words),
+        "text" => is_judged(alloc, Surroundings::Whole, words),
+        "body" => is_judged(alloc, Surroundings::Body, words),
+        "local" => is_judged(alloc, Surroundings::Local, words),
+        "external" => is_judged(alloc, Surroundings::External, words),
         "repeat" => is_repetition_judged(alloc, words),
-        "reads" | "outline" | "says" => is_shown(alloc, Frame::Body, kind, words),
-        "declares" => is_shown(alloc, Frame::Whole, kind, words),
+        "reads" | "outline" | "says" => is_shown(alloc, Surroundings::Body, kind, words),
+        "declares" => is_shown(alloc, Surroundings::Whole, kind, words),
         _ => bail!("what is this: {kind}"),
     }
 }

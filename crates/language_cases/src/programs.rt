@@ -43,7 +43,8 @@ fn push_program(text: &mut String, declared: &str, lines: &str) -> Result<()> {
     Ok(())
 }
 
-/// The number and the line of the fault that the checks find in a program; 0 and 0 where there is none.
+/// The number and the line of the fault that the checks find in a program; 0 and 0 where there is
+/// none.
 fn fault_of(alloc: Global, points: &[Point], text: &str) -> Result<(u8, usize)> {
     let program = read_program(alloc, text)?;
     match check(alloc, &program, points) {
@@ -111,6 +112,7 @@ fn instructions(code: &[u8]) -> u32 {
     count
 }
 
+/// What is told of a program that is verified.
 fn report_of(verified: &Verified) -> Report {
     Report {
         instructions: instructions(verified.image().code()),

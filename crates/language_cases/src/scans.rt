@@ -15,6 +15,7 @@ struct ScanLine<'a> {
     outputs: &'a str,
 }
 
+/// A line of a scan: its moment, its steps, its inputs and its outputs.
 fn scan_in(line: &str) -> Result<ScanLine<'_>> {
     let (now, rest) = first_word(line);
     let (steps, rest) = first_word(rest);

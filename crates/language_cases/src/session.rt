@@ -35,7 +35,8 @@ fn replace(old: &mut String, text: &str) -> Result<()> {
 }
 
 impl Session {
-    /// A session at its first line: an image has no points, variables and timers, and its code is HALT.
+    /// A session at its first line: an image has no points, variables and timers, and its code is
+    /// HALT.
     pub(crate) fn new(alloc: Global, points: &[Point]) -> Result<Session> {
         let front = String::from_str(alloc, "494c424302000000000000")?;
         let machine = machine_of_code(alloc, points, front.as_str(), "01")?;

@@ -5,7 +5,7 @@ use std::alloc::Global;
 
 /// What stands around the text of a case.
 #[derive(Clone, Copy)]
-pub enum Frame {
+pub enum Surroundings {
     /// Nothing: it is a whole text.
     Whole,
     /// A program, whose body begins on the second line.
@@ -16,14 +16,14 @@ pub enum Frame {
     External,
 }
 
-impl Frame {
+impl Surroundings {
     /// The whole text.
     pub fn around(self, alloc: Global, text: &str) -> Result<String> {
         let (before, after) = match self {
-            Frame::Whole => ("", ""),
-            Frame::Body => ("PROGRAM P\n", "\nEND_PROGRAM\n"),
-            Frame::Local => ("PROGRAM P\nVAR\n", "\nEND_VAR\nEND_PROGRAM\n"),
-            Frame::External => ("PROGRAM P\nVAR_EXTERNAL\n", "\nEND_VAR\nEND_PROGRAM\n"),
+            Surroundings::Whole => ("", ""),
+            Surroundings::Body => ("PROGRAM P\n", "\nEND_PROGRAM\n"),
+            Surroundings::Local => ("PROGRAM P\nVAR\n", "\nEND_VAR\nEND_PROGRAM\n"),
+            Surroundings::External => ("PROGRAM P\nVAR_EXTERNAL\n", "\nEND_VAR\nEND_PROGRAM\n"),
         };
         Ok(format!(in alloc; "{before}{text}{after}")?)
     }

@@ -66,7 +66,8 @@ fn is_behind(alloc: Global, content: &[u8], front: &str) -> Result<bool>
     Ok(writer.finish().as_slice().starts_with(front.as_slice()))
 }
 
-/// Whether a content stands in octets, of which the last is behind it, and none where the last two are missing.
+/// Whether a content stands in octets, of which the last is behind it, and none where the last two
+/// are missing.
 fn is_within(content: &[u8], octets: &[u8]) -> bool {
     match (read_tlv(octets), octets) {
         (Ok(tlv), [cut @ .., _, last]) => {
@@ -76,7 +77,8 @@ fn is_within(content: &[u8], octets: &[u8]) -> bool {
     }
 }
 
-/// Whether a content is read back behind this front, whatever follows, and not where its last octet is missing.
+/// Whether a content is read back behind this front, whatever follows, and not where its last octet
+/// is missing.
 fn is_back(alloc: Global, content: &[u8], front: &str) -> Result<bool> {
     let mut octets = octets_of(alloc, front)?;
     octets.extend_from_slice(content)?;
@@ -84,8 +86,8 @@ fn is_back(alloc: Global, content: &[u8], front: &str) -> Result<bool> {
     Ok(is_within(content, octets.as_slice()))
 }
 
-/// Whether a content of so many octets is written with the shortest front, and is read back with either, whatever
-/// follows, and not where its last octet is missing.
+/// Whether a content of so many octets is written with the shortest front, and is read back with
+/// either, whatever follows, and not where its last octet is missing.
 pub fn reads_long(alloc: Global, words: &str) -> Result<bool> {
     let (count, rest) = first_word(words);
     let (shortest, longest) = first_word(rest);

@@ -8,7 +8,8 @@ use bay_mms::request::{Call, Request, read_request};
 use bay_mms::response::{Response, Service, write_response};
 use std::alloc::Global;
 
-/// A client's connection, and what was done: S and the octets that were sent, E for an end, F and a fault's number.
+/// A client's connection, and what was done: S and the octets that were sent, E for an end, F and a
+/// fault's number.
 #[derive(Drop)]
 pub struct Client {
     alloc: Global,
@@ -51,6 +52,7 @@ impl Client {
         self.log.as_slice()
     }
 
+    /// Keeps octets behind the mark of what they are.
     fn write(&mut self, mark: u8, octets: &[u8]) -> Result<()> {
         self.log.push(mark)?;
         self.log.extend_from_slice(octets)?;
@@ -91,7 +93,8 @@ impl Client {
         Ok(true)
     }
 
-    /// Takes a piece up to what it comes to first: how many octets were taken, or none where the connection is over.
+    /// Takes a piece up to what it comes to first: how many octets were taken, or none where the
+    /// connection is over.
     fn take(&mut self, piece: &[u8]) -> Result<Option<usize>>
         ensures { IfOk result (λ taken. IfSome taken (λ used. used ≤ length piece.now)) }
     {

@@ -1,32 +1,36 @@
-// Runs the cases of the protocol's layers that come on standard input, and prints each that comes out otherwise than it says,
-// and how many do.
+// Runs the cases of the protocol's layers that come on standard input, and prints each that comes
+// out otherwise than it says, and how many do.
 //
-// A line is a note behind `#`, or a case or a part of one: its kind, and its words. Octets are in hexadecimal digits, `-` for
-// none; `07*9` is nine times 07, and `+` joins.
+// A line is a note behind `#`, or a case or a part of one: its kind, and its words. Octets are in
+// hexadecimal digits, `-` for none; `07*9` is nine times 07, and `+` joins.
 //
-// - Of BER: `tag OCTETS TAG CONTENT REST` and `refused OCTETS NUMBER` are read, `long COUNT SHORTEST LONGEST` is a content of
-//   so many octets with its shortest and longest front, `int`, `bool` and `bits` are contents with what they spell, and
-//   `writes VALUE OCTETS` an integer. `values OCTETS VALUE ..` are values in turn, each as `TAG:CONTENT`, `end`, or
-//   `fault:NUMBER`; `whole OCTETS VALUE` is one value, or `none`. `built OCTETS KIND:TAG:WHAT ..` are values that are written
-//   one after another (`nest` puts all of them into one, `around` those from a place on, and `len:COUNT` is how many octets
-//   there are), and `length COUNT LENGTH` is a value's.
-// - Of the transport: `stream ASSOCIATION OCTETS DOING ..` are octets of a connection and what they come to, in pieces of 1, 3,
-//   100 and 65,536 octets, and `wrap OCTETS TSDU FRAMES` is a TSDU in frames behind a request.
-// - Of MMS: `request OCTETS ID WHAT` is a request in the words of its values, which with one octet more is a bad PDU of this
-//   invoke id (`-` for none), and with one less one without; `no-request OCTETS NUMBER [ID]` is none. `row NAME KIND VALUE` is a
-//   row of the tree, whose rows come one after another; behind them `value NAME OCTETS WHAT` and `type NAME OCTETS WHAT` are a
-//   row's data and type, as they are written and as trees. `response OCTETS KIND ..` is a response, `failure`, `termination`
-//   and `failed` are reports, as they are written, which with one octet more or less are no value; `operate OCTETS WHAT` and
-//   `cancel OCTETS WHAT` are what the first value of a write asks of a control, or the number and the words of its fault;
-//   `page OCTETS ID SIZE AFTER` is the page of names behind a name in octets, or behind none for `first`, for PDUs of a size;
-//   its octets are `unknown` where no row has the name.
-// - Of the association: `heard TSDU WHAT ..` are TSDUs in turn and what is heard of each: `answer:TSDU`, `mms:PDU`,
-//   `released:TSDU`, `aborted` or `fault:NUMBER`.
-// - Of sessions: `session` begins one; `frame HEX` and `tsdu HEX` are a message of the client, the second in one data TPDU; what
-//   it comes to follows: `sends HEX`, `sends-tsdu HEX`, `fault NUMBER` or `ends`, or nothing; `end` looks at it all, whole and in
-//   single octets.
-//   `replaced HEX COUNTS` is a frame behind the session's messages, of which each octet is replaced by each other value, and how
-//   often that comes to what.
+// - Of BER: `tag OCTETS TAG CONTENT REST` and `refused OCTETS NUMBER` are read, `long COUNT
+//   SHORTEST LONGEST` is a content of so many octets with its shortest and longest front, `int`,
+//   `bool` and `bits` are contents with what they spell, and `writes VALUE OCTETS` an integer.
+//   `values OCTETS VALUE ..` are values in turn, each as `TAG:CONTENT`, `end`, or `fault:NUMBER`;
+//   `whole OCTETS VALUE` is one value, or `none`. `built OCTETS KIND:TAG:WHAT ..` are values that
+//   are written one after another (`nest` puts all of them into one, `around` those from a place
+//   on, and `len:COUNT` is how many octets there are), and `length COUNT LENGTH` is a value's.
+// - Of the transport: `stream ASSOCIATION OCTETS DOING ..` are octets of a connection and what they
+//   come to, in pieces of 1, 3, 100 and 65,536 octets, and `wrap OCTETS TSDU FRAMES` is a TSDU in
+//   frames behind a request.
+// - Of MMS: `request OCTETS ID WHAT` is a request in the words of its values, which with one octet
+//   more is a bad PDU of this invoke id (`-` for none), and with one less one without; `no-request
+//   OCTETS NUMBER [ID]` is none. `row NAME KIND VALUE` is a row of the tree, whose rows come one
+//   after another; behind them `value NAME OCTETS WHAT` and `type NAME OCTETS WHAT` are a row's
+//   data and type, as they are written and as trees. `response OCTETS KIND ..` is a response,
+//   `failure`, `termination` and `failed` are reports, as they are written, which with one octet
+//   more or less are no value; `operate OCTETS WHAT` and `cancel OCTETS WHAT` are what the first
+//   value of a write asks of a control, or the number and the words of its fault; `page OCTETS ID
+//   SIZE AFTER` is the page of names behind a name in octets, or behind none for `first`, for PDUs
+//   of a size; its octets are `unknown` where no row has the name.
+// - Of the association: `heard TSDU WHAT ..` are TSDUs in turn and what is heard of each:
+//   `answer:TSDU`, `mms:PDU`, `released:TSDU`, `aborted` or `fault:NUMBER`.
+// - Of sessions: `session` begins one; `frame HEX` and `tsdu HEX` are a message of the client, the
+//   second in one data TPDU; what it comes to follows: `sends HEX`, `sends-tsdu HEX`, `fault
+//   NUMBER` or `ends`, or nothing; `end` looks at it all, whole and in single octets. `replaced HEX
+//   COUNTS` is a frame behind the session's messages, of which each octet is replaced by each other
+//   value, and how often that comes to what.
 // - `message FAMILY NUMBER TEXT` is what a fault is told as.
 #![tactic(auto)]
 

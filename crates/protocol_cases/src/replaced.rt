@@ -31,6 +31,7 @@ impl Counts {
 }
 
 impl fmt::Display for Counts {
+    /// The counts, those of faults by their numbers.
     fn fmt<W: fmt::Write>(&self, f: &mut fmt::Formatter<W>) -> fmt::Result {
         let (answers, ends, waits) = (self.answers, self.ends, self.waits);
         write!(f, "answers={answers} ends={ends} waits={waits}")?;
@@ -55,7 +56,8 @@ fn log_of(alloc: Global, front: &[u8], frame: &[u8], counts: &mut Counts) -> Res
     }
 }
 
-/// What the frame comes to behind the octets of a connection, with each octet replaced by each other value.
+/// What the frame comes to behind the octets of a connection, with each octet replaced by each
+/// other value.
 fn replaced(alloc: Global, front: &[u8], frame: &[u8]) -> Result<Counts> {
     let mut counts = Counts {
         answers: 0,
@@ -79,7 +81,8 @@ fn replaced(alloc: Global, front: &[u8], frame: &[u8]) -> Result<Counts> {
     Ok(counts)
 }
 
-/// Whether the frame comes to so many of each thing behind the octets of a connection, with each octet replaced by each other value.
+/// Whether the frame comes to so many of each thing behind the octets of a connection, with each
+/// octet replaced by each other value.
 pub fn is_replaced(alloc: Global, front: &[u8], frame: &[u8], wanted: &str) -> Result<bool> {
     let counts = replaced(alloc, front, frame)?;
     let found = format!(in alloc; "{counts}")?;

@@ -30,8 +30,8 @@ fn failure_of<'a>(
     Ok(write_failure(alloc, &failure)?)
 }
 
-/// Whether an operate of an object that fails is told so: its octets, the object, the category and the identity of its origin, its
-/// number and its cause.
+/// Whether an operate of an object that fails is told so: its octets, the object, the category and
+/// the identity of its origin, its number and its cause.
 pub fn is_failure(alloc: Global, words: &str) -> Result<bool> {
     let (octets, rest) = first_word(words);
     let (object, rest) = first_word(rest);
@@ -55,7 +55,8 @@ fn moment_of(alloc: Global, word: &str) -> Result<[u8; 8]> {
     }
 }
 
-/// An operate of its value and its origin, and the other words of it: its number, its moment, whether it is a test, and its check.
+/// An operate of its value and its origin, and the other words of it: its number, its moment,
+/// whether it is a test, and its check.
 fn operate_of<'a>(
     alloc: Global,
     value: &str,
@@ -75,8 +76,9 @@ fn operate_of<'a>(
     })
 }
 
-/// Whether an operate that has ended well is told so: its octets, the domain, the item, the value, the category and the identity of
-/// its origin, its number, its moment, whether it is a test, and its check.
+/// Whether an operate that has ended well is told so: its octets, the domain, the item, the value,
+/// the category and the identity of its origin, its number, its moment, whether it is a test, and
+/// its check.
 pub fn is_termination(alloc: Global, words: &str) -> Result<bool> {
     let (octets, rest) = first_word(words);
     let (domain, rest) = first_word(rest);
@@ -113,7 +115,8 @@ fn failed_of(
     Ok(write_failed_termination(alloc, &failure, domain, item, operate)?)
 }
 
-/// Whether an operate that has failed is told so: its octets, the cause, the object, and the words of an operate that has ended.
+/// Whether an operate that has failed is told so: its octets, the cause, the object, and the words
+/// of an operate that has ended.
 pub fn is_failed(alloc: Global, words: &str) -> Result<bool> {
     let (octets, rest) = first_word(words);
     let (cause, rest) = first_word(rest);

@@ -68,7 +68,8 @@ fn is_bad(alloc: Global, octets: &[u8], id: &str) -> Result<bool> {
     Ok(number == "30" && known == wanted)
 }
 
-/// Whether octets are this request, and none with one octet less; and an initiate just where they are one.
+/// Whether octets are this request, and none with one octet less; and an initiate just where they
+/// are one.
 fn is_whole(alloc: Global, octets: &[u8], wanted: &str) -> Result<bool> {
     let [less @ .., _] = octets else {
         return Ok(false);
@@ -77,7 +78,8 @@ fn is_whole(alloc: Global, octets: &[u8], wanted: &str) -> Result<bool> {
     Ok(is_initiate && comes_to(alloc, octets, wanted)? && is_bad(alloc, less, "-")?)
 }
 
-/// Whether octets are this request, and none with one octet more or less; and an initiate just where they are one.
+/// Whether octets are this request, and none with one octet more or less; and an initiate just
+/// where they are one.
 pub fn is_request(alloc: Global, words: &str) -> Result<bool> {
     let (octets, rest) = first_word(words);
     let (id, wanted) = first_word(rest);

@@ -9,7 +9,8 @@ use bay_tree::tree::Tree;
 use cases::words::{first_word, truth_of};
 use std::alloc::Global;
 
-/// What is agreed: the size, how many may be outstanding on either side, the nesting or `-`, and the parameters.
+/// What is agreed: the size, how many may be outstanding on either side, the nesting or `-`, and
+/// the parameters.
 fn agreed_of(size: &str, words: &str) -> Result<Agreed> {
     let (calling, rest) = first_word(words);
     let (called, rest) = first_word(rest);
@@ -38,8 +39,8 @@ fn names_of(alloc: Global, words: &str) -> Result<Vec<Text>> {
     Ok(names)
 }
 
-/// Appends what is read of a variable: `value:` and its name, `text:` and a text in its place, or `failure:` and a number; any other
-/// word stands for a failure.
+/// Appends what is read of a variable: `value:` and its name, `text:` and a text in its place, or
+/// `failure:` and a number; any other word stands for a failure.
 fn add_read(response: &mut ReadResponse, tree: &Tree, word: &str) -> Result<()> {
     let (kind, what) = word.split_once(":").unwrap_or(("failure", "0"));
     match kind {
@@ -50,6 +51,7 @@ fn add_read(response: &mut ReadResponse, tree: &Tree, word: &str) -> Result<()> 
     Ok(())
 }
 
+/// The class of an error that a word names.
 fn class_of(word: &str) -> Result<ErrorClass> {
     match word {
         "no-such-object" => Ok(ErrorClass::NoSuchObject),
@@ -58,6 +60,7 @@ fn class_of(word: &str) -> Result<ErrorClass> {
     }
 }
 
+/// The reason of a reject that a word names.
 fn reason_of(word: &str) -> Result<RejectReason> {
     match word {
         "unrecognized-service" => Ok(RejectReason::UnrecognizedService),
@@ -108,8 +111,9 @@ fn write(alloc: Global, id: u32, words: &str) -> Result<Vec<u8>> {
     Ok(response.finish(id)?)
 }
 
-/// The octets of a response that is made of words alone: its kind, the first of its words, which is mostly an invoke id, and the
-/// others. They stand in one function: the borrow checker wants the types of a response's parts named where one is written.
+/// The octets of a response that is made of words alone: its kind, the first of its words, which is
+/// mostly an invoke id, and the others. They stand in one function: the borrow checker wants the
+/// types of a response's parts named where one is written.
 fn plain(alloc: Global, kind: &str, first: &str, rest: &str) -> Result<Vec<u8>> {
     let id = first.parse::<u32>().ok();
     let written = match (kind, id) {
@@ -138,7 +142,8 @@ fn plain(alloc: Global, kind: &str, first: &str, rest: &str) -> Result<Vec<u8>> 
     Ok(written?)
 }
 
-/// The octets of a response: its kind, the first of its words, which is mostly an invoke id, and the others.
+/// The octets of a response: its kind, the first of its words, which is mostly an invoke id, and
+/// the others.
 fn response_of(alloc: Global, tree: &Tree, kind: &str, first: &str, rest: &str) -> Result<Vec<u8>> {
     let id = first.parse::<u32>().unwrap_or(0);
     match kind {

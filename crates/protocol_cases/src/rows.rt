@@ -160,7 +160,8 @@ impl Rows {
         Ok(is_type(alloc, tree, name, octets)? && is_type_spec(alloc, tree, name, wanted)?)
     }
 
-    /// Whether the page behind a name, or behind none for `first`, is written in these octets, or the name is `unknown`.
+    /// Whether the page behind a name, or behind none for `first`, is written in these octets, or
+    /// the name is `unknown`.
     pub fn has_page(&mut self, words: &str) -> Result<bool> {
         let alloc = self.alloc;
         let (octets, rest) = first_word(words);

@@ -100,8 +100,8 @@ impl Session {
         Ok(log)
     }
 
-    /// Each front of the session, in one piece and in single octets, comes to just what the messages come to that are complete
-    /// in it.
+    /// Each front of the session, in one piece and in single octets, comes to just what the
+    /// messages come to that are complete in it.
     fn holds(&self) -> Result<bool> {
         for count in 0..self.octets.len() + 1 {
             let front = &self.octets[..count];
@@ -115,7 +115,8 @@ impl Session {
         Ok(true)
     }
 
-    /// Does a line: its kind and its words. Of a line that looks at what came before, whether it comes out as it says.
+    /// Does a line: its kind and its words. Of a line that looks at what came before, whether it
+    /// comes out as it says.
     pub fn agrees(&mut self, kind: &str, words: &str) -> Result<bool> {
         let (word, rest) = first_word(words);
         let octets = octets_in(self.alloc, kind, word)?;

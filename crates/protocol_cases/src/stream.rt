@@ -8,8 +8,8 @@ use cases::octets::{is_spelled, octets_of};
 use cases::words::first_word;
 use std::alloc::{AllocError, Global};
 
-/// Feeds once and writes down what is answered, with a letter before it: how many octets were taken, or None where the
-/// connection is over.
+/// Feeds once and writes down what is answered, with a letter before it: how many octets were
+/// taken, or None where the connection is over.
 fn turn(
     transport: &mut Transport,
     piece: &[u8],
@@ -102,8 +102,8 @@ fn comes_to(alloc: Global, transport: &mut Transport, piece: &[u8], wanted: &[u8
     Ok(found.as_slice() == wanted)
 }
 
-/// Whether a connection that is over answers so from then on: after an end it ends again and takes nothing, and after a
-/// fault it has failed.
+/// Whether a connection that is over answers so from then on: after an end it ends again and takes
+/// nothing, and after a fault it has failed.
 fn stays_over(alloc: Global, transport: &mut Transport, log: &[u8]) -> Result<bool> {
     let wanted = match log {
         [.., b'E'] => b"E".as_slice(),

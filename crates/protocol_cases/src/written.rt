@@ -12,8 +12,8 @@ fn is_value(octets: &[u8]) -> bool {
     }
 }
 
-/// Whether octets that were written are those that a word spells, and one value of BER, which they are not with an octet more or
-/// less.
+/// Whether octets that were written are those that a word spells, and one value of BER, which they
+/// are not with an octet more or less.
 pub fn is_written(alloc: Global, written: &[u8], word: &str) -> Result<bool> {
     let mut octets = octets_of(alloc, word)?;
     let is_value = written == octets.as_slice() && is_value(written);

@@ -2,7 +2,7 @@ use Rattle.std.proofs.Common.{◌≡◌, ℕ, Option, Some, Ok, Result, subst, a
 use Rattle.bay_device.specs.Device.{State}
 use Rattle.bay_device.specs.Outcomes.{Outcome, close_outcome, closed, connection_at, place_of}
 use Rattle.bay_device.specs.StateView.{state_view}
-use Rattle.bay_device.specs.Steps.{Gives, quiet_answer}
+use Rattle.bay_device.specs.Steps.{IsOutcome, quiet_answer}
 use Rattle.bay_device.specs.declared.event.Sent.{Sent}
 use Rattle.bay_device.specs.declared.event.Step.{Step}
 use Rattle.bay_device.specs.declared.fault.StepFault.{StepFault}
@@ -20,7 +20,7 @@ returns c =
     let talk = opened _ (sym c.is_open.ensures ∙ c.if-not-is_open.false) in
     let some : connection_at (place_of a) s ≡ Some talk.0 = ap (λ (o : Option ℕ). connection_at o s) here ∙ talk.1 in
     let whole = ap (close_outcome now a s) some in
-    subst (λ (t : State). Gives (close_outcome now a t (connection_at (place_of a) t)) (let r : Result Step StepFault = Ok c.quiet.result in r) c.drop_connection.new.self) c.self.view_is
+    subst (λ (t : State). IsOutcome (close_outcome now a t (connection_at (place_of a) t)) (let r : Result Step StepFault = Ok c.quiet.result in r) c.drop_connection.new.self) c.self.view_is
     (record {
       answered = ap (λ (x : Step). let r : Result Step StepFault = Ok x in r) c.quiet.ensures ∙ ap (λ (o : Option Sent). quiet_answer (Ok o)) (c.advance-ended.ensures.sent cs) ∙ sym (ap (λ (o : Outcome). o.answer) whole);
       left = c.drop_connection.ensures ∙ ap (closed a) (c.advance-ended.ensures.after cs) ∙ sym (ap (λ (o : Outcome). o.after) whole);

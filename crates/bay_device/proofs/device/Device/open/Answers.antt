@@ -4,7 +4,7 @@ use Rattle.bay_connection.specs.Talk.{Talk}
 use Rattle.bay_device.specs.Device.{State, advanced}
 use Rattle.bay_device.specs.Outcomes.{Outcome, connection_at, first_talk, open_outcome, place_of, with_connection}
 use Rattle.bay_device.specs.StateView.{state_view}
-use Rattle.bay_device.specs.Steps.{Gives, quiet_answer}
+use Rattle.bay_device.specs.Steps.{IsOutcome, quiet_answer}
 use Rattle.bay_device.specs.declared.event.Sent.{Sent}
 use Rattle.bay_device.specs.declared.event.Step.{Step}
 use Rattle.bay_device.specs.declared.fault.StepFault.{StepFault}
@@ -23,7 +23,7 @@ returns c =
     let none : connection_at (place_of a) s ≡ None = ap (λ (o : Option ℕ). connection_at o s) here ∙ not-opened _ (sym c.is_open.ensures ∙ c.if-is_open.false) in
     let whole = ap (λ (o : Option ℕ). open_outcome now a s o (connection_at (place_of a) s)) here ∙ ap (open_outcome now a s (Some place)) none in
     let new : State = state_view c.put.new.self c.advance-ended.new.self in
-    subst (λ (t : State). Gives (open_outcome now a t (place_of a) (connection_at (place_of a) t)) (let r : Result Step StepFault = Ok c.quiet.result in r) new) c.self.view_is
+    subst (λ (t : State). IsOutcome (open_outcome now a t (place_of a) (connection_at (place_of a) t)) (let r : Result Step StepFault = Ok c.quiet.result in r) new) c.self.view_is
     (record {
       answered = ap (λ (x : Step). let r : Result Step StepFault = Ok x in r) c.quiet.ensures ∙ ap (λ (o : Option Sent). quiet_answer (Ok o)) (c.advance-ended.ensures.sent cs) ∙ sym (ap (λ (o : Outcome). o.answer) whole);
       left = ap (λ (xs : List (Option Talk)). state_view xs c.advance-ended.new.self) (c.put.ensures ∙ ap (λ (x : Client). slice_set cs place (Some x.talk)) c.new-connection.ensures)

@@ -4,7 +4,7 @@ use Rattle.bay_device.specs.Device.{State, advanced, ended_at, ran_at, scanned}
 use Rattle.bay_device.specs.Meaning.{Halts}
 use Rattle.bay_device.specs.Outcomes.{scan_outcome}
 use Rattle.bay_device.specs.StateView.{state_view}
-use Rattle.bay_device.specs.Steps.{Gives}
+use Rattle.bay_device.specs.Steps.{IsOutcome}
 use Rattle.bay_device.specs.declared.event.Sent.{Sent}
 use Rattle.bay_device.specs.declared.event.Step.{Step}
 use Rattle.bay_device.specs.declared.fault.StepFault.{StepFault}
@@ -21,7 +21,7 @@ returns-clause-gives c =
     let s : State = state_view cs inside.state in
     let new : State = state_view cs c.scan-steps.new.self in
     let after = c.advance-ended.ensures.after cs in
-    subst (λ (t : State). Gives (scan_outcome now t) (told c.advance-ended.result c.new-2.result c.new-4.result c.scan-steps.result) new) c.self.view_is
+    subst (λ (t : State). IsOutcome (scan_outcome now t) (told c.advance-ended.result c.new-2.result c.new-4.result c.scan-steps.result) new) c.self.view_is
     (record {
       answered = ap (λ (o : Option Sent). told o c.new-2.result c.new-4.result c.scan-steps.result) (c.advance-ended.ensures.sent cs)
           ∙ ap (λ (xs : List Sent). told (ended_at now s) xs c.new-4.result c.scan-steps.result) (c.new-2.ensures ∙ c.new.ensures.items)
