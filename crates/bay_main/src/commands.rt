@@ -1,7 +1,8 @@
 // What a command does, over files by their names, a reader and a writer.
 ghost use Rattle.std.specs.Prelude.{◌≡◌, true, map, option_map, IfSome, Result, Ok};
 ghost use Rattle.bay_serve.specs.Calls.{Called};
-ghost use Rattle.bay_main.specs.Commands.{Checks, ChecksNamed, Compiles, CompilesDevice, CompilesRead, DoesVerb, Given, Obeys, ServesNamed, WritesImage, form_of, program_of};
+ghost use Rattle.bay_main.specs.Commands.{Checks, ChecksNamed, Compiles, CompilesDevice, CompilesRead, DoesVerb, Given, Obeys, ServesNamed, WritesImage, form_of};
+ghost use Rattle.bay_main.specs.Commands as spec;
 ghost use Rattle.bay_main.specs.declared.words.Verb.TheVariants.{Check, Compile, Serve};
 ghost use Rattle.bay_main.specs.Jobs.{has_files, is_whole};
 ghost use Rattle.bay_main.specs.JobView.{job_view};
@@ -178,7 +179,7 @@ fn compile_job<F: FileSystem, W: Write>(
 /// The program or the image of a job, and which of the two it is.
 fn program_of(job: &Job) -> Option<(Form, &str)>
     ensures form { IfSome result (λ p. p.0 ≡ form_of (job_view job.now).logic) }
-    ensures name { option_map (λ p. p.1.now) result ≡ program_of (job_view job.now).logic (job_view job.now).image }
+    ensures name { option_map (λ p. p.1.now) result ≡ spec.program_of (job_view job.now).logic (job_view job.now).image }
 {
     match (&job.logic, &job.image) {
         (Some(logic), _) => Some((Form::Logic, logic.as_str())),

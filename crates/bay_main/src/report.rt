@@ -1,7 +1,8 @@
 // What is printed for a load.
 ghost use Rattle.std.specs.Prelude.{◌≡◌, ◌++◌, codes, IfOk, string_bytes};
 ghost use Rattle.std.specs.Fmt.{decimal};
-ghost use Rattle.bay_main.specs.Report.{numbered_refusal, refusal_of, report_text};
+ghost use Rattle.bay_main.specs.Report.{refusal_of};
+ghost use Rattle.bay_main.specs.Report as spec;
 
 use bay_device::fault::LoadFault;
 use bay_device::report::Report;
@@ -23,7 +24,7 @@ fn line_refusal(alloc: Global, code: u8, line: usize) -> Result<String, AllocErr
 
 /// The line of a refusal, by its number and its line, which is 0 where there is none.
 fn numbered_refusal(alloc: Global, code: u8, line: usize) -> Result<String, AllocError>
-    ensures { IfOk result (λ text. string_bytes text ≡ numbered_refusal code line) }
+    ensures { IfOk result (λ text. string_bytes text ≡ spec.numbered_refusal code line) }
 {
     if line == 0 {
         return plain_refusal(alloc, code);
@@ -44,7 +45,7 @@ pub fn refusal_text(alloc: Global, fault: LoadFault) -> Result<String, AllocErro
 /// The line of a load: how many instructions the program has, how many values lie on its stack at most, and how many
 /// instructions a scan executes at most.
 pub fn report_text(alloc: Global, report: Report) -> Result<String, AllocError>
-    ensures { IfOk result (λ text. string_bytes text ≡ report_text report) }
+    ensures { IfOk result (λ text. string_bytes text ≡ spec.report_text report) }
 {
     let Report {
         instructions,

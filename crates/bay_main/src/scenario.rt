@@ -1,6 +1,7 @@
 // The parts of a scenario, and its lines.
 ghost use Rattle.std.specs.Prelude.{◌≡◌, ◌∷◌, [], ◌<◌, ◌≤◌, length, option_map, IfSome};
-ghost use Rattle.bay_main.specs.Scenario.{pieces, without_end, is_separator, part_of, scenario_of, CutsLine};
+ghost use Rattle.bay_main.specs.Scenario.{pieces, without_end, part_of, scenario_of, CutsLine};
+ghost use Rattle.bay_main.specs.Scenario as spec;
 ghost use Rattle.bay_main.specs.ScenarioView.{scenario_view};
 
 use memchr::memchr_iter;
@@ -42,7 +43,7 @@ pub fn cut_line(text: &[u8]) -> (&[u8], &[u8])
 
 /// Whether the line parts a scenario.
 fn is_separator(line: &[u8]) -> bool
-    ensures { result ≡ is_separator line.now }
+    ensures { result ≡ spec.is_separator line.now }
 {
     line == b"%%".as_slice()
 }

@@ -6,7 +6,8 @@ ghost use Rattle.bay_main.specs.LineAnswers.{closing_text, commands_text};
 ghost use Rattle.bay_main.specs.Report.{IsLast, Prints};
 ghost use Rattle.bay_main.specs.ServeReport.{Stays, TellsTurn};
 ghost use Rattle.bay_serve.specs.Code.{code_of};
-ghost use Rattle.bay_main.specs.TurnLines.{closed_lines, closings_text, is_quiet, memories_text, refusal_text, turn_text, unserved_text};
+ghost use Rattle.bay_main.specs.TurnLines.{closed_lines, closings_text, memories_text, refusal_text, turn_text, unserved_text};
+ghost use Rattle.bay_main.specs.TurnLines as spec;
 
 use crate::answer::put_unreadable;
 use crate::lines::{put_closing_line, put_commands, put_refusal};
@@ -128,7 +129,7 @@ fn put_turn<W: Write>(
 
 /// Whether a turn tells nothing.
 fn is_quiet(turn: &Turn) -> bool
-    ensures { result ≡ is_quiet turn.now }
+    ensures { result ≡ spec.is_quiet turn.now }
 {
     turn.refused.is_none()
         && turn.commands.as_slice().is_empty()

@@ -2,7 +2,8 @@
 ghost use Rattle.std.specs.Prelude.{◌≡◌, ◌⊎◌, map, true, false, Some, None, IfOk, IfErr, IfSome, option_map, string_bytes};
 ghost use Rattle.clap.specs.Words.{app_of, first_of, rows_of, found_of, with_rule, kind_of, subcommand_rows_of};
 ghost use Rattle.clap.specs.declared.builder.command.Command.TheViews.{out-Command as fields_of};
-ghost use Rattle.bay_main.specs.Jobs.{file_rule, needed_rule, number_rule, with_program, check_app, replay_app, serve_app, compile_app, program_app, job_app, has_program, has_files, is_either, is_whole, whole_job, verb_of, number_of, with_options, named_job, entered_job, job_in};
+ghost use Rattle.bay_main.specs.Jobs.{file_rule, needed_rule, number_rule, check_app, replay_app, serve_app, compile_app, program_app, job_app, has_files, is_either, whole_job, number_of, entered_job, job_in};
+ghost use Rattle.bay_main.specs.Jobs as spec;
 ghost use Rattle.bay_main.specs.JobView.{job_view};
 
 use clap::builder::ValueParser;
@@ -118,7 +119,7 @@ fn with_number<'a>(
 
 /// The command with the options of a program, of which one has to be there, and not both.
 fn with_program<'a>(alloc: Global, command: Command<'a>) -> Result<Command<'a>, AllocError>
-    ensures app { IfOk result (λ c. app_of c ≡ with_program (app_of command.entry)) }
+    ensures app { IfOk result (λ c. app_of c ≡ spec.with_program (app_of command.entry)) }
     ensures globals { IfOk result (λ c. (fields_of c).has_globals ≡ (fields_of command.entry).has_globals) }
 {
     let command = command.after_help("Exactly one of --logic and --image is wanted.");
@@ -203,7 +204,7 @@ fn job_command<'a>(alloc: Global) -> Result<Command<'a>, AllocError>
 
 /// The verb of a subcommand.
 fn verb_of(name: &str) -> Option<Verb>
-    ensures { result ≡ verb_of name.now }
+    ensures { result ≡ spec.verb_of name.now }
 {
     match name {
         "check" => Some(Verb::Check),
@@ -251,7 +252,7 @@ fn turns_of(value: &str) -> Option<u32>
 
 /// A verb with the values of its options.
 fn with_options(alloc: Global, found: &ArgMatches<'_>, verb: Verb) -> Result<Job, AllocError>
-    ensures { IfOk result (λ j. job_view j ≡ with_options (rows_of (found_of found.now)) verb) }
+    ensures { IfOk result (λ j. job_view j ≡ spec.with_options (rows_of (found_of found.now)) verb) }
 {
     let bay = option_of(alloc, found, "bay")?;
     let logic = option_of(alloc, found, "logic")?;
@@ -274,14 +275,14 @@ fn with_options(alloc: Global, found: &ArgMatches<'_>, verb: Verb) -> Result<Job
 
 /// Whether a bay was named, and either a program or an image, and not both.
 fn has_program(job: &Job) -> bool
-    ensures { result ≡ has_program (job_view job.now) }
+    ensures { result ≡ spec.has_program (job_view job.now) }
 {
     job.bay.is_some() && job.logic.is_some() != job.image.is_some()
 }
 
 /// Whether what the verb wants was given.
 fn is_whole(job: &Job) -> bool
-    ensures { result ≡ is_whole (job_view job.now) }
+    ensures { result ≡ spec.is_whole (job_view job.now) }
 {
     match job.verb {
         Verb::Check => has_program(job),
@@ -293,8 +294,8 @@ fn is_whole(job: &Job) -> bool
 
 /// The job of a subcommand and its options.
 fn named_job(alloc: Global, name: &str, found: &ArgMatches<'_>) -> Result<Option<Job>, AllocError>
-    ensures job { IfOk result (λ j. option_map job_view j ≡ named_job name.now (rows_of (found_of found.now))) }
-    ensures whole { IfOk result (λ j. IfSome j (λ job. is_whole (job_view job) ≡ true)) }
+    ensures job { IfOk result (λ j. option_map job_view j ≡ spec.named_job name.now (rows_of (found_of found.now))) }
+    ensures whole { IfOk result (λ j. IfSome j (λ job. spec.is_whole (job_view job) ≡ true)) }
 {
     let Some(verb) = verb_of(name) else {
         return Ok(None);
@@ -310,7 +311,7 @@ fn named_job(alloc: Global, name: &str, found: &ArgMatches<'_>) -> Result<Option
 /// The job that a parse found.
 fn job_from(alloc: Global, matches: &ArgMatches<'_>) -> Result<Option<Job>, AllocError>
     ensures job { IfOk result (λ j. option_map job_view j ≡ entered_job (subcommand_rows_of matches.now)) }
-    ensures whole { IfOk result (λ j. IfSome j (λ job. is_whole (job_view job) ≡ true)) }
+    ensures whole { IfOk result (λ j. IfSome j (λ job. spec.is_whole (job_view job) ≡ true)) }
 {
     match matches.subcommand() {
         Some((name, found)) => named_job(alloc, name, found),
@@ -356,7 +357,7 @@ fn refused_by(alloc: Global, error: &Error) -> WordsFault
 /// that ask for help are refused with it.
 pub fn job_of<'a>(alloc: Global, words: &'a [&'a str]) -> Result<Job, WordsFault>
     ensures ok { IfOk result (λ j. job_in (map (λ w. w.now) words.entry.now) ≡ Some (job_view j)) }
-    ensures whole { IfOk result (λ j. is_whole (job_view j) ≡ true) }
+    ensures whole { IfOk result (λ j. spec.is_whole (job_view j) ≡ true) }
     ensures refused { IfErr result (λ e. (e ≡ WordsFault.OutOfMemory) ⊎ (job_in (map (λ w. w.now) words.entry.now) ≡ None)) }
 {
     let command = match job_command(alloc) {
