@@ -59,7 +59,7 @@ fn told_of(what: &str, place: usize, told: &str) -> Result<Event<'static>> {
 
 /// An event in words: `scan`, `contact SWITCH POSITION`, `input INPUT 0` or `1`, `measure METER FIELD VALUE`, `open ASSOCIATION`,
 /// `recv ASSOCIATION OCTETS`, `close ASSOCIATION`.
-fn event_of<'a>(words: &str, octets: &'a [u8]) -> Result<Event<'a>> {
+pub fn event_of<'a>(words: &str, octets: &'a [u8]) -> Result<Event<'a>> {
     let (what, rest) = first_word(words);
     let (place, told) = first_word(rest);
     match what {
@@ -126,7 +126,7 @@ fn done_text(alloc: Global, step: &Step) -> Result<String, AllocError> {
 }
 
 /// The answer to an event: what it has done, or `refused NUMBER`.
-fn step_text(alloc: Global, answer: &Result<Step, StepFault>) -> Result<String, AllocError> {
+pub fn step_text(alloc: Global, answer: &Result<Step, StepFault>) -> Result<String, AllocError> {
     match answer {
         Ok(step) => done_text(alloc, step),
         Err(fault) => format!(in alloc; "refused {}", fault.code()),
