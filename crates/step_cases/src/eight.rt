@@ -1,15 +1,17 @@
 // The same octets by each of eight associations, which take turns.
 //
-// A talk is blocks of lines behind an empty line each. `AFTER recv OCTETS -> ANSWER` is what a client sends so many milliseconds after the
-// block's begin, and what the device answers if it is association 1 and alone; `AFTER contact ..` and `AFTER scan` are events of
-// the process; `names` in the place of an event is for each name of the tree a request for its value and one for its type, each of which is to succeed.
-// A block is done by one association after the other.
+// A talk is blocks of lines behind an empty line each. `AFTER recv OCTETS -> ANSWER` is what a
+// client sends so many milliseconds after the block's begin, and what the device answers if it is
+// association 1 and alone; `AFTER contact ..` and `AFTER scan` are events of the process; `names
+// DOMAIN` in the place of a block is for each name of the tree a request for its value and one for
+// its type, each of which is to succeed. A block is done by one association after the other.
 use crate::device::{event_of, step_text};
 use crate::talk::Talk;
 use crate::texts::{Texts, device_of};
 use anyhow::{Context, Result, bail};
 use bay_device::device::Device;
 use bay_device::event::{Event, Step};
+use bay_device::fault::StepFault;
 use cases::octets::octets_of;
 use cases::words::first_word;
 use std::alloc::Global;
@@ -17,11 +19,12 @@ use std::alloc::Global;
 /// The number of associations.
 const COUNT: u16 = 8;
 
-/// Milliseconds between the requests for names, after which what one of them has selected is selected no more.
+/// Milliseconds between the requests for names, after which what one of them has selected is
+/// selected no more.
 const PASSED: u64 = 10_000;
 
-/// A line: how many milliseconds after its block's begin, what happens, the octets that a client sends there, and what
-/// one that is alone is answered, if that is said.
+/// A line: how many milliseconds after its block's begin, what happens, the octets that a client
+/// sends there, and what one that is alone is answered, if that is said.
 #[derive(Drop)]
 struct Line<'a> {
     after: u64,
@@ -205,32 +208,49 @@ fn told_by(
     Ok(first.log().to_vec(alloc)?)
 }
 
-/// A line by association 1 comes to its answer, or is answered with success.
-fn check_line(alloc: Global, device: &mut Device, now: u64, line: &Line<'_>) -> Result<()> {
-    let event = match line.octets.as_slice() {
-        [] => event_of(line.event, &[])?,
-        octets => Event::Recv {
-            association: 1,
-            octets,
-        },
-    };
-    let step = device.step(now, event);
-    let Some(answer) = line.answer else {
-        return check_success(&step?);
-    };
-    let found = step_text(alloc, &step)?;
-    if found.as_str() != answer {
-        bail!("{} is {found}", line.event);
-    }
-    Ok(())
-}
-
 /// An event has sent one answer, with success.
-fn check_success(step: &Step) -> Result<()> {
+fn check_success(answer: &Result<Step, StepFault>) -> Result<()> {
+    let Ok(step) = answer else {
+        bail!("it is refused");
+    };
     match step.sent.as_slice() {
         [sent] if is_success(sent.octets.as_slice()) => Ok(()),
         _ => bail!("a name without a value or a type"),
     }
+}
+
+/// An event is answered with these words.
+fn check_words(alloc: Global, answer: &Result<Step, StepFault>, wanted: &str) -> Result<()> {
+    let found = step_text(alloc, answer)?;
+    if found.as_str() != wanted {
+        bail!("it is {found}");
+    }
+    Ok(())
+}
+
+/// An event is answered as a line says, or with success.
+fn check_answer(alloc: Global, answer: &Result<Step, StepFault>, line: &Line<'_>) -> Result<()> {
+    match line.answer {
+        Some(wanted) => check_words(alloc, answer, wanted),
+        None => check_success(answer),
+    }
+}
+
+/// What happens at a line, where association 1 sends its octets.
+fn event_in<'a>(line: &'a Line<'a>) -> Result<Event<'a>> {
+    match line.octets.as_slice() {
+        [] => event_of(line.event, &[]),
+        octets => Ok(Event::Recv {
+            association: 1,
+            octets,
+        }),
+    }
+}
+
+/// A line by association 1 comes to its answer, or is answered with success.
+fn check_line(alloc: Global, device: &mut Device, now: u64, line: &Line<'_>) -> Result<()> {
+    let answer = device.step(now, event_in(line)?);
+    check_answer(alloc, &answer, line)
 }
 
 /// Association 1, alone, is answered as the lines say.
@@ -247,42 +267,49 @@ fn check_alone(alloc: Global, device: &mut Device, blocks: &[Vec<Line<'_>>]) -> 
     Ok(())
 }
 
+/// What a talk comes to on a new device by so many associations at once.
+fn told_anew(
+    alloc: Global,
+    texts: &Texts<'_>,
+    blocks: &[Vec<Line<'_>>],
+    count: u16,
+    whole: bool,
+) -> Result<Vec<u8>> {
+    let mut device = device_of(alloc, texts)?;
+    told_by(alloc, &mut device, blocks, count, whole)
+}
+
 /// Eight associations at once come to what one alone came to.
 fn check_at_once(
     alloc: Global,
-    device: &mut Device,
+    texts: &Texts<'_>,
     blocks: &[Vec<Line<'_>>],
     alone: &[u8],
     whole: bool,
 ) -> Result<()> {
-    let told = told_by(alloc, device, blocks, COUNT, whole)?;
+    let told = told_anew(alloc, texts, blocks, COUNT, whole)?;
     if told.as_slice() != alone {
         bail!("one that is alone is told otherwise");
     }
     Ok(())
 }
 
-/// The same on new devices, whole and octet by octet.
-fn check_all(
+/// Eight associations at once come to what one alone comes to, whole and octet by octet.
+fn check_same(alloc: Global, texts: &Texts<'_>, blocks: &[Vec<Line<'_>>]) -> Result<()> {
+    let alone = told_anew(alloc, texts, blocks, 1, true)?;
+    check_at_once(alloc, texts, blocks, alone.as_slice(), true)?;
+    check_at_once(alloc, texts, blocks, alone.as_slice(), false)
+}
+
+/// A talk is answered as its lines say by a device, which is new; and eight associations at once
+/// come to the same as one alone, whole and octet by octet.
+pub fn check_eight(
     alloc: Global,
+    device: &mut Device,
     texts: &Texts<'_>,
-    blocks: &[Vec<Line<'_>>],
-    alone: &[u8],
+    body: &str,
 ) -> Result<()> {
-    check_at_once(alloc, &mut device_of(alloc, texts)?, blocks, alone, true)?;
-    check_at_once(alloc, &mut device_of(alloc, texts)?, blocks, alone, false)
-}
-
-/// What a talk comes to by one association, which is answered as the lines say.
-fn told_alone(alloc: Global, texts: &Texts<'_>, blocks: &[Vec<Line<'_>>]) -> Result<Vec<u8>> {
-    check_alone(alloc, &mut device_of(alloc, texts)?, blocks)?;
-    told_by(alloc, &mut device_of(alloc, texts)?, blocks, 1, true)
-}
-
-/// A talk is answered as its lines say, and eight associations at once come to the same as one alone, whole and octet by octet.
-pub fn check_eight(alloc: Global, texts: &Texts<'_>, body: &str) -> Result<()> {
-    let device = device_of(alloc, texts)?;
-    let blocks = blocks_of(alloc, &device, body)?;
-    let alone = told_alone(alloc, texts, blocks.as_slice())?;
-    check_all(alloc, texts, blocks.as_slice(), alone.as_slice())
+    let blocks = blocks_of(alloc, device, body)?;
+    check_alone(alloc, device, blocks.as_slice())?;
+    check_same(alloc, texts, blocks.as_slice())
 }

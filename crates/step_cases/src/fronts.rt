@@ -6,7 +6,8 @@ use bay_device::event::Event;
 use cases::octets::octets_of;
 use std::alloc::Global;
 
-/// A message: where its last octet stands among those of all, and where what it comes to ends among what all come to.
+/// A message: where its last octet stands among those of all, and where what it comes to ends among
+/// what all come to.
 #[derive(Clone, Copy)]
 struct Message {
     end: usize,
@@ -84,12 +85,17 @@ impl Messages {
     }
 }
 
-/// Each front of the messages of lines comes to what it should, whole and octet by octet.
-pub fn check_fronts(alloc: Global, device: &mut Device, body: &str) -> Result<()> {
-    let messages = messages_of(alloc, body)?;
-    for count in 0..messages.octets.len() + 1 {
+/// Each front of messages comes to what it should, whole and octet by octet.
+fn check_each(alloc: Global, device: &mut Device, messages: &Messages) -> Result<()> {
+    for count in 0..=messages.octets.len() {
         messages.check_front(alloc, device, count, true)?;
         messages.check_front(alloc, device, count, false)?;
     }
     Ok(())
+}
+
+/// The same of the messages of lines.
+pub fn check_fronts(alloc: Global, device: &mut Device, body: &str) -> Result<()> {
+    let messages = messages_of(alloc, body)?;
+    check_each(alloc, device, &messages)
 }

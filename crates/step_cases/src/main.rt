@@ -1,18 +1,20 @@
-// Runs the cases of a device's events that come on standard input, and prints each that comes out otherwise than it says, and how
-// many do.
+// Runs the cases of a device's events that come on standard input, and prints each that comes out
+// otherwise than it says, and how many do.
 //
-// The cases are sections, each with a head `== NAME`. `bay` and `logic` are texts, which stand until another takes their place; a
-// device is loaded from them.
+// The cases are sections, each with a head `== NAME`. `bay` and `logic` are texts, which stand
+// until another takes their place; a device is loaded from them.
 //
-// - `device`: each line is a case, `QUESTION -> ANSWER`, of what a new device of the texts is asked or does, one line after the
-//   other (`device` says how).
-// - `eight` is a talk that eight associations have at once, as one alone has it, whole and octet by octet (`eight` says how).
-// - `fronts` are messages, each with what it comes to (`OCTETS -> sends:OCTETS ..` or `ends`): each front of them comes to just that
-//   of the messages that are complete in it.
-// - In `replaced` each octet of `behind OCTETS`, behind those of `front OCTETS`, is replaced by each other value on association 1:
-//   that is answered, waited with, or ends it, and association 2, which asks `asked OCTETS -> OCTETS` each time, is served.
-// - `changed-image` is an image, of which each octet is replaced by each other value: it is refused, or a scan ends within its
-//   budget.
+// - `device`: each line is a case, `QUESTION -> ANSWER`, of what a new device of the texts is asked
+//   or does, one line after the other (`device` says how).
+// - `eight` is a talk that eight associations have at once, as one alone has it, whole and octet by
+//   octet (`eight` says how).
+// - `fronts` are messages, each with what it comes to (`OCTETS -> sends:OCTETS ..` or `ends`): each
+//   front of them comes to just that of the messages that are complete in it.
+// - In `replaced` each octet of `behind OCTETS`, behind those of `front OCTETS`, is replaced by
+//   each other value on association 1: that is answered, waited with, or ends it, and association
+//   2, which asks `asked OCTETS -> OCTETS` each time, is served.
+// - `changed-image` is an image, of which each octet is replaced by each other value: it is
+//   refused, or a scan ends within its budget.
 #![tactic(auto)]
 
 mod device;
@@ -58,23 +60,42 @@ fn tell_steps(alloc: Global, told: &mut Told, device: &mut Device, body: &str) -
     Ok(())
 }
 
-/// The lines of what is tried on a device.
-fn tell_trial(alloc: Global, told: &mut Told, device: &mut Device, body: &str) -> Result<()> {
-    let mut trial = Trial::new(alloc, device)?;
+/// The lines of what is tried.
+fn tell_trial(told: &mut Told, trial: &mut Trial<'_>, body: &str) -> Result<()> {
     for line in body.lines() {
         told.tell(line, trial.agrees(line))?;
     }
     Ok(())
 }
 
-/// The case that a whole section is.
-fn check_whole(alloc: Global, texts: &Texts, head: &str, body: &str) -> Result<()> {
+/// The lines of what is tried on a device.
+fn tell_tried(alloc: Global, told: &mut Told, device: &mut Device, body: &str) -> Result<()> {
+    let mut trial = Trial::new(alloc, device)?;
+    tell_trial(told, &mut trial, body)
+}
+
+/// The cases of a section, on a device of the texts, which is new.
+fn tell_with(
+    alloc: Global,
+    told: &mut Told,
+    device: &mut Device,
+    texts: &Texts,
+    head: &str,
+    body: &str,
+) -> Result<()> {
     match head {
-        "eight" => check_eight(alloc, texts, body),
-        "fronts" => check_fronts(alloc, &mut device_of(alloc, texts)?, body),
-        "changed-image" => check_images(alloc, texts.bay, body),
+        "device" => tell_steps(alloc, told, device, body),
+        "replaced" => tell_tried(alloc, told, device, body),
+        "eight" => told.tell(head, outcome_of(check_eight(alloc, device, texts, body))),
+        "fronts" => told.tell(head, outcome_of(check_fronts(alloc, device, body))),
         _ => bail!("no such section"),
     }
+}
+
+/// The cases of a section, on a new device.
+fn tell_anew(alloc: Global, told: &mut Told, texts: &Texts, head: &str, body: &str) -> Result<()> {
+    let mut device = device_of(alloc, texts)?;
+    tell_with(alloc, told, &mut device, texts, head, body)
 }
 
 /// The cases of a section.
@@ -86,9 +107,8 @@ fn tell_section(
     body: &str,
 ) -> Result<()> {
     match head {
-        "device" => tell_steps(alloc, told, &mut device_of(alloc, texts)?, body),
-        "replaced" => tell_trial(alloc, told, &mut device_of(alloc, texts)?, body),
-        _ => told.tell(head, outcome_of(check_whole(alloc, texts, head, body))),
+        "changed-image" => told.tell(head, outcome_of(check_images(alloc, texts.bay, body))),
+        _ => tell_anew(alloc, told, texts, head, body),
     }
 }
 

@@ -2,7 +2,7 @@
 use crate::talk::Talk;
 use anyhow::{Context, Result, bail};
 use bay_device::device::Device;
-use bay_device::event::Event;
+use bay_device::event::{Event, Step};
 use bay_device::load::load_image;
 use bay_tree::leaf::Dbpos;
 use cases::octets::octets_of;
@@ -12,7 +12,8 @@ use std::alloc::Global;
 /// Milliseconds after which whatever a client has selected or operated has run out.
 const PASSED: u64 = 10_000;
 
-/// A device with two associations: what is tried comes from 1, behind the octets that open it, and 2 asks one thing again and again.
+/// A device with two associations: what is tried comes from 1, behind the octets that open it, and
+/// 2 asks one thing again and again.
 #[derive(Drop)]
 pub struct Trial<'d> {
     alloc: Global,
@@ -66,7 +67,8 @@ impl<'d> Trial<'d> {
         Ok(())
     }
 
-    /// A frame is answered, rejected, waited with, or ends its association; the other association is served.
+    /// A frame is answered, rejected, waited with, or ends its association; the other association
+    /// is served.
     fn check_frame(&mut self, frame: &[u8]) -> Result<()> {
         self.now = self.now.saturating_add(PASSED);
         self.device.step(self.now, Event::Scan)?;
@@ -119,18 +121,28 @@ impl<'d> Trial<'d> {
     }
 }
 
-/// The octets of an image are refused for the bay, or its program's scan ends within the budget.
-fn check_image(alloc: Global, bay: &str, octets: &[u8]) -> Result<()> {
-    let Ok(mut device) = load_image(alloc, bay, octets) else {
-        return Ok(());
-    };
-    let budget = device.report().budget;
-    let step = device.step(0, Event::Scan)?;
+/// An event ran the program, within a budget.
+fn check_steps(step: &Step, budget: u32) -> Result<()> {
     let steps = step.scan.context("no scan")?;
     if steps > budget {
         bail!("a scan of {steps} steps, with a budget of {budget}");
     }
     Ok(())
+}
+
+/// A scan ends within the budget.
+fn check_scan(device: &mut Device) -> Result<()> {
+    let budget = device.report().budget;
+    let step = device.step(0, Event::Scan)?;
+    check_steps(&step, budget)
+}
+
+/// The octets of an image are refused for the bay, or its program's scan ends within the budget.
+fn check_image(alloc: Global, bay: &str, octets: &[u8]) -> Result<()> {
+    match load_image(alloc, bay, octets) {
+        Ok(mut device) => check_scan(&mut device),
+        Err(_) => Ok(()),
+    }
 }
 
 /// The same of an image with each octet replaced by each other value.

@@ -1,5 +1,6 @@
-// What the octets of a client come to on a device, written down in order: S and the octets that are sent, T and those that tell of an
-// end, C with a switch and its way, E for an end, F and a fault's number.
+// What the octets of a client come to on a device, written down in order: S and the octets that are
+// sent, T and those that tell of an end, C with a switch and its way, E for an end, F and a fault's
+// number.
 use anyhow::{Context, Result, bail};
 use bay_device::device::Device;
 use bay_device::event::{Event, Sent, Step, Why};
@@ -43,7 +44,8 @@ impl Talk {
         self.log.clear();
     }
 
-    /// Writes down what was sent to it, as if it had the number 1, which the answer to a request for a transport connection tells.
+    /// Writes down what was sent to it, as if it had the number 1, which the answer to a request
+    /// for a transport connection tells.
     fn note_sent(&mut self, mark: u8, sent: &Sent) -> Result<()> {
         let octets = sent.octets.as_slice();
         if sent.association != self.association {
@@ -101,6 +103,17 @@ impl Talk {
         Ok(())
     }
 
+    /// Hears octets at once.
+    fn hear_piece(&mut self, device: &mut Device, now: u64, octets: &[u8]) -> Result<()> {
+        let association = self.association;
+        let event = Event::Recv {
+            association,
+            octets,
+        };
+        let step = device.step(now, event)?;
+        self.note(&step)
+    }
+
     /// Hears octets, whole or one by one, up to an end.
     pub fn hear(
         &mut self,
@@ -109,17 +122,9 @@ impl Talk {
         octets: &[u8],
         whole: bool,
     ) -> Result<()> {
-        let association = self.association;
         let size = if whole { octets.len().max(1) } else { 1 };
         for piece in octets.chunks(size) {
-            let step = device.step(
-                now,
-                Event::Recv {
-                    association,
-                    octets: piece,
-                },
-            )?;
-            self.note(&step)?;
+            self.hear_piece(device, now, piece)?;
             if self.is_over {
                 return Ok(());
             }
