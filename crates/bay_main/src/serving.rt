@@ -1,5 +1,6 @@
 // A device is served, turn by turn.
-ghost use Rattle.std.specs.Prelude.{◌≡◌, ◌+◌, ◌^◌, ◌<◌, ℕ, List, drop, false, length, slice_get, IfErr, IfOk, OnErr};
+ghost use Rattle.std.specs.Prelude.{◌≡◌, ◌⊎◌, ◌+◌, ◌^◌, ◌<◌, ℕ, List, drop, false, length, slice_get, IfErr, IfOk, OnErr};
+ghost use Rattle.bay_main.specs.Host.{Pauses};
 ghost use Rattle.bay_main.specs.Scenario.{lines_of};
 ghost use Rattle.bay_main.specs.ServeReport.{ServesTurns, next_view, number_of_next, text_of_next, told_lines};
 ghost use Rattle.bay_main.specs.Serving.{TriesTurn};
@@ -149,8 +150,41 @@ fn try_turn<L: Link, H: Host<L>, W: Write>(
     }
 }
 
-/// Serves so many turns, each with the next line of the trace as long as there is one, and prints what each tells: the exit status,
-/// which is 0 after the last turn, or 3 at one that is not done. After a turn in which nothing happened there is a pause.
+/// Lets some milliseconds go by, where nothing happened.
+fn rest<L, H: Host<L>>(host: &mut H, was_idle: bool)
+    ensures { (host.new ≡ host.old) ⊎ H.does host.old Pauses host.new }
+{
+    if was_idle {
+        host.pause();
+    }
+}
+
+/// Serves so many turns, each with the next line as long as there is one, and prints what each tells: the exit status, which is 0
+/// after the last turn, or 3 at one that is not done. After a turn in which nothing happened there is a pause.
+fn serve_lines<L: Link, H: Host<L>, W: Write>(
+    alloc: Global,
+    server: &mut Server,
+    link: &mut BusyLink<L>,
+    host: &mut H,
+    lines: &mut TraceLines<'_>,
+    turns: u32,
+    writer: &mut WatchedWriter<W>,
+) -> Result<u8, WriteFault>
+    requires { writer.old.has_failed ≡ false }
+    ensures { ServesTurns (Called L.does L.failures) H.does W.contents turns lines.old
+        (record { link = link.old.link; held = server.old; host = host.old }) writer.old host.new writer.new result }
+{
+    for turn in 0..turns {
+        let line = lines.next_line();
+        match try_turn(alloc, server, link, host, line, writer)? {
+            Tried::Ends(status) => return Ok(status),
+            Tried::Done { was_idle } => rest::<L, H>(host, was_idle),
+        }
+    }
+    Ok(CLEAN)
+}
+
+/// Serves so many turns over a link, each with the next line of a trace.
 pub fn serve_turns<L: Link + Drop, H: Host<L>, W: Write>(
     alloc: Global,
     server: Server,
@@ -167,13 +201,13 @@ pub fn serve_turns<L: Link + Drop, H: Host<L>, W: Write>(
     let mut server = server;
     let mut link = BusyLink::new(link);
     let mut lines = TraceLines::new(trace);
-    for turn in 0..turns {
-        let line = lines.next_line();
-        match try_turn(alloc, &mut server, &mut link, host, line, writer)? {
-            Tried::Ends(status) => return Ok(status),
-            Tried::Done { was_idle: true } => host.pause(),
-            Tried::Done { was_idle: false } => {}
-        }
-    }
-    Ok(CLEAN)
+    serve_lines(
+        alloc,
+        &mut server,
+        &mut link,
+        host,
+        &mut lines,
+        turns,
+        writer,
+    )
 }

@@ -185,6 +185,14 @@ line-is_text : (line : List ℕ) (l : LineData) → trace_line_of line ≡ Some 
 line-is_text [] l e = IsUtf8-from_ascii [] IsAscii-nil
 line-is_text (b ∷ bs) l e = subst IsUtf8 (join_with_byte-slice_split 32 (b ∷ bs)) (joined (slice_split is_space (b ∷ bs)) (line_text (slice_split is_space (b ∷ bs)) l e))
 
+-- what is no text can't be read
+pub no_text-unread : (line : List ℕ) → (IsUtf8 line → ⊥) → trace_line_of line ≡ None
+no_text-unread line fails = by_line (trace_line_of line) refl
+  where
+    by_line : (o : Option LineData) → trace_line_of line ≡ o → trace_line_of line ≡ None
+    by_line None e = e
+    by_line (Some l) e = absurd (fails (line-is_text line l e))
+
 pub read-is_text : (line : Option TraceLine) (bs : List ℕ) → eqb (length bs) 0 ≡ false → option_map line_view line ≡ words_line (slice_split is_space bs) → IfSome line (λ _. IsUtf8 bs)
 read-is_text None bs some e = tt
 read-is_text (Some line) [] some e = absurd (grind (arith, nat_tests))
