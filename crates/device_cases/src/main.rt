@@ -6,9 +6,7 @@
 // the bay, and `names` those of a tree, which lists them in pages. Values are spelled as Rust's `{:?}` prints them. `note` is none.
 //
 // In the other sections each line is a case. In `octets` it is `SCENARIO -> STATUS REPORT`, octet by octet. Else it is
-// `QUESTION -> ANSWER`: in `device` what a new device of these texts is asked or does, one line after the other; in
-// `bays` a part of the bay file that is replaced and what by, `OLD|NEW`, and what becomes of that file; in `many` how many
-// switches, inputs and meters a bay file has, and its last line; in `trees` the names of rows; in `images` the octets of an
+// `QUESTION -> ANSWER`: in `bays` a part of the bay file that is replaced and what by, `OLD|NEW`, and what becomes of that file; in `many` how many switches, inputs and meters a bay file has, and its last line; in `trees` the names of rows; in `images` the octets of an
 // image for the bay, in hexadecimal digits; in `controls` what controls are asked (`controls` says how; a line may be a note behind
 // `#`, or `bay` with the control of each switch, whose controls are asked from then on: `status`, `direct/TRAVEL`, `sbo/TIMEOUT/TRAVEL`
 // or `sbo-enhanced/TIMEOUT/TRAVEL`, with milliseconds); in `jobs` the words of a command line; in `messages` a fault; in `endings` the
@@ -20,7 +18,6 @@
 mod bay;
 mod commands;
 mod controls;
-mod device;
 mod files;
 mod messages;
 mod names;
@@ -29,12 +26,11 @@ mod words;
 
 use anyhow::{Context, Result, bail};
 use bay::check_bay;
-use bay_device::device::Device;
 use cases::told::Told;
 use cases::words::{first_word, is_case};
 use controls::Session;
 use names::check_names;
-use scenario::{Texts, check_octets, check_report, device_of};
+use scenario::{Texts, check_octets, check_report};
 use std::alloc::Global;
 use std::io::Read;
 
@@ -84,27 +80,6 @@ fn tell_lines(alloc: Global, told: &mut Told, texts: &Texts, head: &str, body: &
     Ok(())
 }
 
-/// A line of what a device is asked or does.
-fn check_step(alloc: Global, device: &mut Device, line: &str) -> Result<()> {
-    let (question, wanted) = line.split_once(" -> ").context("no answer")?;
-    check_answer(device::answer(alloc, device, question)?.as_str(), wanted)
-}
-
-/// The lines of what a device is asked or does.
-fn tell_steps(alloc: Global, told: &mut Told, device: &mut Device, body: &str) -> Result<()> {
-    for line in body.lines() {
-        let outcome = outcome_of(check_step(alloc, device, line));
-        told.tell(line, outcome)?;
-    }
-    Ok(())
-}
-
-/// The lines of what a new device of the texts is asked or does.
-fn tell_device(alloc: Global, told: &mut Told, texts: &Texts, body: &str) -> Result<()> {
-    let mut device = device_of(alloc, texts)?;
-    tell_steps(alloc, told, &mut device, body)
-}
-
 /// The lines of what controls are asked.
 fn tell_controls(alloc: Global, told: &mut Told, body: &str) -> Result<()> {
     let mut session = Session::new(alloc, "status")?;
@@ -138,7 +113,6 @@ fn tell_section(
     let (kind, _) = first_word(head);
     match kind {
         "note" => Ok(()),
-        "device" => tell_device(alloc, told, texts, body),
         "controls" => tell_controls(alloc, told, body),
         "fields" | "nodes" | "points" | "rows" | "names" | "report" => {
             let outcome = outcome_of(check_whole(alloc, texts, head, body));

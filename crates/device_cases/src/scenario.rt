@@ -1,7 +1,5 @@
 // Scenarios and their reports.
 use anyhow::{Context, Result, bail};
-use bay_device::device::Device;
-use bay_device::load::load;
 use bay_io::reader::WatchedReader;
 use bay_io::writer::WatchedWriter;
 use bay_main::replay::replay_watched;
@@ -32,12 +30,6 @@ impl Texts<'_> {
 /// The text of the program.
 fn program_of(alloc: Global, texts: &Texts) -> Result<String, AllocError> {
     format!(in alloc; "{}\n{}\n", texts.frame, texts.logic)
-}
-
-/// The device of the bay and the program.
-pub fn device_of(alloc: Global, texts: &Texts) -> Result<Device> {
-    let program = program_of(alloc, texts)?;
-    Ok(load(alloc, texts.bay, program.as_str())?)
 }
 
 /// Replays a scenario, and fails where it ends with another report or status, or where the report isn't flushed.

@@ -57,9 +57,9 @@ fn told_of(what: &str, place: usize, told: &str) -> Result<Event<'static>> {
     }
 }
 
-/// An event in words: `scan`, `contact SWITCH POSITION`, `input INPUT 0` or `1`, `measure METER FIELD VALUE`, `open ASSOCIATION`,
-/// `recv ASSOCIATION OCTETS`, `close ASSOCIATION`.
-fn event_of<'a>(words: &str, octets: &'a [u8]) -> Result<Event<'a>> {
+/// An event in words: `scan`, `contact SWITCH POSITION`, `input INPUT 0` or `1`, `measure METER
+/// FIELD VALUE`, `open ASSOCIATION`, `recv ASSOCIATION OCTETS`, `close ASSOCIATION`.
+pub fn event_of<'a>(words: &str, octets: &'a [u8]) -> Result<Event<'a>> {
     let (what, rest) = first_word(words);
     let (place, told) = first_word(rest);
     match what {
@@ -107,8 +107,8 @@ fn push_made(alloc: Global, text: &mut String, step: &Step) -> Result<(), AllocE
     Ok(())
 }
 
-/// What an event has done, in parts: `end A OCTETS`, `send A OCTETS`, `command SWITCH on` or `off`, `scan STEPS` where the program
-/// ran, `closed A WHY`; or `ok`, if nothing of these.
+/// What an event has done, in parts: `end A OCTETS`, `send A OCTETS`, `command SWITCH on` or `off`,
+/// `scan STEPS` where the program ran, `closed A WHY`; or `ok`, if nothing of these.
 fn done_text(alloc: Global, step: &Step) -> Result<String, AllocError> {
     let mut text = String::new(alloc);
     push_made(alloc, &mut text, step)?;
@@ -126,7 +126,7 @@ fn done_text(alloc: Global, step: &Step) -> Result<String, AllocError> {
 }
 
 /// The answer to an event: what it has done, or `refused NUMBER`.
-fn step_text(alloc: Global, answer: &Result<Step, StepFault>) -> Result<String, AllocError> {
+pub fn step_text(alloc: Global, answer: &Result<Step, StepFault>) -> Result<String, AllocError> {
     match answer {
         Ok(step) => done_text(alloc, step),
         Err(fault) => format!(in alloc; "refused {}", fault.code()),
@@ -187,8 +187,9 @@ fn place_text(alloc: Global, device: &Device, place: usize) -> Result<String, Al
     format!(in alloc; "{:?} {:?}", device.id(place), device.ena(place))
 }
 
-/// What a device answers: to `row NAME` the row's value, to `place PLACE` what is known of the switch there, to `switch`, `input` and
-/// `meter` with a name the place, and how many there are, and to an event, or to `run` with events, what comes of it.
+/// What a device answers: to `row NAME` the row's value, to `place PLACE` what is known of the
+/// switch there, to `switch`, `input` and `meter` with a name the place, and how many there are,
+/// and to an event, or to `run` with events, what comes of it.
 pub fn answer(alloc: Global, device: &mut Device, question: &str) -> Result<String> {
     let (what, rest) = first_word(question);
     match what {
