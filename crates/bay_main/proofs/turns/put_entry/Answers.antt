@@ -1,4 +1,4 @@
-use Rattle.std.proofs.Common.{sym, ap, subst}
+use Rattle.std.proofs.Common.{subst}
 use Rattle.bay_device.specs.declared.event.Why.TheVariants.{Fault}
 use Rattle.bay_io.specs.Sent.{Puts}
 use Rattle.bay_main.specs.LineAnswers.{closing_text}

@@ -1,4 +1,4 @@
-use Rattle.std.proofs.Common.{None, sym, refl, ◌∙◌, arith}
+use Rattle.std.proofs.Common.{sym, refl, ◌∙◌, arith}
 use Rattle.bay_main.proofs.JobLemmas.{parsed-number, unparsed-number}
 use Rattle.bay_main.proofs.words.port_of.Goals as goal
 

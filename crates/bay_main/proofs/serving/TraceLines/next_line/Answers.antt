@@ -1,4 +1,4 @@
-use Rattle.std.proofs.Common.{◌≡◌, ◌==◌, ◌∷◌, ◌∙◌, false, length, drop, slice_get, sym, ap, arith}
+use Rattle.std.proofs.Common.{◌∙◌, drop, slice_get, sym, ap, arith}
 use Rattle.bay_main.proofs.ServeLemmas.{told-line, told-blank, told-end}
 use Rattle.bay_main.proofs.serving.TraceLines.next_line.Goals as goal
 
