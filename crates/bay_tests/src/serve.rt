@@ -124,7 +124,7 @@ fn served<L: Link + Drop, H: Host<L>>(
 }
 
 /// A host whose port can be had.
-fn still() -> Still {
+fn ready() -> Still {
     Still {
         has_port: true,
         now: 0,
@@ -134,7 +134,7 @@ fn still() -> Still {
 
 #[test]
 fn turns_and_their_lines(rt: HostRuntime) -> Result<(), Fail> {
-    let mut host = still();
+    let mut host = ready();
     let trace = "\n9 contact X 1\r\n\n9 contact Q 1\n";
     let words = "serve --bay bay --logic logic --port 7 --turns 4 --trace trace";
     let words: Vec<&str> = words.split(" ").collect(rt.alloc())?;
@@ -150,7 +150,7 @@ fn lines_that_tell_of_no_process(rt: HostRuntime) -> Result<(), Fail> {
     let words = "serve --bay bay --logic logic --port 7 --turns 4 --trace trace";
     let words: Vec<&str> = words.split(" ").collect(rt.alloc())?;
     for trace in ["9 contact Q 1\n\n9 scan\n", "9 contact Q 1\n\n9 open 1\n"] {
-        let (printed, status) = served(rt.alloc(), &mut still(), trace, words.as_slice());
+        let (printed, status) = served(rt.alloc(), &mut ready(), trace, words.as_slice());
         let wanted =
             b"instructions=2 depth=1 budget=2\n1000 closed 1 0\nfault 120 line 3\n".as_slice();
         assert!(rt; printed.as_slice() == wanted && status == 3);
@@ -160,7 +160,7 @@ fn lines_that_tell_of_no_process(rt: HostRuntime) -> Result<(), Fail> {
 
 #[test]
 fn moments_past_the_last(rt: HostRuntime) -> Result<(), Fail> {
-    let mut host = still();
+    let mut host = ready();
     host.now = 4_294_967_295_000;
     let words = ["serve", "--bay", "bay", "--logic", "logic", "--port", "7", "--turns", "4"];
     let (printed, status) = served(rt.alloc(), &mut host, "", words.as_slice());
@@ -172,7 +172,7 @@ fn moments_past_the_last(rt: HostRuntime) -> Result<(), Fail> {
 #[test]
 fn files_and_ports_that_cannot_be_had(rt: HostRuntime) -> Result<(), Fail> {
     let words = ["serve", "--bay", "bay", "--logic", "logic", "--port", "7", "--turns", "4"];
-    let mut host = still();
+    let mut host = ready();
     host.has_port = false;
     let (printed, status) = served(rt.alloc(), &mut host, "", words.as_slice());
     let wanted = b"instructions=2 depth=1 budget=2\nfault 121\n".as_slice();
