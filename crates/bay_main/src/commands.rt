@@ -212,14 +212,7 @@ fn serve_job<F: FileSystem, L: Link + Drop, H: Host<L>, W: Write>(
         program,
         trace,
     };
-    serve(
-        alloc,
-        named,
-        files,
-        host,
-        Numbers { port, turns },
-        writer,
-    )
+    serve(alloc, named, files, host, Numbers { port, turns }, writer)
 }
 
 /// Does a job.

@@ -43,8 +43,7 @@ impl<'a, R> SystemHost<'a, R> {
 }
 
 impl<R: Runtime + Net<Listener = TcpListener, Stream = TcpStream>> Host<TcpLink>
-    for SystemHost<'_, R>
-{
+    for SystemHost<'_, R> {
     fn bind(&mut self, port: u16) -> Option<TcpLink> {
         TcpLink::bind(self.rt, port).ok()
     }

@@ -171,10 +171,7 @@ pub fn tell_turn<W: Write>(
 }
 
 /// Writes which line of the trace can't be read.
-fn write_bad_line<W: Write>(
-    writer: &mut WatchedWriter<W>,
-    number: usize,
-) -> Result<u8, WriteFault>
+fn write_bad_line<W: Write>(writer: &mut WatchedWriter<W>, number: usize) -> Result<u8, WriteFault>
     requires { writer.old.has_failed ≡ false }
     ensures { Prints W.contents (IsLast (unserved_text ServeFault.BadLine number) 3) writer.old writer.new result }
 {

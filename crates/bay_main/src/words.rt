@@ -332,8 +332,9 @@ fn usage_of(name: Option<&str>) -> &'static str {
 /// The refusal of a command with both or neither of a program and an image.
 fn refused_files(alloc: Global, name: Option<&str>) -> WordsFault {
     let usage = usage_of(name);
-    match format!(in alloc; "error: exactly one of --logic and --image is wanted\n\nUsage: {usage}\n\nFor more information, try '--help'.\n")
-    {
+    match format!(in alloc;
+        "error: exactly one of --logic and --image is wanted\n\nUsage: {usage}\n\nFor more information, try '--help'.\n"
+    ) {
         Ok(text) => WordsFault::Refused(text),
         Err(_) => WordsFault::OutOfMemory,
     }

@@ -16,7 +16,8 @@ struct Texts<'a> {
     trace: &'a str,
 }
 
-const BAY: &str = "bay = { domain = \"B\", vendor = \"V\", model = \"M\", revision = \"1\", scan_max_age_ms = 0 }
+const BAY: &str =
+    "bay = { domain = \"B\", vendor = \"V\", model = \"M\", revision = \"1\", scan_max_age_ms = 0 }
 switch = [{ id = \"Q\", kind = \"breaker\", control = \"status\" }]
 ";
 
@@ -111,14 +112,7 @@ fn served<L: Link + Drop, H: Host<L>>(
     let mut printed = Vec::new(alloc);
     let mut reader = WatchedReader::new(b"".as_slice());
     let mut writer = WatchedWriter::new(&mut printed);
-    let ended = obey(
-        alloc,
-        words,
-        &mut files,
-        host,
-        &mut reader,
-        &mut writer,
-    );
+    let ended = obey(alloc, words, &mut files, host, &mut reader, &mut writer);
     let status = ended.status();
     (printed, status)
 }
@@ -162,7 +156,9 @@ fn lines_that_tell_of_no_process(rt: HostRuntime) -> Result<(), Fail> {
 fn moments_past_the_last(rt: HostRuntime) -> Result<(), Fail> {
     let mut host = ready();
     host.now = 4_294_967_295_000;
-    let words = ["serve", "--bay", "bay", "--logic", "logic", "--port", "7", "--turns", "4"];
+    let words = [
+        "serve", "--bay", "bay", "--logic", "logic", "--port", "7", "--turns", "4",
+    ];
     let (printed, status) = served(rt.alloc(), &mut host, "", words.as_slice());
     let wanted = b"instructions=2 depth=1 budget=2\nfault 114\n".as_slice();
     assert!(rt; printed.as_slice() == wanted && status == 3);
@@ -171,7 +167,9 @@ fn moments_past_the_last(rt: HostRuntime) -> Result<(), Fail> {
 
 #[test]
 fn files_and_ports_that_cannot_be_had(rt: HostRuntime) -> Result<(), Fail> {
-    let words = ["serve", "--bay", "bay", "--logic", "logic", "--port", "7", "--turns", "4"];
+    let words = [
+        "serve", "--bay", "bay", "--logic", "logic", "--port", "7", "--turns", "4",
+    ];
     let mut host = ready();
     host.has_port = false;
     let (printed, status) = served(rt.alloc(), &mut host, "", words.as_slice());
@@ -188,7 +186,17 @@ fn files_and_ports_that_cannot_be_had(rt: HostRuntime) -> Result<(), Fail> {
 fn ports_of_the_system(rt: HostRuntime) -> Result<(), Fail> {
     let link = TcpLink::bind(&rt, 0)?;
     let port = format!(in rt.alloc(); "{}", link.port()?)?;
-    let words = ["serve", "--bay", "bay", "--logic", "logic", "--port", port.as_str(), "--turns", "3"];
+    let words = [
+        "serve",
+        "--bay",
+        "bay",
+        "--logic",
+        "logic",
+        "--port",
+        port.as_str(),
+        "--turns",
+        "3",
+    ];
     let mut host = SystemHost::new(&rt);
     let (printed, status) = served::<TcpLink, _>(rt.alloc(), &mut host, "", words.as_slice());
     let taken = b"instructions=2 depth=1 budget=2\nfault 121\n".as_slice();

@@ -15,6 +15,8 @@ returns-in_err-tell_turn-in-Ok g c =
 
 pub returns-after-not-was_busy : goal.returns-after-not-was_busy
 returns-after-not-was_busy g c =
-    let now : c.max-moment.result ≡ moment_at c.now-clock.result c.args.server.now = search rules in
-    (c.in_ok-tell_turn-in-Ok.field-0, rw c.was_busy.ensures
-        (turn-goes (λ busy. busy.link) g.L.Link.does g.L.Link.failures g.H.Host.does g.W.Write.contents _ _ _ _ _ _ _ _ _ _ _ _ _ _ _ c.octets_of.ensures now c.device-in-Ok.ensures c.now-clock.ensures c.in-Ok.ensures.ok c.in_ok-tell_turn-in-Ok.ensures))
+    let now : c.max-moment.result ≡ moment_at c.now-clock.result c.args.server.now = search rules in (
+      c.in_ok-tell_turn-in-Ok.field-0,
+      rw c.was_busy.ensures
+          (turn-goes (λ busy. busy.link) g.L.Link.does g.L.Link.failures g.H.Host.does g.W.Write.contents _ _ _ _ _ _ _ _ _ _ _ _ _ _ _ c.octets_of.ensures now c.device-in-Ok.ensures c.now-clock.ensures c.in-Ok.ensures.ok c.in_ok-tell_turn-in-Ok.ensures),
+    )
