@@ -33,20 +33,22 @@ abbrev pub FilesReport : Form → Result FilesData ReadFault → List ℕ → �
 FilesReport form (Err fault) text status = UnreadReport fault text status
 FilesReport form (Ok both) text status = CheckReport both.bay form both.program text status
 
--- a check of a bay file and of a program or an image, by their names: both are read, and what they load to is printed
+-- a check of a bay file and of a program or an image, by their names: both are read, and what they
+-- load to is printed
 pub record Checks {F W : Type 0} (reads : F → List ℕ → Result (List ℕ) ReadFault → Type 0) (contents : W → Option (List ℕ)) (form : Form) (bay program : List ℕ) (files : F) (old new : Writing W) (answer : Result ℕ WriteFault) : Type 0 where
   pub read : Result FilesData ReadFault
   pub is_read : ReadsBoth reads files bay program read
   pub printed : Prints contents (FilesReport form read) old new answer
 
--- how a file was written to which a program is compiled: whole; not at all; or there was no memory, which is told
+-- how a file was written to which a program is compiled: whole; not at all; or there was no memory,
+-- which is told
 abbrev pub EndsWritten : {W : Type 0} → (W → Option (List ℕ)) → Option FileFault → Writing W → Writing W → Result ℕ WriteFault → Type 0
 EndsWritten contents None old new answer = (new ≡ old) × (answer ≡ Ok 0)
 EndsWritten contents (Some unwritten.Failed) old new answer = (new ≡ old) × (is_err answer ≡ true)
 EndsWritten contents (Some unwritten.OutOfMemory) old new answer = Prints contents (IsLast (codes "fault memory\n") 3) old new answer
 
--- a command that has printed a load's line makes the image, and writes it to the file of this name; or there is no memory for it, which
--- is told, and no file is touched
+-- a command that has printed a load's line makes the image, and writes it to the file of this name;
+-- or there is no memory for it, which is told, and no file is touched
 abbrev pub WritesImage : {F W : Type 0} → (F → List ℕ → List ℕ → Option FileFault → F → Type 0) → (W → Option (List ℕ)) → List ℕ → State → F → F → Writing W → Writing W → Result ℕ WriteFault → Type 0
 WritesImage writes contents out s before after old new answer =
     ((fault : Option FileFault) × writes before out (encoded Two s.machine.image) fault after × EndsWritten contents fault old new answer)
@@ -76,14 +78,16 @@ abbrev pub CompilesLoaded : {F W : Type 0} → (F → List ℕ → List ℕ → 
 CompilesLoaded writes contents out (Err fault) before after old new answer = Prints contents (MayRefuse fault) old new answer × (after ≡ before)
 CompilesLoaded writes contents out (Ok s) before after old new answer = CompilesDevice writes contents out s before after old new answer
 
--- what was read is loaded and compiled; its load may want memory. Where it can't be read, that is printed, and no file is touched
+-- what was read is loaded and compiled; its load may want memory. Where it can't be read, that is
+-- printed, and no file is touched
 abbrev pub CompilesRead : {F W : Type 0} → (F → List ℕ → List ℕ → Option FileFault → F → Type 0) → (W → Option (List ℕ)) → List ℕ → Result FilesData ReadFault → F → F → Writing W → Writing W → Result ℕ WriteFault → Type 0
 CompilesRead writes contents out (Err fault) before after old new answer = Prints contents (UnreadReport fault) old new answer × (after ≡ before)
 CompilesRead writes contents out (Ok both) before after old new answer =
     (loaded : Result State LoadFault) × ((load_of both.bay both.program ≡ loaded) ⊎ (loaded ≡ Err wants_memory)) × CompilesLoaded writes contents out loaded before after old new answer
 
--- a compilation of a bay file and a program to a file, by their names: both are read, loaded and compiled; where the file is one of the
--- two, nothing is read, printed or touched, and the write counts as failed
+-- a compilation of a bay file and a program to a file, by their names: both are read, loaded and
+-- compiled; where the file is one of the two, nothing is read, printed or touched, and the write
+-- counts as failed
 abbrev pub Compiles : {F W : Type 0} → (F → List ℕ → Result (List ℕ) ReadFault → Type 0) → (F → List ℕ → List ℕ → Option FileFault → F → Type 0) → (F → List ℕ → List ℕ → Bool → Type 0) → (W → Option (List ℕ)) → List ℕ → List ℕ → List ℕ → F → F → Writing W → Writing W → Result ℕ WriteFault → Type 0
 Compiles reads writes same contents bay logic out before after old new answer =
     ((same before out bay true ⊎ same before out logic true) × (new ≡ old) × (after ≡ before) × (is_err answer ≡ true))
@@ -134,7 +138,8 @@ pub record Around (F H R W : Type 0) : Type 0 where
 
 module _ {F L H R W : Type 0} (reads : F → List ℕ → Result (List ℕ) ReadFault → Type 0) (writes : F → List ℕ → List ℕ → Option FileFault → F → Type 0) (same : F → List ℕ → List ℕ → Bool → Type 0)
     (step : L → Call → L → Type 0) (acts : H → HostCall L → H → Type 0) (remaining : R → Option (List ℕ)) (contents : W → Option (List ℕ)) where
-  -- A job with this verb is done: what is printed and answered, and what becomes of files and ports. Only a replay reads what the reader has.
+  -- A job with this verb is done: what is printed and answered, and what becomes of files and
+  -- ports. Only a replay reads what the reader has.
   abbrev pub DoesVerb : Verb → JobData → Around F H R W → Around F H R W → Result ℕ WriteFault → Type 0
   DoesVerb Check job old new answer =
       Given job.bay (λ bay. ChecksNamed reads contents bay job.logic job.image old.files old.writer new.writer answer) × (new.files ≡ old.files) × (new.host ≡ old.host) × (new.reader ≡ old.reader)
@@ -165,6 +170,7 @@ module _ {F L H R W : Type 0} (reads : F → List ℕ → Result (List ℕ) Read
     pub ends : Ends answer ended
     pub untouched : (new.files ≡ old.files) × (new.host ≡ old.host) × (new.reader ≡ old.reader)
 
-  -- Words are obeyed: the job that they ask for is done; or they ask for none, and are refused; or there is no memory to read them.
+  -- Words are obeyed: the job that they ask for is done; or they ask for none, and are refused; or
+  -- there is no memory to read them.
   abbrev pub Obeys : List (List ℕ) → Around F H R W → Around F H R W → Ended → Type 0
   Obeys words old new ended = Obeyed words old new ended ⊎ (Declined words old new ended ⊎ Unread old new ended)

@@ -7,7 +7,8 @@ pub record FilesData : Type 0 where
   pub bay : List ℕ
   pub program : List ℕ
 
--- two files were read, in this order: what they hold, or why the first that could not be read could not
+-- two files were read, in this order: what they hold, or why the first that could not be read could
+-- not
 abbrev pub ReadsBoth : {F : Type 0} → (F → List ℕ → Result (List ℕ) ReadFault → Type 0) → F → List ℕ → List ℕ → Result FilesData ReadFault → Type 0
 ReadsBoth reads files bay program (Ok both) = reads files bay (Ok both.bay) × reads files program (Ok both.program)
 ReadsBoth reads files bay program (Err fault) =

@@ -30,7 +30,8 @@ with_program app = with_rule (with_rule app (file_rule (codes "logic"))) (file_r
 abbrev pub check_app : App
 check_app = with_program (with_rule (new_app (codes "check")) (needed_rule (codes "bay")))
 
--- `serve --bay F [--logic F] [--image F] --port N --turns N [--trace F]`, with a port from 1 to 65535 and turns below 2 ^ 32
+-- `serve --bay F [--logic F] [--image F] --port N --turns N [--trace F]`, with a port from 1 to
+-- 65535 and turns below 2 ^ 32
 abbrev pub serve_app : App
 serve_app =
     let named = with_program (with_rule (new_app (codes "serve")) (needed_rule (codes "bay"))) in
@@ -94,7 +95,8 @@ verb_of name =
     else if bytes_eq name (codes "compile") then Some Compile
     else None
 
--- the number that decimal digits write, before which a plus may stand, from the least to the greatest
+-- the number that decimal digits write, before which a plus may stand, from the least to the
+-- greatest
 abbrev pub number_of : ℕ → ℕ → Text → Option ℕ
 number_of least greatest text = if is_unsigned_in least greatest text then Some (digits_value 10 (without_leading_plus text)) else None
 
@@ -124,6 +126,7 @@ abbrev pub faultless_job : Kinds → Option JobData → Option JobData
 faultless_job [] job = job
 faultless_job (kind ∷ kinds) job = None
 
--- the job that the words ask for, by what `clap` reads in them; there is none where `clap` refuses them
+-- the job that the words ask for, by what `clap` reads in them; there is none where `clap` refuses
+-- them
 abbrev pub job_in : List Text → Option JobData
 job_in words = faultless_job (fault_of job_app words) (entered_job (subcommand_of job_app words))

@@ -109,8 +109,8 @@ closed_text now (Some closed) = closing_text now closed.0 closed.1
 abbrev pub refusal_line : ℕ → ℕ → List ℕ
 refusal_line now code = (decimal now ++ codes " refused ") ++ (decimal code ++ codes "\n")
 
--- what is printed for an event that was done, by its answer and the device after it: what tells of an end, what is sent, the commands,
--- the scan, and the association that was closed
+-- what is printed for an event that was done, by its answer and the device after it: what tells of
+-- an end, what is sent, the commands, the scan, and the association that was closed
 abbrev pub done_text : ℕ → Step → State → List ℕ
 done_text now step s =
     ended_text now step.ended
@@ -134,8 +134,8 @@ pub record LineAnswer : Type 0 where
   pub is_last : Bool
   pub after : Replaying
 
--- the memory that may be refused at a line: the room for its octets, or what the device wants behind so many things that its octets
--- come to; or none is
+-- the memory that may be refused at a line: the room for its octets, or what the device wants
+-- behind so many things that its octets come to; or none is
 pub data Choice : Type 0 where
   unread : Choice
   heard : Option ℕ → Choice
@@ -150,7 +150,8 @@ event_answer choice now event count r =
 abbrev pub memory_answer : Replaying → LineAnswer
 memory_answer r = record { text = codes "fault memory\n"; is_last = true; after = r }
 
--- what happens is done; room for its octets may be refused where there are more than there is room for
+-- what happens is done; room for its octets may be refused where there are more than there is room
+-- for
 abbrev pub named_answer : Choice → ℕ → NamedData → Replaying → LineAnswer
 named_answer unread now event r =
     if nat_lt r.room (count_of event) then memory_answer r else event_answer None now (placed_event r.device event) (count_of event) r

@@ -1,4 +1,5 @@
--- The device that the octets of a bay file and of a program or an image load to, or why they are refused.
+-- The device that the octets of a bay file and of a program or an image load to, or why they are
+-- refused.
 use Rattle.std.specs.Prelude.{◌≡◌, ℕ, List, Result, Err, if◌then◌else◌}
 use Rattle.std.specs.Str.{is_utf8}
 use Rattle.bay_config.specs.Bay.{bay_of}

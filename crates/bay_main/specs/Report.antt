@@ -28,8 +28,8 @@ abbrev pub refusal_of : LoadFault → List ℕ
 refusal_of OutOfMemory = codes "load refused memory\n"
 refusal_of (Refused code line) = numbered_refusal code line
 
--- the line of a load: how many instructions the program has, how many values lie on its stack at most, and how many instructions a
--- scan executes at most
+-- the line of a load: how many instructions the program has, how many values lie on its stack at
+-- most, and how many instructions a scan executes at most
 abbrev pub report_text : Report → List ℕ
 report_text report =
     codes "instructions=" ++ (decimal report.instructions ++ (codes " depth=" ++ (decimal report.depth ++ (codes " budget=" ++ (decimal report.budget ++ codes "\n")))))
@@ -37,15 +37,17 @@ report_text report =
 abbrev pub ran_out : List ℕ → ℕ → Type 0
 ran_out text status = (text ≡ codes "fault memory\n") × (status ≡ 3)
 
--- the text and the status for the lines of a trace, from line k on: for each line there is a choice with which its answer is printed, one
--- after the other up to a line that can't be read, or for which there is no memory
+-- the text and the status for the lines of a trace, from line k on: for each line there is a choice
+-- with which its answer is printed, one after the other up to a line that can't be read, or for
+-- which there is no memory
 abbrev pub TraceReport : Replaying → ℕ → List (List ℕ) → List ℕ → ℕ → Type 0
 TraceReport r k [] text status = (text ≡ []) × (status ≡ 0)
 TraceReport r k (line ∷ lines) text status =
     (choice : Choice) × (let answer = line_answer choice k (trace_line_of line) r in
     MatchBool answer.is_last ((text ≡ answer.text) × (status ≡ 3)) ((rest : List ℕ) × (text ≡ answer.text ++ rest) × TraceReport answer.after (k + 1) lines rest status))
 
--- a line, and behind it the text and the status of a device's trace; there is no room for octets at first
+-- a line, and behind it the text and the status of a device's trace; there is no room for octets at
+-- first
 abbrev pub HeadReport : List ℕ → State → List (List ℕ) → List ℕ → ℕ → Type 0
 HeadReport head s lines text status =
     (rest : List ℕ) × (text ≡ head ++ rest) × TraceReport (record { device = s; room = 0 }) 1 lines rest status
@@ -102,8 +104,8 @@ PartsReport (Some parts) text status = LoadsReport parts text status
 abbrev pub IsReport : List ℕ → List ℕ → ℕ → Type 0
 IsReport scenario text status = PartsReport (scenario_of scenario) text status
 
--- the text and the status for what a reader had, of which no read failed: the report of it; a fault where there
--- was too much; or that memory ran out
+-- the text and the status for what a reader had, of which no read failed: the report of it; a fault
+-- where there was too much; or that memory ran out
 abbrev pub ReadReport : Option (List ℕ) → List ℕ → ℕ → Type 0
 ReadReport input text status =
     ((scenario : List ℕ) × IfSome input (λ octets. scenario ≡ octets) × (length scenario ≤ scenario_limit) × IsReport scenario text status)
@@ -131,15 +133,16 @@ pub record ReportsPart (May : List ℕ → ℕ → Type 0) (old new : Option (Li
 abbrev pub IsLast : List ℕ → ℕ → List ℕ → ℕ → Type 0
 IsLast last answered text status = (text ≡ last) × (status ≡ answered)
 
--- a replay answers the status of a text that may be printed, after all of it reached the writer and was flushed;
--- or a write or a flush failed, and the writer took a front of such a text
+-- a replay answers the status of a text that may be printed, after all of it reached the writer and
+-- was flushed; or a write or a flush failed, and the writer took a front of such a text
 abbrev pub Prints : {W : Type 0} → (W → Option (List ℕ)) → (List ℕ → ℕ → Type 0) → Writing W → Writing W → Result ℕ WriteFault → Type 0
 Prints contents May old new (Ok status) =
     Reports May (contents old.inner) (contents new.inner) status × ((new.has_failed ≡ false) × (new.is_flushed ≡ true))
 Prints contents May old new (Err fault) = ReportsPart May (contents old.inner) (contents new.inner) × (new.has_failed ≡ true)
 
--- a scenario was replayed from a reader to a writer, of which nobody is told whether they failed: there is a last state of the writer in
--- which it has taken a whole text that may be printed, or where it failed a front of one
+-- a scenario was replayed from a reader to a writer, of which nobody is told whether they failed:
+-- there is a last state of the writer in which it has taken a whole text that may be printed, or
+-- where it failed a front of one
 pub record Replays {R W : Type 0} (remaining : R → Option (List ℕ)) (contents : W → Option (List ℕ)) (reader : R) (writer : W) (result : Result ℕ WriteFault) : Type 0 where
   pub has_read_failed : Bool
   pub last : Writing W

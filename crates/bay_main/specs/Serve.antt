@@ -1,4 +1,5 @@
--- What the command to serve comes to: files are read and loaded, a port is bound, and turns are served.
+-- What the command to serve comes to: files are read and loaded, a port is bound, and turns are
+-- served.
 use Rattle.std.specs.Prelude.{◌≡◌, ℕ, ◌==◌, Bool, List, [], replicate, codes, Option, None, Some, Result, Ok, Err, ◌⊎◌, MatchBool}
 use Rattle.bay_device.specs.Device.{State}
 use Rattle.bay_device.specs.Report.{IsReport as IsReportOf}
@@ -34,7 +35,8 @@ pub record FileNames : Type 0 where
   pub trace : Option (List ℕ)
 
 module _ {L H W : Type 0} (step : L → Call → L → Type 0) (acts : H → HostCall L → H → Type 0) (contents : W → Option (List ℕ)) where
-  -- the port can't be had, which is told; or it is served; or there is no memory for the server, which is told
+  -- the port can't be had, which is told; or it is served; or there is no memory for the server,
+  -- which is told
   abbrev pub ServesBound : Numbers → List ℕ → State → Option L → H → H → Writing W → Writing W → Result ℕ WriteFault → Type 0
   ServesBound numbers trace s None host after old new answer = Prints contents (IsLast (codes "fault 121\n") 3) old new answer × (after ≡ host)
   ServesBound numbers trace s (Some link) host after old new answer =
@@ -83,7 +85,8 @@ module _ {L H W : Type 0} (step : L → Call → L → Type 0) (acts : H → Hos
   ServesRead reads files numbers form trace (Ok both) before after old new answer =
       (read : Result (List ℕ) ReadFault) × ReadsNamed reads files trace read × ServesTrace numbers form both read before after old new answer
 
-  -- The bay and the program or the image are read, then the trace, if it was named; one that can't be read is told. What they load to is served.
+  -- The bay and the program or the image are read, then the trace, if it was named; one that can't
+  -- be read is told. What they load to is served.
   pub record ServesFiles {F : Type 0} (reads : F → List ℕ → Result (List ℕ) ReadFault → Type 0) (files : F) (named : FileNames) (numbers : Numbers) (before after : H) (old new : Writing W) (answer : Result ℕ WriteFault) : Type 0 where
     pub read : Result FilesData ReadFault
     pub is_read : ReadsBoth reads files named.bay named.program read

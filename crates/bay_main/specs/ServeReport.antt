@@ -56,7 +56,8 @@ abbrev pub MayPause : {L H : Type 0} → (H → HostCall L → H → Type 0) →
 MayPause acts before after = (after ≡ before) ⊎ (acts before.host Pauses after.host × (after.link ≡ before.link) × (after.held ≡ before.held))
 
 module _ {L H W : Type 0} (step : L → Call → L → Type 0) (acts : H → HostCall L → H → Type 0) (contents : W → Option (List ℕ)) where
-  -- the clock was asked for the moment of a turn, which was not done: why not is printed, and nothing has changed
+  -- the clock was asked for the moment of a turn, which was not done: why not is printed, and
+  -- nothing has changed
   pub record TurnFails (line : Option (ℕ × List ℕ)) (before : Serving L H) (old : Writing W) (host : H) (new : Writing W) (answer : Result ℕ WriteFault) : Type 0 where
     pub clock : ℕ
     pub told : acts before.host (Tells clock) host
@@ -72,8 +73,8 @@ module _ {L H W : Type 0} (step : L → Call → L → Type 0) (acts : H → Hos
     pub serves : Serves step before.link after.link (moment_at clock before.held) (line_in (text_of_next line)) before.held after.held turn
     pub printed : TellsTurn contents (moment_at clock before.held) turn after.held.device old new answer
 
-  -- So many turns are served, with the next line for each: all of them; up to one that is not done; or up to one whose lines could not be
-  -- written.
+  -- So many turns are served, with the next line for each: all of them; up to one that is not done;
+  -- or up to one whose lines could not be written.
   abbrev pub ServesTurns : ℕ → List (ℕ × List ℕ) → Serving L H → Writing W → H → Writing W → Result ℕ WriteFault → Type 0
   ServesTurns zero lines before old host new answer = (host ≡ before.host) × Stays old new answer
   ServesTurns (suc turns) lines before old host new answer =

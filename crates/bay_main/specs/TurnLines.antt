@@ -28,7 +28,8 @@ memories_text now (a ∷ more) = closing_text now a Memory ++ memories_text now 
 abbrev pub closed_lines : ℕ → Turn → List ℕ
 closed_lines now turn = closings_text now turn.closed ++ memories_text now turn.memory
 
--- what is printed for a turn at this moment, by the device after it: a refusal, the commands, and the closings
+-- what is printed for a turn at this moment, by the device after it: a refusal, the commands, and
+-- the closings
 abbrev pub turn_text : ℕ → Turn → State → List ℕ
 turn_text now turn s = refusal_text now turn.refused ++ (commands_text now s turn.commands ++ closed_lines now turn)
 

@@ -45,7 +45,8 @@ fn answer_event<W: Write>(
     put_step(outbox, writer, device, moment, &answer)
 }
 
-/// Does what happens, and writes what is printed for it. Whether the replay ends there, as there is no memory for its octets.
+/// Does what happens, and writes what is printed for it. Whether the replay ends there, as there is
+/// no memory for its octets.
 fn answer_named<W: Write>(
     outbox: &mut Outbox,
     writer: &mut WatchedWriter<W>,
@@ -55,7 +56,10 @@ fn answer_named<W: Write>(
     event: NamedEvent<'_>,
 ) -> Result<bool, WriteFault>
     requires { writer.old.has_failed ≡ false }
-    ensures { Answers W.contents outbox.old writer.old (λ choice. named_answer choice moment (named_view event.entry) (record { device = device.old; room = octets.old.room })) outbox.new writer.new (record { device = device.new; room = octets.new.room }) result }
+    ensures { Answers W.contents outbox.old writer.old
+        (λ choice. named_answer choice moment (named_view event.entry)
+        (record { device = device.old; room = octets.old.room })) outbox.new writer.new
+        (record { device = device.new; room = octets.new.room }) result }
 {
     if take_octets(octets, &event).is_err() {
         outbox.put(writer, b"fault memory\n")?;
@@ -66,8 +70,8 @@ fn answer_named<W: Write>(
     Ok(false)
 }
 
-/// Does what the line with this number says, and writes what is printed for it. Whether the replay ends there, as the line
-/// can't be read, or there is no memory for its octets.
+/// Does what the line with this number says, and writes what is printed for it. Whether the replay
+/// ends there, as the line can't be read, or there is no memory for its octets.
 pub fn answer_line<W: Write>(
     outbox: &mut Outbox,
     writer: &mut WatchedWriter<W>,
@@ -77,7 +81,10 @@ pub fn answer_line<W: Write>(
     line: &[u8],
 ) -> Result<bool, WriteFault>
     requires { writer.old.has_failed ≡ false }
-    ensures { Answers W.contents outbox.old writer.old (λ choice. line_answer choice number (trace_line_of line.now) (record { device = device.old; room = octets.old.room })) outbox.new writer.new (record { device = device.new; room = octets.new.room }) result }
+    ensures { Answers W.contents outbox.old writer.old
+        (λ choice. line_answer choice number (trace_line_of line.now)
+        (record { device = device.old; room = octets.old.room })) outbox.new writer.new
+        (record { device = device.new; room = octets.new.room }) result }
 {
     match read_trace_line(line) {
         None => {

@@ -3,7 +3,8 @@ ghost use Rattle.std.specs.Prelude.{◌≡◌};
 
 use bay_serve::link::{Got, Link, LinkFault};
 
-/// A link of which it is known whether a connection was taken, octets came or were taken, a client's end was seen, or a call failed.
+/// A link of which it is known whether a connection was taken, octets came or were taken, a
+/// client's end was seen, or a call failed.
 #[derive(Drop)]
 pub struct BusyLink<L> {
     link: L,

@@ -8,8 +8,8 @@ use bay_io::writer::WatchedWriter;
 use std::alloc::Global;
 use std::io::Write;
 
-/// Loads the octets of a bay file and of a program or an image, and writes the line of the load: the exit status, which is 0,
-/// or 1 where the load is refused.
+/// Loads the octets of a bay file and of a program or an image, and writes the line of the load:
+/// the exit status, which is 0, or 1 where the load is refused.
 pub fn check_run<W: Write>(
     alloc: Global,
     bay: &[u8],

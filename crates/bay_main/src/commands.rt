@@ -161,7 +161,11 @@ fn compile_job<F: FileSystem, W: Write>(
     writer: &mut WatchedWriter<W>,
 ) -> Result<u8, WriteFault>
     requires { has_files Compile (job_view job.now) ≡ true }
-    ensures { Given (job_view job.now).bay (λ bay. Given (job_view job.now).logic (λ logic. Given (job_view job.now).out (λ out. Compiles F.reads F.writes F.same W.contents bay logic out files.old files.new writer.old writer.new result))) }
+    ensures { Given (job_view job.now).bay
+        (λ bay. Given (job_view job.now).logic
+        (λ logic. Given (job_view job.now).out
+        (λ out. Compiles F.reads F.writes F.same W.contents bay logic out files.old files.new
+        writer.old writer.new result))) }
 {
     let (Some(bay), Some(logic), Some(out)) = (&job.bay, &job.logic, &job.out) else {
         unreachable!()
@@ -237,9 +241,9 @@ fn do_job<F: FileSystem, L: Link + Drop, H: Host<L>, R: Read, W: Write>(
     }
 }
 
-/// Does what the words after the program's name ask for. A check and a compilation read files by their names, a replay what the
-/// reader has, and a compilation writes a file; serving reads files, and asks the host for a port and the time. What is printed goes to
-/// the writer.
+/// Does what the words after the program's name ask for. A check and a compilation read files by
+/// their names, a replay what the reader has, and a compilation writes a file; serving reads files,
+/// and asks the host for a port and the time. What is printed goes to the writer.
 pub fn obey<F: FileSystem, L: Link + Drop, H: Host<L>, R: Read, W: Write>(
     alloc: Global,
     words: &[&str],

@@ -42,7 +42,8 @@ impl Ended {
         }
     }
 
-    /// What is written to standard error: `fault 122` for a failed write, the text of refused words, and else nothing.
+    /// What is written to standard error: `fault 122` for a failed write, the text of refused
+    /// words, and else nothing.
     pub fn complaint(&self) -> &str
         ensures { result.now ≡ complaint_of self.now }
     {

@@ -27,10 +27,11 @@ pub enum FileFault {
 
 /// Files by their names.
 ///
-/// Its meaning is three relations: `reads files name gave` (a read of this name gave these octets, or this fault), `writes old name octets
-/// fault new` (a write of these octets to this name led from the files before to those after; it was whole, or had this fault), and
-/// `same files one other is_same` (whether the names are of one file). Files in memory give their own; of those of a system nothing is
-/// known, and they keep the defaults.
+/// Its meaning is three relations: `reads files name gave` (a read of this name gave these octets,
+/// or this fault), `writes old name octets fault new` (a write of these octets to this name led
+/// from the files before to those after; it was whole, or had this fault), and `same files one
+/// other is_same` (whether the names are of one file). Files in memory give their own; of those of
+/// a system nothing is known, and they keep the defaults.
 pub trait FileSystem {
     ghost reads: { Self → List ℕ → Result (List ℕ) ReadFault → Type 0 } = { λ _ _ _. Unit {0} };
 
@@ -43,7 +44,8 @@ pub trait FileSystem {
         ensures ok { IfOk result (λ octets. reads self.now name.now (Ok octets.items)) }
         ensures err { IfErr result (λ fault. reads self.now name.now (Err fault)) };
 
-    /// Makes a file of these octets, or puts them in the place of what it held: all of them, or none.
+    /// Makes a file of these octets, or puts them in the place of what it held: all of them, or
+    /// none.
     fn write(&mut self, alloc: Global, name: &str, octets: &[u8]) -> Result<(), FileFault>
         ensures ok { OnOk result (writes self.old name.now octets.now None self.new) }
         ensures err { IfErr result (λ fault. writes self.old name.now octets.now (Some fault) self.new) };

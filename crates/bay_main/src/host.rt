@@ -12,8 +12,9 @@ const PAUSE: u64 = 2;
 
 /// The ports of 127.0.0.1, on which links are had, and a clock.
 ///
-/// Its meaning is `does old call new`: this call, with what it answered, may have led from the one state to the other. A host in memory gives its
-/// own; of that of a system nothing is known, and it keeps the default.
+/// Its meaning is `does old call new`: this call, with what it answered, may have led from the one
+/// state to the other. A host in memory gives its own; of that of a system nothing is known, and it
+/// keeps the default.
 pub trait Host<L> {
     ghost does: { Self → HostCall L → Self → Type 0 } = { λ _ _ _. Unit {0} };
 

@@ -473,7 +473,10 @@ fn put_commands_on<W: Write>(
     step: &Step,
 ) -> Result<(), WriteFault>
     requires { writer.old.has_failed ≡ false }
-    ensures { Puts W.contents outbox.old writer.old (commands_text moment device.now step.now.commands ++ (ran_text moment step.now.scan device.now ++ closed_text moment step.now.closed)) outbox.new writer.new result }
+    ensures { Puts W.contents outbox.old writer.old
+        (commands_text moment device.now step.now.commands
+        ++ (ran_text moment step.now.scan device.now ++ closed_text moment step.now.closed))
+        outbox.new writer.new result }
 {
     put_commands(outbox, writer, device, moment, step.commands.as_slice())?;
     put_ran_and_closed(outbox, writer, device, moment, step)
@@ -488,7 +491,11 @@ fn put_sends_on<W: Write>(
     step: &Step,
 ) -> Result<(), WriteFault>
     requires { writer.old.has_failed ≡ false }
-    ensures { Puts W.contents outbox.old writer.old (sends_text moment step.now.sent ++ (commands_text moment device.now step.now.commands ++ (ran_text moment step.now.scan device.now ++ closed_text moment step.now.closed))) outbox.new writer.new result }
+    ensures { Puts W.contents outbox.old writer.old
+        (sends_text moment step.now.sent
+        ++ (commands_text moment device.now step.now.commands
+        ++ (ran_text moment step.now.scan device.now ++ closed_text moment step.now.closed)))
+        outbox.new writer.new result }
 {
     put_sends(outbox, writer, moment, step.sent.as_slice())?;
     put_commands_on(outbox, writer, device, moment, step)

@@ -27,10 +27,12 @@ pub enum Form {
     Image,
 }
 
-/// The refusal of a bay file, or else of a program that is not in UTF-8: a bad token at its first line.
+/// The refusal of a bay file, or else of a program that is not in UTF-8: a bad token at its first
+/// line.
 fn refuse_logic(alloc: Global, bay: &str) -> Result<Device, LoadFault>
     ensures device { Gives LoadFault.OutOfMemory (λ device. device) result (of_bay (bay_of bay.now) (Err (BadToken 1))) }
-    // Nothing is selected, and no association is open; each switch that can be operated takes some time.
+    // Nothing is selected, and no association is open; each switch that can be operated takes some
+    // time.
     ensures idle { IfOk result IsIdle }
     ensures timed { IfOk result (λ device. AreTimed device.controls.controls) }
 {
@@ -41,7 +43,8 @@ fn refuse_logic(alloc: Global, bay: &str) -> Result<Device, LoadFault>
 /// The device of the text of a bay file and the octets of a program.
 fn load_logic(alloc: Global, bay: &str, logic: &[u8]) -> Result<Device, LoadFault>
     ensures device { Gives LoadFault.OutOfMemory (λ device. device) result (of_bay (bay_of bay.now) (text_of logic.now)) }
-    // Nothing is selected, and no association is open; each switch that can be operated takes some time.
+    // Nothing is selected, and no association is open; each switch that can be operated takes some
+    // time.
     ensures idle { IfOk result IsIdle }
     ensures timed { IfOk result (λ device. AreTimed device.controls.controls) }
 {
@@ -51,10 +54,12 @@ fn load_logic(alloc: Global, bay: &str, logic: &[u8]) -> Result<Device, LoadFaul
     }
 }
 
-/// The device of the octets of a bay file and of a program. A bay file that is not in UTF-8 is no TOML.
+/// The device of the octets of a bay file and of a program. A bay file that is not in UTF-8 is no
+/// TOML.
 pub fn load_octets(alloc: Global, bay: &[u8], logic: &[u8]) -> Result<Device, LoadFault>
     ensures device { Gives LoadFault.OutOfMemory (λ device. device) result (load_of bay.now logic.now) }
-    // Nothing is selected, and no association is open; each switch that can be operated takes some time.
+    // Nothing is selected, and no association is open; each switch that can be operated takes some
+    // time.
     ensures idle { IfOk result IsIdle }
     ensures timed { IfOk result (λ device. AreTimed device.controls.controls) }
 {
@@ -68,7 +73,8 @@ pub fn load_octets(alloc: Global, bay: &[u8], logic: &[u8]) -> Result<Device, Lo
 fn load_image_octets(alloc: Global, bay: &[u8], image: &[u8]) -> Result<Device, LoadFault>
     ensures ok { IfOk result (λ device. Loads (file_of bay.now) (decoded image.now) (Ok device)) }
     ensures refused { IfErr result (λ e. e ≢ OutOfMemory → Loads (file_of bay.now) (decoded image.now) (Err e)) }
-    // Nothing is selected, and no association is open; each switch that can be operated takes some time.
+    // Nothing is selected, and no association is open; each switch that can be operated takes some
+    // time.
     ensures idle { IfOk result IsIdle }
     ensures timed { IfOk result (λ device. AreTimed device.controls.controls) }
 {
@@ -87,7 +93,8 @@ pub fn load_program(
 ) -> Result<Device, LoadFault>
     ensures ok { IfOk result (λ device. LoadsTo bay.now form program.now (Ok device)) }
     ensures refused { IfErr result (λ e. e ≢ OutOfMemory → LoadsTo bay.now form program.now (Err e)) }
-    // Nothing is selected, and no association is open; each switch that can be operated takes some time.
+    // Nothing is selected, and no association is open; each switch that can be operated takes some
+    // time.
     ensures idle { IfOk result IsIdle }
     ensures timed { IfOk result (λ device. AreTimed device.controls.controls) }
 {

@@ -1,4 +1,5 @@
-// The program's way in and out: its words, the files of its system, standard input, standard output, standard error and the exit status.
+// The program's way in and out: its words, the files of its system, standard input, standard
+// output, standard error and the exit status.
 use crate::commands::obey;
 use crate::ending::Ended;
 use crate::files::SystemFiles;
@@ -90,8 +91,9 @@ fn end_unheard<R: Runtime<A = Global>>(rt: &R, why: Unheard) -> Ended {
     Ended::of(write_text(&mut writer, b"fault memory\n", FAULT))
 }
 
-/// Does what the program's words ask for: reads files or standard input, writes a report to standard output, and ends with its
-/// status. What `clap` says of wrong words goes to standard error with the status 2, and so does `fault 122` of a failed write, with 3.
+/// Does what the program's words ask for: reads files or standard input, writes a report to
+/// standard output, and ends with its status. What `clap` says of wrong words goes to standard
+/// error with the status 2, and so does `fault 122` of a failed write, with 3.
 pub fn run<R: Runtime<A = Global> + Net<Listener = TcpListener, Stream = TcpStream>>(
     rt: &R,
 ) -> ExitCode {

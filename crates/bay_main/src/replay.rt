@@ -100,18 +100,18 @@ fn replay_scenario<W: Write>(
     }
 }
 
-/// Reads a scenario from a reader, and writes its report to a writer: the exit status, which is 0, 1 where the
-/// load is refused, or 3 for a fault.
+/// Reads a scenario from a reader, and writes its report to a writer: the exit status, which is 0,
+/// 1 where the load is refused, or 3 for a fault.
 ///
-/// A scenario of more than 16,777,216 octets is a fault, and so is a read that fails. Of a reader of which a
-/// read has failed before, and of such a writer, nothing is asked.
+/// A scenario of more than 16,777,216 octets is a fault, and so is a read that fails. Of a reader
+/// of which a read has failed before, and of such a writer, nothing is asked.
 pub fn replay_watched<R: Read, W: Write>(
     alloc: Global,
     reader: &mut WatchedReader<R>,
     writer: &mut WatchedWriter<W>,
 ) -> Result<u8, WriteFault>
-    // What was written and flushed is a whole text of the report, and the status is the report's; or a write or a
-    // flush has failed, and a front of such a text was written.
+    // What was written and flushed is a whole text of the report, and the status is the report's;
+    // or a write or a flush has failed, and a front of such a text was written.
     ensures printed { Prints W.contents (IsReplay (R.remaining reader.old.inner) reader.new.has_failed) writer.old writer.new result }
     ensures reads { reader.new.reads ≤ reader.old.reads + scenario_limit + 1 }
 {
@@ -125,8 +125,8 @@ pub fn replay_watched<R: Read, W: Write>(
 
 /// The same from any reader to any writer, which are taken.
 ///
-/// Nothing says of them whether a read or a write has failed, so a fault of either may be told at any time; whoever wants it told
-/// only where one failed watches them.
+/// Nothing says of them whether a read or a write has failed, so a fault of either may be told at
+/// any time; whoever wants it told only where one failed watches them.
 pub fn replay_run<R: Read + Drop, W: Write + Drop>(
     alloc: Global,
     reader: R,

@@ -42,8 +42,8 @@ pub fn refusal_text(alloc: Global, fault: LoadFault) -> Result<String, AllocErro
     }
 }
 
-/// The line of a load: how many instructions the program has, how many values lie on its stack at most, and how many
-/// instructions a scan executes at most.
+/// The line of a load: how many instructions the program has, how many values lie on its stack at
+/// most, and how many instructions a scan executes at most.
 pub fn report_text(alloc: Global, report: Report) -> Result<String, AllocError>
     ensures { IfOk result (λ text. string_bytes text ≡ spec.report_text report) }
 {

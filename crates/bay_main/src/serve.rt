@@ -28,7 +28,8 @@ pub struct Numbers {
     pub turns: u32,
 }
 
-/// What is served, by the names of its files: the bay, a program or an image, and the trace of the process.
+/// What is served, by the names of its files: the bay, a program or an image, and the trace of the
+/// process.
 #[derive(Clone, Copy)]
 pub struct Named<'a> {
     pub bay: &'a str,
@@ -123,7 +124,9 @@ fn serve_octets<L: Link + Drop, H: Host<L>, W: Write>(
     numbers: Numbers,
     writer: &mut WatchedWriter<W>,
 ) -> Result<u8, WriteFault>
-    ensures { LoadsServed (Called L.does L.failures) H.does W.contents numbers form (record { bay = both.now.bay.items; program = both.now.program.items }) trace.now host.old host.new writer.old writer.new result }
+    ensures { LoadsServed (Called L.does L.failures) H.does W.contents numbers form
+        (record { bay = both.now.bay.items; program = both.now.program.items }) trace.now host.old
+        host.new writer.old writer.new result }
 {
     match load_program(alloc, both.bay.as_slice(), form, both.program.as_slice()) {
         Ok(device) => serve_device(alloc, device, host, trace, numbers, writer),
@@ -156,7 +159,10 @@ fn serve_read<F: FileSystem, L: Link + Drop, H: Host<L>, W: Write>(
     numbers: Numbers,
     writer: &mut WatchedWriter<W>,
 ) -> Result<u8, WriteFault>
-    ensures { ServesRead (Called L.does L.failures) H.does W.contents F.reads files.now numbers named.entry.form (text_in named.entry.trace) (Ok (record { bay = both.now.bay.items; program = both.now.program.items })) host.old host.new writer.old writer.new result }
+    ensures { ServesRead (Called L.does L.failures) H.does W.contents F.reads files.now numbers
+        named.entry.form (text_in named.entry.trace)
+        (Ok (record { bay = both.now.bay.items; program = both.now.program.items })) host.old
+        host.new writer.old writer.new result }
 {
     match read_named(alloc, files, named.trace) {
         Ok(trace) => serve_octets(
@@ -172,8 +178,9 @@ fn serve_read<F: FileSystem, L: Link + Drop, H: Host<L>, W: Write>(
     }
 }
 
-/// Serves files by their names: the bay is read, then the program or the image, then the trace; they are loaded, and the line of the
-/// load is written; the port is bound; and so many turns are served.
+/// Serves files by their names: the bay is read, then the program or the image, then the trace;
+/// they are loaded, and the line of the load is written; the port is bound; and so many turns are
+/// served.
 pub fn serve<F: FileSystem, L: Link + Drop, H: Host<L>, W: Write>(
     alloc: Global,
     named: Named<'_>,

@@ -99,7 +99,8 @@ fn number_of(line: Option<(usize, &[u8])>) -> usize
     }
 }
 
-/// One turn with a line of the trace, in octets; what is no text tells of no contact, no input and no measure.
+/// One turn with a line of the trace, in octets; what is no text tells of no contact, no input and
+/// no measure.
 fn serve_line<L: Link>(
     alloc: Global,
     server: &mut Server,
@@ -159,8 +160,9 @@ fn rest<L, H: Host<L>>(host: &mut H, was_idle: bool)
     }
 }
 
-/// Serves so many turns, each with the next line as long as there is one, and prints what each tells: the exit status, which is 0
-/// after the last turn, or 3 at one that is not done. After a turn in which nothing happened there is a pause.
+/// Serves so many turns, each with the next line as long as there is one, and prints what each
+/// tells: the exit status, which is 0 after the last turn, or 3 at one that is not done. After a
+/// turn in which nothing happened there is a pause.
 fn serve_lines<L: Link, H: Host<L>, W: Write>(
     alloc: Global,
     server: &mut Server,

@@ -25,7 +25,8 @@ pub enum Verb {
     Compile,
 }
 
-/// What a command line asks for: what is to be done, the names of the files that were given, and the numbers.
+/// What a command line asks for: what is to be done, the names of the files that were given, and
+/// the numbers.
 #[derive(Debug, Drop)]
 pub struct Job {
     pub verb: Verb,
@@ -94,7 +95,8 @@ fn with_needed_file<'a>(
     Ok(command)
 }
 
-/// The command with one more option, `--ID N`, which has to be there, and whose value is a number from the least to the greatest.
+/// The command with one more option, `--ID N`, which has to be there, and whose value is a number
+/// from the least to the greatest.
 fn with_number<'a>(
     alloc: Global,
     command: Command<'a>,
@@ -353,9 +355,10 @@ fn refused_by(alloc: Global, error: &Error) -> WordsFault
     }
 }
 
-/// What the words after the program's name ask for: `check` of a bay file and either a program or an image, `replay`, `serve` of the
-/// same as a check on a port for a number of turns, which may have a trace, or `compile` of a bay file and a program to an image. Words
-/// that ask for help are refused with it.
+/// What the words after the program's name ask for: `check` of a bay file and either a program or
+/// an image, `replay`, `serve` of the same as a check on a port for a number of turns, which may
+/// have a trace, or `compile` of a bay file and a program to an image. Words that ask for help are
+/// refused with it.
 pub fn job_of<'a>(alloc: Global, words: &'a [&'a str]) -> Result<Job, WordsFault>
     ensures ok { IfOk result (λ j. job_in (map (λ w. w.now) words.entry.now) ≡ Some (job_view j)) }
     ensures whole { IfOk result (λ j. spec.is_whole (job_view j) ≡ true) }
