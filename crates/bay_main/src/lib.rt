@@ -31,3 +31,8 @@ mod serve;
 mod serving;
 mod turns;
 pub mod words;
+
+// What serves a device over any link.
+pub use bay_serve::link::{Got, Link, LinkFault};
+pub use bay_serve::server::Server;
+pub use bay_serve::turn::serve_turn;
