@@ -28,6 +28,7 @@ def shown(text_line, number, start=None, end=None, width=88):
 
 
 def near(name, names):
-    """A name that is like another, to ask whether it was meant."""
-    found = difflib.get_close_matches(name.upper(), [other.upper() for other in names], 1, 0.6)
-    return f'; is {found[0]} meant?' if found else ''
+    """A name that is like another, to ask whether it was meant: as it is written there, since the keys of a bay file are in lower case."""
+    written = {other.upper(): other for other in names}
+    found = difflib.get_close_matches(name.upper(), written, 1, 0.6)
+    return f'; is {written[found[0]]} meant?' if found else ''

@@ -15,13 +15,16 @@ class Refused(Exception):
 
 
 class Trace:
-    """What is sent, as the lines of a trace, at the moments at which it is sent."""
+    """What is sent, as the lines of a trace, at the moments at which it is sent. Before octets stands a scan: a server scans in every turn,
+    and without one no operate is released in a replay."""
 
     def __init__(self, path, place):
         self.file, self.place, self.last = open(path, 'a', encoding='utf-8'), place, 0
 
     def line(self, verb, octets=b''):
         self.last = max(self.last, time.time_ns() // 1_000_000)
+        if verb == 'recv':
+            print(self.last, 'scan', file=self.file)
         print(self.last, verb, self.place, *([octets.hex()] if octets else []), file=self.file, flush=True)
 
 

@@ -166,6 +166,12 @@ def not_run(error):
     return f'{error.filename}: {error.strerror}; `rt run` in crates/bayctl builds bayctl, and --bayctl names another'
 
 
+def not_loaded(printed, status=0):
+    """What is said where bayctl printed no line of a load."""
+    said = printed.rstrip('\n') or f'bayctl printed nothing, and ended with status {status}'
+    return said + (' (tools/diagnose tells why)' if said.startswith('load refused ') else '')
+
+
 def replayed(octets, bayctl, report=None):
     """What bayctl prints for a scenario: the report in a file, or a run of the program."""
     try:
