@@ -14,32 +14,40 @@ other_lengths [] [] h = absurd (h refl)
 other_lengths [] (y ∷ b) h = refl
 other_lengths (x ∷ a) [] h = refl
 other_lengths (x ∷ a) (y ∷ b) h =
-    let rest : bytes_eq (upper a) (upper b) ≡ false = unfold same_name in other_lengths a b (λ e. h (omega (arith, e))) in
+    let rest : bytes_eq (upper a) (upper b) ≡ false =
+    unfold same_name in other_lengths a b (λ e. h (omega (arith, e))) in
     rw rest (and-false (eqb (to_ascii_uppercase x) (to_ascii_uppercase y)))
 
-same_front : (x y : ℕ) (a b : List ℕ) → to_ascii_uppercase x ≡ to_ascii_uppercase y → same_name (x ∷ a) (y ∷ b) ≡ same_name a b
+same_front : (x y : ℕ) (a b : List ℕ) → to_ascii_uppercase x ≡ to_ascii_uppercase y
+    → same_name (x ∷ a) (y ∷ b) ≡ same_name a b
 unfolding same_name
 same_front x y a b e = rw (eq-eqb _ _ e) refl
 
-other_front : (x y : ℕ) (a b : List ℕ) → to_ascii_uppercase x ≢ to_ascii_uppercase y → same_name (x ∷ a) (y ∷ b) ≡ false
+other_front : (x y : ℕ) (a b : List ℕ) → to_ascii_uppercase x ≢ to_ascii_uppercase y
+    → same_name (x ∷ a) (y ∷ b) ≡ false
 unfolding same_name
 other_front x y a b e = rw (ne_eqb _ _ e) refl
 
-pub same_from : (a b : List ℕ) (i : ℕ) → i < length a → i < length b → to_ascii_uppercase (slice_index a i) ≡ to_ascii_uppercase (slice_index b i)
+pub same_from : (a b : List ℕ) (i : ℕ) → i < length a → i < length b
+    → to_ascii_uppercase (slice_index a i) ≡ to_ascii_uppercase (slice_index b i)
     → same_name (drop i a) (drop i b) ≡ same_name (drop (i + 1) a) (drop (i + 1) b)
 same_from a b i h k e = rw (front_of a i h, front_of b i k) (same_front _ _ _ _ e)
 
-pub other_from : (a b : List ℕ) (i : ℕ) → i < length a → i < length b → to_ascii_uppercase (slice_index a i) ≢ to_ascii_uppercase (slice_index b i)
+pub other_from : (a b : List ℕ) (i : ℕ) → i < length a → i < length b
+    → to_ascii_uppercase (slice_index a i) ≢ to_ascii_uppercase (slice_index b i)
     → same_name (drop i a) (drop i b) ≡ false
 other_from a b i h k e = rw (front_of a i h, front_of b i k) (other_front _ _ _ _ e)
 
-pub same_at_end : (a b : List ℕ) (i : ℕ) → length a ≤ i → length b ≤ i → same_name (drop i a) (drop i b) ≡ true
+pub same_at_end : (a b : List ℕ) (i : ℕ) → length a ≤ i → length b ≤ i
+    → same_name (drop i a) (drop i b) ≡ true
 unfolding same_name
 same_at_end a b i h k = rw (none_left a i h, none_left b i k) refl
 
 pub upper-upper : (name : List ℕ) → upper (upper name) ≡ upper name
 upper-upper [] = refl
-upper-upper (c ∷ name) = ap (λ d. d ∷ upper (upper name)) (uppercase-uppercase c) ∙ ap (λ (ds : List ℕ). to_ascii_uppercase c ∷ ds) (upper-upper name)
+upper-upper (c ∷ name) =
+    ap (λ d. d ∷ upper (upper name)) (uppercase-uppercase c)
+    ∙ ap (λ (ds : List ℕ). to_ascii_uppercase c ∷ ds) (upper-upper name)
 
 -- a name in upper case is the same name
 pub same-upper : (a b : List ℕ) → same_name (upper a) b ≡ same_name a b

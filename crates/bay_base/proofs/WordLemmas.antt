@@ -6,20 +6,28 @@ use Rattle.bay_base.specs.Words.{reserved_words, reserved_of}
 use Rattle.bay_base.specs.declared.words.ReservedWord.{ReservedWord}
 use Rattle.bay_base.proofs.ListLemmas.{find-map}
 
-twice : (o : Option (Bor (List ℕ) × ReservedWord)) → option_map (λ one. one.1) o ≡ option_map {T = List ℕ × ReservedWord} (λ r. r.1) (option_map (λ entry. (entry.0.now, entry.1)) o)
+twice : (o : Option (Bor (List ℕ) × ReservedWord))
+    → option_map (λ one. one.1) o
+    ≡ option_map {T = List ℕ × ReservedWord} (λ r. r.1)
+    (option_map (λ entry. (entry.0.now, entry.1)) o)
 twice None = refl
 twice (Some x) = refl
 
-pub word_found : (w : List ℕ) (entries : List (Bor (List ℕ) × ReservedWord)) → map (λ entry. (entry.0.now, entry.1)) entries ≡ reserved_words
+pub word_found : (w : List ℕ) (entries : List (Bor (List ℕ) × ReservedWord))
+    → map (λ entry. (entry.0.now, entry.1)) entries ≡ reserved_words
     → option_map (λ one. one.1) (find (λ entry. same_name w entry.0.now) entries) ≡ reserved_of w
 unfolding reserved_of
 word_found w entries e =
     let seen : List ℕ × ReservedWord → ReservedWord = λ r. r.1 in
     twice (find (λ entry. same_name w entry.0.now) entries)
-    ∙ ap (λ (o : Option (List ℕ × ReservedWord)). option_map seen o) (sym (find-map (λ (r : List ℕ × ReservedWord). same_name w r.0) (λ (entry : Bor (List ℕ) × ReservedWord). (entry.0.now, entry.1)) entries))
-    ∙ ap (λ (rs : List (List ℕ × ReservedWord)). option_map seen (find (λ (r : List ℕ × ReservedWord). same_name w r.0) rs)) e
+    ∙ ap (λ (o : Option (List ℕ × ReservedWord)). option_map seen o)
+    (sym (find-map (λ (r : List ℕ × ReservedWord). same_name w r.0)
+    (λ (entry : Bor (List ℕ) × ReservedWord). (entry.0.now, entry.1)) entries))
+    ∙ ap (λ (rs : List (List ℕ × ReservedWord)). option_map seen
+    (find (λ (r : List ℕ × ReservedWord). same_name w r.0) rs)) e
 
-same-find : (w v : List ℕ) → ((r : List ℕ) → same_name w r ≡ same_name v r) → (entries : List (List ℕ × ReservedWord))
+same-find : (w v : List ℕ) → ((r : List ℕ) → same_name w r ≡ same_name v r)
+    → (entries : List (List ℕ × ReservedWord))
     → find (λ r. same_name w r.0) entries ≡ find (λ r. same_name v r.0) entries
 same-find w v same [] = refl
 same-find w v same (r ∷ rs) = rw (same r.0, same-find w v same rs) refl
@@ -27,4 +35,6 @@ same-find w v same (r ∷ rs) = rw (same r.0, same-find w v same rs) refl
 -- a word in upper case is the same word
 pub reserved-upper : (w : List ℕ) → reserved_of (upper w) ≡ reserved_of w
 unfolding reserved_of
-reserved-upper w = ap (λ (o : Option (List ℕ × ReservedWord)). option_map (λ r. r.1) o) (same-find (upper w) w (same-upper w) reserved_words)
+reserved-upper w =
+    ap (λ (o : Option (List ℕ × ReservedWord)). option_map (λ r. r.1) o)
+    (same-find (upper w) w (same-upper w) reserved_words)

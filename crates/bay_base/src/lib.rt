@@ -1,8 +1,9 @@
 // What the language's crates and the bay's have in common.
 //
 // `text` and `listing`: texts and lists that contracts see as lists. `types`: the elementary types
-// (IEC 61131-3:2003, table 10). `names`: how Instruction List compares names. `words`: its reserved
-// words, in one table. specs/Exact says what 'exact, but for want of memory' means.
+// (IEC 61131-3:2003, table 10) and the timers. `names`: how Instruction List compares names.
+// `words`: its reserved words, in one table. specs/Exact says what 'exact, but for want of memory'
+// means; specs/Results and Options have what definitions of every layer read one after another.
 #![tactic(auto)]
 
 pub mod listing;

@@ -1,4 +1,4 @@
-// The elementary types that this controller has.
+// The types that this controller has: the elementary ones, and the timers.
 ghost use Rattle.std.specs.Prelude.{◌≡◌};
 ghost use Rattle.bay_base.specs.Types.{same_type};
 
@@ -24,4 +24,13 @@ impl ElementaryType {
     {
         self == other
     }
+}
+
+/// A timer (IEC 61131-3:2003, 2.5.2.3.4).
+#[derive(Clone, Copy, Debug, PartialEq, Eq)]
+pub enum TimerKind {
+    /// TON: Q follows a TRUE of IN after the time PT.
+    OnDelay,
+    /// TOF: Q follows a FALSE of IN after the time PT.
+    OffDelay,
 }

@@ -6,5 +6,6 @@ use Rattle.bay_base.proofs.words.reserved_word.Goals as goal
 pub returns : goal.returns
 returns c =
     c.word_of.ensures
-    ∙ ap (λ (o : Option (Bor (List ℕ) × ReservedWord)). option_map (λ one. one.1) o) c.entry_of.ensures
+    ∙ ap (λ (o : Option (Bor (List ℕ) × ReservedWord)). option_map (λ one. one.1) o)
+    c.entry_of.ensures
     ∙ word_found c.args.text.now c.reserved_words.result.now c.reserved_words.ensures
