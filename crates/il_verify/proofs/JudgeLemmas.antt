@@ -27,7 +27,7 @@ use Rattle.il_image.specs.Tables.{slot_types}
 use Rattle.il_image.proofs.KindLemmas.{same_self, within_along}
 use Rattle.il_verify.specs.declared.fault.VerifyFault.{VerifyFault}
 use Rattle.il_verify.specs.declared.fault.VerifyFault.TheVariants.{StackEmpty, StackFull, WrongKind, ZeroDivisor, NoSlot, NoTimer, BadTarget, Unreachable, DepthClash, NoHalt, BadBinding, OutOfMemory}
-use Rattle.il_verify.specs.declared.slots.Slot.{Slot as UsedSlot}
+use Rattle.il_verify.specs.declared.slots.SlotType.{SlotType}
 use Rattle.il_verify.specs.Judging.{◌or_else◌, fault_of, is_full, misfit, missing, operands, undivided, unfit, where_so, writes_read_only}
 use Rattle.il_verify.specs.Slots.{point_slot, slots_of, types_of, variable_slot}
 use Rattle.il_verify.proofs.EffectLemmas.{some_same, bind_some}
@@ -35,8 +35,8 @@ use Rattle.il_verify.proofs.EffectLemmas.{some_same, bind_some}
 pub types_are : (image : Image) → types_of (slots_of image) ≡ slot_types image
 unfolding slots_of
 types_are image =
-    rw (map-append (λ (s : UsedSlot). s.elementary) (map point_slot image.points) (map variable_slot image.variables))
-    (rw (map-map (λ (s : UsedSlot). s.elementary) point_slot image.points, map-map (λ (s : UsedSlot). s.elementary) variable_slot image.variables) refl)
+    rw (map-append (λ (s : SlotType). s.elementary) (map point_slot image.points) (map variable_slot image.variables))
+    (rw (map-map (λ (s : SlotType). s.elementary) point_slot image.points, map-map (λ (s : SlotType). s.elementary) variable_slot image.variables) refl)
 
 -- ---- faults one behind the other
 
@@ -53,13 +53,13 @@ not_where b f e = rw e refl
 
 -- ---- what is allowed
 
-has_slot : (slots : List UsedSlot) (n : ℕ) (t : ElementaryType) → slice_get (types_of slots) n ≡ Some t → nat_lt n (length slots) ≡ true
+has_slot : (slots : List SlotType) (n : ℕ) (t : ElementaryType) → slice_get (types_of slots) n ≡ Some t → nat_lt n (length slots) ≡ true
 has_slot slots n t e =
     let within : n < length (types_of slots) = slice_get_within (types_of slots) n t e in
-    let size : length (types_of slots) ≡ length slots = length-map slots (λ (s : UsedSlot). s.elementary) in
+    let size : length (types_of slots) ≡ length slots = length-map slots (λ (s : SlotType). s.elementary) in
     lt-ltb n (length slots) (omega arith)
 
-slot_there : (slots : List UsedSlot) (n : ℕ) (f : ElementaryType → Option (List Kind)) (gives : List Kind) → (slice_get (types_of slots) n >>= f) ≡ Some gives → cond (nat_lt n (length slots)) None (Some NoSlot) ≡ None
+slot_there : (slots : List SlotType) (n : ℕ) (f : ElementaryType → Option (List Kind)) (gives : List Kind) → (slice_get (types_of slots) n >>= f) ≡ Some gives → cond (nat_lt n (length slots)) None (Some NoSlot) ≡ None
 slot_there slots n f gives e = let t = bind_some (slice_get (types_of slots) n) f gives e in rw (has_slot slots n t.0 t.1) refl
 
 timer_there : (timers n : ℕ) (made : Option (List Kind)) (gives : List Kind) → with_timer timers n made ≡ Some gives → cond (nat_lt n timers) None (Some NoTimer) ≡ None
@@ -76,7 +76,7 @@ timer_made timers n made gives e = go (nat_lt n timers) e
     go true e = e
     go false e = absurd cc
 
-nothing_missing : (slots : List UsedSlot) (timers : ℕ) (i : Instr) (kinds gives : List Kind) → effect (types_of slots) timers i kinds ≡ Some gives → missing (length slots) timers i ≡ None
+nothing_missing : (slots : List SlotType) (timers : ℕ) (i : Instr) (kinds gives : List Kind) → effect (types_of slots) timers i kinds ≡ Some gives → missing (length slots) timers i ≡ None
 nothing_missing slots timers Halt kinds gives e = refl
 nothing_missing slots timers (Push v) kinds gives e = refl
 nothing_missing slots timers Drop kinds gives e = refl
@@ -200,7 +200,7 @@ behind_none None b r e f = f
 behind_none (Some x) b r e f = absurd cc
 
 -- where an instruction is allowed on the kinds, what is behind the first faults is its fault
-allowed_behind : (slots : List UsedSlot) (timers : ℕ) (i : Instr) (kinds gives : List Kind) (r : Option VerifyFault) → effect (types_of slots) timers i kinds ≡ Some gives
+allowed_behind : (slots : List SlotType) (timers : ℕ) (i : Instr) (kinds gives : List Kind) (r : Option VerifyFault) → effect (types_of slots) timers i kinds ≡ Some gives
     → (where_so (writes_read_only slots i) BadBinding or_else where_so (is_full (Some gives)) StackFull) ≡ r → fault_of slots timers i kinds ≡ r
 unfolding fault_of
 allowed_behind slots timers i kinds gives r e last =
@@ -209,29 +209,29 @@ allowed_behind slots timers i kinds gives r e last =
     (behind_none (where_so (nat_lt (length kinds) (operands i)) StackEmpty) _ r (not_where _ StackEmpty (le-ltb (length kinds) (operands i) many))
     (behind_none (misfit slots timers i kinds) _ r (fits_all _ _ gives gives (undivided_some (types_of slots) timers i kinds gives e) e) (rw e last)))
 
-pub allowed_faultless : (slots : List UsedSlot) (timers : ℕ) (i : Instr) (kinds gives : List Kind) → effect (types_of slots) timers i kinds ≡ Some gives → writes_read_only slots i ≡ false → length gives ≤ 32
+pub allowed_faultless : (slots : List SlotType) (timers : ℕ) (i : Instr) (kinds gives : List Kind) → effect (types_of slots) timers i kinds ≡ Some gives → writes_read_only slots i ≡ false → length gives ≤ 32
     → fault_of slots timers i kinds ≡ None
 allowed_faultless slots timers i kinds gives e writes room = allowed_behind slots timers i kinds gives None e (rw (writes, le-ltb 32 (length gives) room) refl)
 
-pub write_fault : (slots : List UsedSlot) (timers : ℕ) (i : Instr) (kinds gives : List Kind) → effect (types_of slots) timers i kinds ≡ Some gives → writes_read_only slots i ≡ true
+pub write_fault : (slots : List SlotType) (timers : ℕ) (i : Instr) (kinds gives : List Kind) → effect (types_of slots) timers i kinds ≡ Some gives → writes_read_only slots i ≡ true
     → fault_of slots timers i kinds ≡ Some BadBinding
 write_fault slots timers i kinds gives e writes = allowed_behind slots timers i kinds gives (Some BadBinding) e (rw writes refl)
 
-pub room_fault : (slots : List UsedSlot) (timers : ℕ) (i : Instr) (kinds gives : List Kind) → effect (types_of slots) timers i kinds ≡ Some gives → writes_read_only slots i ≡ false → 32 < length gives
+pub room_fault : (slots : List SlotType) (timers : ℕ) (i : Instr) (kinds gives : List Kind) → effect (types_of slots) timers i kinds ≡ Some gives → writes_read_only slots i ≡ false → 32 < length gives
     → fault_of slots timers i kinds ≡ Some StackFull
 room_fault slots timers i kinds gives e writes many = allowed_behind slots timers i kinds gives (Some StackFull) e (rw (writes, lt-ltb 32 (length gives) many) refl)
 
 -- ---- the first faults
 
-pub missing_fault : (slots : List UsedSlot) (timers : ℕ) (i : Instr) (kinds : List Kind) (f : VerifyFault) → missing (length slots) timers i ≡ Some f → fault_of slots timers i kinds ≡ Some f
+pub missing_fault : (slots : List SlotType) (timers : ℕ) (i : Instr) (kinds : List Kind) (f : VerifyFault) → missing (length slots) timers i ≡ Some f → fault_of slots timers i kinds ≡ Some f
 unfolding fault_of
 missing_fault slots timers i kinds f e = rw e refl
 
-pub empty_fault : (slots : List UsedSlot) (timers : ℕ) (i : Instr) (kinds : List Kind) → missing (length slots) timers i ≡ None → length kinds < operands i → fault_of slots timers i kinds ≡ Some StackEmpty
+pub empty_fault : (slots : List SlotType) (timers : ℕ) (i : Instr) (kinds : List Kind) → missing (length slots) timers i ≡ None → length kinds < operands i → fault_of slots timers i kinds ≡ Some StackEmpty
 unfolding fault_of
 empty_fault slots timers i kinds e less = rw (e, lt-ltb (length kinds) (operands i) less) refl
 
-pub misfit_fault : (slots : List UsedSlot) (timers : ℕ) (i : Instr) (kinds : List Kind) (f : VerifyFault) → missing (length slots) timers i ≡ None → operands i ≤ length kinds → misfit slots timers i kinds ≡ Some f
+pub misfit_fault : (slots : List SlotType) (timers : ℕ) (i : Instr) (kinds : List Kind) (f : VerifyFault) → missing (length slots) timers i ≡ None → operands i ≤ length kinds → misfit slots timers i kinds ≡ Some f
     → fault_of slots timers i kinds ≡ Some f
 unfolding fault_of
 misfit_fault slots timers i kinds f e many is =
@@ -240,7 +240,7 @@ misfit_fault slots timers i kinds f e many is =
 
 -- ---- what having no fault says
 
-pub record IsFine (slots : List UsedSlot) (timers : ℕ) (i : Instr) (kinds : List Kind) : Type 0 where
+pub record IsFine (slots : List SlotType) (timers : ℕ) (i : Instr) (kinds : List Kind) : Type 0 where
   pub writes : writes_read_only slots i ≡ false
   pub room : (gives : List Kind) → effect (types_of slots) timers i kinds ≡ Some gives → length gives ≤ 32
 
@@ -250,7 +250,7 @@ few n e = elim (cases_lt 32 n) [
   | inr h ↦ h
 ]
 
-pub faultless_fine : (slots : List UsedSlot) (timers : ℕ) (i : Instr) (kinds : List Kind) → fault_of slots timers i kinds ≡ None → IsFine slots timers i kinds
+pub faultless_fine : (slots : List SlotType) (timers : ℕ) (i : Instr) (kinds : List Kind) → fault_of slots timers i kinds ≡ None → IsFine slots timers i kinds
 unfolding fault_of
 faultless_fine slots timers i kinds e =
     let a = first_none (missing (length slots) timers i) _ e in
@@ -313,7 +313,7 @@ missing_own slots timers (Compare c) = tt
 missing_own slots timers (Widen w) = tt
 missing_own slots timers (Jump when distance) = tt
 
-pub own_of : (slots : List UsedSlot) (timers : ℕ) (i : Instr) (kinds : List Kind) (f : VerifyFault) → fault_of slots timers i kinds ≡ Some f → IsOwn f
+pub own_of : (slots : List SlotType) (timers : ℕ) (i : Instr) (kinds : List Kind) (f : VerifyFault) → fault_of slots timers i kinds ≡ Some f → IsOwn f
 unfolding fault_of
 own_of slots timers i kinds f e =
     let all : AllOwn (fault_of slots timers i kinds) =

@@ -8,7 +8,7 @@ use Rattle.il_image.specs.Images.{Image}
 use Rattle.il_image.specs.Reading.{instr_at}
 use Rattle.il_image.specs.Tables.{Ends, IsHalt, IsPlace, IsSuccessor, LeadsTo, Path, place_of}
 use Rattle.il_image.proofs.PlaceLemmas.{goes_forward}
-use Rattle.il_verify.specs.Frames.{Mark, Marks, Visits}
+use Rattle.il_verify.specs.Frames.{PlainFrame, PlainFrames, Visits}
 use Rattle.il_verify.specs.Passing.{raised}
 use Rattle.il_verify.specs.Verdicts.{IsBudget}
 use Rattle.il_verify.proofs.EffectLemmas.{not_both, some_same}
@@ -41,14 +41,14 @@ path_on : (code : List ℕ) (n from q : ℕ) → Path code n from → IsSuccesso
 path_on code zero from q p s = absurd p
 path_on code (suc n) from q p s = rw add-one (from, p, s)
 
--- A mark has the length of a longest path that arrives, and the budget is that of a longest path
+-- A frame has the length of a longest path that arrives, and the budget is that of a longest path
 -- that has ended.
-pub record Lengths (code : List ℕ) (done budget : ℕ) (now : Marks) : Type 0 where
-  pub paths : (q : ℕ) (m : Mark) → done ≤ q → now q ≡ Some m → Path code m.longest q
-  pub most : (q n : ℕ) → done ≤ q → Arrives code done n q → (m : Mark) × (now q ≡ Some m) × (n ≤ m.longest)
+pub record Lengths (code : List ℕ) (done budget : ℕ) (now : PlainFrames) : Type 0 where
+  pub paths : (q : ℕ) (m : PlainFrame) → done ≤ q → now q ≡ Some m → Path code m.longest q
+  pub most : (q n : ℕ) → done ≤ q → Arrives code done n q → (m : PlainFrame) × (now q ≡ Some m) × (n ≤ m.longest)
   pub ends : (q n : ℕ) → q < done → Path code n q → IsHalt code q → n ≤ budget
   pub some : (budget ≡ 0) ⊎ Ends code budget
-  pub more : budget ≡ 0 → (q : ℕ) × (m : Mark) × (done ≤ q) × (now q ≡ Some m)
+  pub more : budget ≡ 0 → (q : ℕ) × (m : PlainFrame) × (done ≤ q) × (now q ≡ Some m)
 
 -- ---- the budget after a place, which may be a HALT
 
@@ -73,8 +73,8 @@ halts_or_not false = inr (λ e. cc)
 
 -- ---- one visit
 
-module _ (image : Image) (place : ℕ) (instr : Instr) (next : ℕ) (come : Mark) (old new : Marks) (number : ℕ) (numbered : place_of image.code number ≡ Some place) (here : instr_at image.code place ≡ Some (instr, next))
-    (was : old place ≡ Some come) (v : Visits image instr next come old new) (places : (q : ℕ) (m : Mark) → place ≤ q → old q ≡ Some m → IsPlace image.code q) (budget : ℕ) (l : Lengths image.code place budget old) where
+module _ (image : Image) (place : ℕ) (instr : Instr) (next : ℕ) (come : PlainFrame) (old new : PlainFrames) (number : ℕ) (numbered : place_of image.code number ≡ Some place) (here : instr_at image.code place ≡ Some (instr, next))
+    (was : old place ≡ Some come) (v : Visits image instr next come old new) (places : (q : ℕ) (m : PlainFrame) → place ≤ q → old q ≡ Some m → IsPlace image.code q) (budget : ℕ) (l : Lengths image.code place budget old) where
   forward : place < next
   forward = (goes_forward image.code place instr next here).0
 
@@ -87,7 +87,7 @@ module _ (image : Image) (place : ℕ) (instr : Instr) (next : ℕ) (come : Mark
   to_here : (n : ℕ) → Path image.code n place → n ≤ come.longest
   to_here n p =
       let m = l.most place n (omega arith) (arrives_at n place (omega arith) p) in
-      let same : m.0.longest ≡ come.longest = ap (λ (v : Mark). v.longest) (some_same m.0 come (sym m.1 ∙ was)) in
+      let same : m.0.longest ≡ come.longest = ap (λ (v : PlainFrame). v.longest) (some_same m.0 come (sym m.1 ∙ was)) in
       let least : n ≤ m.0.longest = m.2 in
       omega arith
 
@@ -114,11 +114,11 @@ module _ (image : Image) (place : ℕ) (instr : Instr) (next : ℕ) (come : Mark
         ]
       ]
 
-  paths_more : (q : ℕ) (m : Mark) → next ≤ q → new q ≡ Some m → Path image.code m.longest q
+  paths_more : (q : ℕ) (m : PlainFrame) → next ≤ q → new q ≡ Some m → Path image.code m.longest q
   paths_more q m past is = elim (spreads image instr next come old new v q) [
     | inl c ↦
         (let f : place < next = forward in
-        let same : c.1.0.longest ≡ m.longest = ap (λ (v : Mark). v.longest) (some_same c.1.0 m (sym c.1.1 ∙ is)) in
+        let same : c.1.0.longest ≡ m.longest = ap (λ (v : PlainFrame). v.longest) (some_same c.1.0 m (sym c.1.1 ∙ is)) in
         let its : Path image.code c.1.0.longest q = elim c.1.2.from [
           | inl e ↦ subst (λ (n : ℕ). Path image.code n q) (sym e)
               (path_on image.code come.longest place q (l.paths place come (omega arith) was) (record { instr = instr; next = next; here = here; leads = c.0 }))
@@ -128,8 +128,8 @@ module _ (image : Image) (place : ℕ) (instr : Instr) (next : ℕ) (come : Mark
     | inr c ↦ (let f : place < next = forward in l.paths q m (omega arith) (sym c.1 ∙ is))
   ]
 
-  -- what was marked stays marked
-  kept : (q n : ℕ) → (m : Mark) × (old q ≡ Some m) × (n ≤ m.longest) → (m : Mark) × (new q ≡ Some m) × (n ≤ m.longest)
+  -- what was framed stays framed
+  kept : (q n : ℕ) → (m : PlainFrame) × (old q ≡ Some m) × (n ≤ m.longest) → (m : PlainFrame) × (new q ≡ Some m) × (n ≤ m.longest)
   kept q n w =
       let size : n ≤ w.0.longest = w.2 in
       elim (spreads image instr next come old new v q) [
@@ -137,7 +137,7 @@ module _ (image : Image) (place : ℕ) (instr : Instr) (next : ℕ) (come : Mark
         | inr c ↦ (w.0, c.1 ∙ w.1, size)
       ]
 
-  from_here : (q n : ℕ) → Path image.code (suc n) place → IsSuccessor image.code place q → (m : Mark) × (new q ≡ Some m) × (suc (suc n) ≤ m.longest)
+  from_here : (q n : ℕ) → Path image.code (suc n) place → IsSuccessor image.code place q → (m : PlainFrame) × (new q ≡ Some m) × (suc (suc n) ≤ m.longest)
   from_here q n p s =
       let size : suc n ≤ come.longest = to_here (suc n) p in
       elim (spreads image instr next come old new v q) [
@@ -145,7 +145,7 @@ module _ (image : Image) (place : ℕ) (instr : Instr) (next : ℕ) (come : Mark
         | inr c ↦ absurd (c.0 (lead_of q s))
       ]
 
-  most_more : (q n : ℕ) → next ≤ q → Arrives image.code next n q → (m : Mark) × (new q ≡ Some m) × (n ≤ m.longest)
+  most_more : (q n : ℕ) → next ≤ q → Arrives image.code next n q → (m : PlainFrame) × (new q ≡ Some m) × (n ≤ m.longest)
   most_more q zero past a = absurd a
   most_more q (suc zero) past a = absurd (let e : q ≡ 0 = a in let f : place < next = forward in omega arith)
   most_more q (suc (suc n)) past a =
@@ -186,7 +186,7 @@ module _ (image : Image) (place : ℕ) (instr : Instr) (next : ℕ) (come : Mark
       | inr e ↦ inr (subst (Ends image.code) (sym e.1) (place, l.paths place come (omega arith) was, halt_here (says.0 e.0)))
     ]
 
-    more_more : raised halts come.longest budget ≡ 0 → (q : ℕ) × (m : Mark) × (next ≤ q) × (new q ≡ Some m)
+    more_more : raised halts come.longest budget ≡ 0 → (q : ℕ) × (m : PlainFrame) × (next ≤ q) × (new q ≡ Some m)
     more_more e = elim (halts_or_not halts) [
       | inl is ↦
           (let here_it : come.longest ≤ raised halts come.longest budget = raised_here halts come.longest budget is in
@@ -206,26 +206,26 @@ module _ (image : Image) (place : ℕ) (instr : Instr) (next : ℕ) (come : Mark
 
 -- ---- the first place alone is to come, and nothing is
 
-first_most : (code : List ℕ) (new : Marks) (mark : Mark) → new 0 ≡ Some mark → mark.longest ≡ 1 → (q n : ℕ) → 0 ≤ q → Arrives code 0 n q → (m : Mark) × (new q ≡ Some m) × (n ≤ m.longest)
-first_most code new mark is one q zero h a = absurd a
-first_most code new mark is one q (suc zero) h a = (mark, ap new a ∙ is, omega arith)
-first_most code new mark is one q (suc (suc n)) h a = absurd (let e : a.0 < 0 = a.1 in omega arith)
+first_most : (code : List ℕ) (new : PlainFrames) (frame : PlainFrame) → new 0 ≡ Some frame → frame.longest ≡ 1 → (q n : ℕ) → 0 ≤ q → Arrives code 0 n q → (m : PlainFrame) × (new q ≡ Some m) × (n ≤ m.longest)
+first_most code new frame is one q zero h a = absurd a
+first_most code new frame is one q (suc zero) h a = (frame, ap new a ∙ is, omega arith)
+first_most code new frame is one q (suc (suc n)) h a = absurd (let e : a.0 < 0 = a.1 in omega arith)
 
-pub lengths_first : (code : List ℕ) (marks : Marks) (come : Mark) → marks 0 ≡ Some come → come.longest ≡ 1 → ((q : ℕ) → (q ≡ 0 → ⊥) → marks q ≡ None) → Lengths code 0 0 marks
-lengths_first code marks come is one none = record {
+pub lengths_first : (code : List ℕ) (frames : PlainFrames) (come : PlainFrame) → frames 0 ≡ Some come → come.longest ≡ 1 → ((q : ℕ) → (q ≡ 0 → ⊥) → frames q ≡ None) → Lengths code 0 0 frames
+lengths_first code frames come is one none = record {
   paths = λ q m h here. elim (cases_eq q 0) [
     | inl at ↦
-        (let same : come.longest ≡ m.longest = ap (λ (v : Mark). v.longest) (some_same come m (sym is ∙ (ap marks (sym at) ∙ here))) in
+        (let same : come.longest ≡ m.longest = ap (λ (v : PlainFrame). v.longest) (some_same come m (sym is ∙ (ap frames (sym at) ∙ here))) in
         subst (λ (n : ℕ). Path code n q) (sym one ∙ same) at)
-    | inr ne ↦ absurd (not_both (marks q) m (none q ne) here)
+    | inr ne ↦ absurd (not_both (frames q) m (none q ne) here)
   ];
-  most = first_most code marks come is one;
+  most = first_most code frames come is one;
   ends = λ q n before. absurd (omega arith);
   some = inl refl;
   more = λ e. (0, come, omega arith, is);
 }
 
-pub is_budget : (code : List ℕ) (budget : ℕ) (now : Marks) → (done : ℕ) → length code ≤ done → Lengths code done budget now → ((q : ℕ) (m : Mark) → done ≤ q → now q ≡ Some m → IsPlace code q) → IsBudget code budget
+pub is_budget : (code : List ℕ) (budget : ℕ) (now : PlainFrames) → (done : ℕ) → length code ≤ done → Lengths code done budget now → ((q : ℕ) (m : PlainFrame) → done ≤ q → now q ≡ Some m → IsPlace code q) → IsBudget code budget
 is_budget code budget now done past l places = record {
   some = elim l.some [
     | inl e ↦ (let m = l.more e in let within : m.0 < length code = (places m.0 m.1 m.2 m.3).0 in let h : done ≤ m.0 = m.2 in absurd (omega arith))

@@ -21,7 +21,7 @@ use Rattle.il_verify.specs.declared.fault.VerifyFault.{VerifyFault}
 use Rattle.il_verify.specs.declared.fault.VerifyFault.TheVariants.{StackEmpty, StackFull, WrongKind, ZeroDivisor, NoSlot, NoTimer, BadTarget, Unreachable, DepthClash, NoHalt, BadBinding, OutOfMemory}
 use Rattle.il_verify.specs.Judging.{fault_of}
 use Rattle.il_verify.specs.Slots.{slots_of}
-use Rattle.il_verify.specs.Refusals.{after, Arrives, Clashes, Comes, FailsAt, GoesPast, HasOwn, IsFaultAt, IsFront, IsMerge, IsRefusal, JumpsBadly, JumpsTo, Passes, own_fault}
+use Rattle.il_verify.specs.Refusals.{after, Arrives, Clashes, Comes, FailsAt, GoesPast, HasOwn, IsFaultAt, IsFront, IsJoin, IsRefusal, JumpsBadly, JumpsTo, Passes, own_fault}
 use Rattle.il_verify.proofs.EffectLemmas.{some_same}
 
 -- ---- kinds
@@ -84,14 +84,14 @@ comes_alike image t u done to kinds same (inr h) =
       },
     )
 
-merge_same : (image : Image) (t u : Table) (done to : ℕ) (kinds others : List Kind) → Alike t u done → IsMerge image t done to kinds → IsMerge image u done to others → kinds ≡ others
-merge_same image t u done to kinds others same m n =
+join_same : (image : Image) (t u : Table) (done to : ℕ) (kinds others : List Kind) → Alike t u done → IsJoin image t done to kinds → IsJoin image u done to others → kinds ≡ others
+join_same image t u done to kinds others same m n =
     kinds_same kinds others
     (m.least others (λ k c. n.above k (comes_alike image t u done to k same c)))
     (n.least kinds (λ k c. m.above k (comes_alike image u t done to k (alike_back t u done same) c)))
 
-merge_alike : (image : Image) (t u : Table) (done to : ℕ) (kinds : List Kind) → Alike t u done → IsMerge image t done to kinds → IsMerge image u done to kinds
-merge_alike image t u done to kinds same m =
+join_alike : (image : Image) (t u : Table) (done to : ℕ) (kinds : List Kind) → Alike t u done → IsJoin image t done to kinds → IsJoin image u done to kinds
+join_alike image t u done to kinds same m =
     let back = alike_back t u done same in
     record {
       some = (m.some.0, comes_alike image t u done to m.some.0 same m.some.1);
@@ -110,7 +110,7 @@ known_same image t u d e place (Some k) None f g less more same is other =
     let known = (g.passes place more (f.only place k is).1).known in
     absurd (cc)
 known_same image t u d e place (Some k) (Some l) f g less more same is other =
-    let equal = merge_same image t u place place k l same (f.merged place k is) (g.merged place l other) in
+    let equal = join_same image t u place place k l same (f.joined place k is) (g.joined place l other) in
     is ∙ ap (λ (kinds : List Kind). Some kinds) equal ∙ sym other
 
 fronts_below : (image : Image) (t u : Table) (d e n place : ℕ) → IsFront image t d → IsFront image u e → place < n → place < d → place < e → t place ≡ u place
@@ -146,7 +146,7 @@ leads_same x y to e h = subst (λ (z : Instr × ℕ). LeadsTo z.0 z.1 to) e h
 
 abbrev arrives_alike : (image : Image) (t u : Table) (place : ℕ) → Alike t u place → Arrives image t place → Arrives image u place
 arrives_alike image t u place same a =
-    record { instr = a.instr; next = a.next; kinds = a.kinds; here = a.here; merged = merge_alike image t u place place a.kinds same a.merged }
+    record { instr = a.instr; next = a.next; kinds = a.kinds; here = a.here; joined = join_alike image t u place place a.kinds same a.joined }
 
 own_alike : (image : Image) (t u : Table) (place : ℕ) (fault : VerifyFault) → Alike t u place → HasOwn image t place fault → HasOwn image u place fault
 own_alike image t u place fault same h = (arrives_alike image t u place same h.0, h.1)
@@ -204,10 +204,10 @@ reason image t place NoTimer h = inr (inl h)
 reason image t place BadBinding h = inr (inl h)
 
 something : (image : Image) (t : Table) (place : ℕ) (fault : VerifyFault) → Reason image t place fault → Nothing image t place → ⊥
-something image t place fault (inl h) none = none h.0.merged.some.0 h.0.merged.some.1
-something image t place fault (inr (inl h)) none = none h.1.at.merged.some.0 h.1.at.merged.some.1
-something image t place fault (inr (inr (inl h))) none = none h.1.at.merged.some.0 h.1.at.merged.some.1
-something image t place fault (inr (inr (inr h))) none = none h.1.at.merged.some.0 h.1.at.merged.some.1
+something image t place fault (inl h) none = none h.0.joined.some.0 h.0.joined.some.1
+something image t place fault (inr (inl h)) none = none h.1.at.joined.some.0 h.1.at.joined.some.1
+something image t place fault (inr (inr (inl h))) none = none h.1.at.joined.some.0 h.1.at.joined.some.1
+something image t place fault (inr (inr (inr h))) none = none h.1.at.joined.some.0 h.1.at.joined.some.1
 
 -- two views of what comes to a place are one
 abbrev Met : {image : Image} {t : Table} {place : ℕ} → Arrives image t place → Arrives image t place → Type 0
@@ -216,7 +216,7 @@ Met a b = ◌≡◌ {A = Instr × ℕ} (a.instr, a.next) (b.instr, b.next) × (a
 met : (image : Image) (t : Table) (place : ℕ) (a b : Arrives image t place) → Met a b
 met image t place a b = (
   here_same image.code place a.instr b.instr a.next b.next a.here b.here,
-  merge_same image t t place place a.kinds b.kinds (λ q less. refl) a.merged b.merged,
+  join_same image t t place place a.kinds b.kinds (λ q less. refl) a.joined b.joined,
 )
 
 own_same : (image : Image) (t : Table) (place : ℕ) (a b : Arrives image t place) → own_fault a ≡ own_fault b
@@ -262,10 +262,10 @@ one_fault image t place f g h k = elim (reason image t place f h) [
 
 -- ---- a place of a front has none
 
-abbrev arrives_there : (image : Image) (t : Table) (place : ℕ) (p : Passes image t place) → IsMerge image t place place p.kinds → Arrives image t place
-arrives_there image t place p m = record { instr = p.instr; next = p.next; kinds = p.kinds; here = p.here; merged = m }
+abbrev arrives_there : (image : Image) (t : Table) (place : ℕ) (p : Passes image t place) → IsJoin image t place place p.kinds → Arrives image t place
+arrives_there image t place p m = record { instr = p.instr; next = p.next; kinds = p.kinds; here = p.here; joined = m }
 
-no_reason : (image : Image) (t : Table) (place : ℕ) (fault : VerifyFault) (p : Passes image t place) → IsMerge image t place place p.kinds → Reason image t place fault → ⊥
+no_reason : (image : Image) (t : Table) (place : ℕ) (fault : VerifyFault) (p : Passes image t place) → IsJoin image t place place p.kinds → Reason image t place fault → ⊥
 no_reason image t place fault p m (inl h) = own_or_none image t place fault h.0 (arrives_there image t place p m) h.1 p.faultless
 no_reason image t place fault p m (inr (inl h)) = jump_or_not image t place h.1 (arrives_there image t place p m) (λ to j. p.targets to (leads_by_jump p.instr p.next to j))
 no_reason image t place fault p m (inr (inr (inl h))) = past_or_not image t place h.1 (arrives_there image t place p m) p.targets
@@ -280,7 +280,7 @@ no_reason image t place fault p m (inr (inr (inr h))) =
 no_fault : (image : Image) (t : Table) (done place : ℕ) (fault : VerifyFault) → IsFront image t done → place < done → IsPlace image.code place → IsFaultAt image t place fault → ⊥
 no_fault image t done place fault front less there h =
     let p = front.passes place less there in
-    let m = front.merged place p.kinds p.known in
+    let m = front.joined place p.kinds p.known in
     elim (reason image t place fault h) [ inl a ↦ a.1 m.some.0 m.some.1 | inr a ↦ no_reason image t place fault p m a ]
 
 -- ---- the refusal

@@ -19,7 +19,7 @@ use Rattle.il_verify.specs.declared.fault.VerifyFault.{VerifyFault}
 use Rattle.il_verify.specs.declared.fault.VerifyFault.TheVariants.{StackEmpty, StackFull, WrongKind, ZeroDivisor, NoSlot, NoTimer, BadTarget, Unreachable, DepthClash, NoHalt, BadBinding, OutOfMemory}
 use Rattle.il_verify.specs.Binding.{fits}
 use Rattle.il_verify.specs.Judging.{fault_of}
-use Rattle.il_verify.specs.Refusals.{Arrives, Clashes, Comes, GoesPast, IsFaultAt, IsFront, IsMerge, IsRefusal, JumpsBadly, JumpsTo, Passes, after, own_fault}
+use Rattle.il_verify.specs.Refusals.{Arrives, Clashes, Comes, GoesPast, IsFaultAt, IsFront, IsJoin, IsRefusal, JumpsBadly, JumpsTo, Passes, after, own_fault}
 use Rattle.il_verify.specs.Slots.{slots_of, types_of}
 use Rattle.il_verify.specs.Verdicts.{IsDepth, IsLongest, IsSafe, KeepsReadOnly}
 use Rattle.il_verify.proofs.EffectLemmas.{effect_lower, not_both, some_same}
@@ -113,8 +113,8 @@ few_behind image table place i next kinds gives p here known effect_is =
     (ap (λ (types : List ElementaryType). effect types (length image.timers) i kinds) (types_are image) ∙ effect_is)
 
 -- What comes to a place together has at most 32 kinds.
-pub merge_room : (image : Image) (table : Table) (done : ℕ) → IsFront image table done → (bound to : ℕ) (kinds : List Kind) → IsMerge image table bound to kinds → length kinds ≤ 32
-merge_room image table done front bound to kinds m =
+pub join_room : (image : Image) (table : Table) (done : ℕ) → IsFront image table done → (bound to : ℕ) (kinds : List Kind) → IsJoin image table bound to kinds → length kinds ≤ 32
+join_room image table done front bound to kinds m =
     let size : length m.some.0 ≡ length kinds = within_length m.some.0 kinds (m.above m.some.0 m.some.1) in
     elim m.some.1 [
       | inl e ↦ (let none : length m.some.0 ≡ 0 = ap length e.1 in omega arith)
@@ -132,7 +132,7 @@ module _ (image : Image) (table : Table) (front : IsFront image table (length im
       let q = front.passes to target.0 target in
       let forward : place < to = leads_on image.code place to p.instr p.next p.here way in
       let comes : Comes image table to to p.gives = inr (place, forward, record { instr = p.instr; next = p.next; before = p.kinds; here = p.here; known = p.known; gives = p.effect; leads = way }) in
-      (q.kinds, q.known, (front.merged to q.kinds q.known).above p.gives comes)
+      (q.kinds, q.known, (front.joined to q.kinds q.known).above p.gives comes)
 
   allowed_there : (place : ℕ) (kinds : List Kind) → table place ≡ Some kinds → IsAllowed image table place kinds
   allowed_there place kinds is =
@@ -149,12 +149,12 @@ module _ (image : Image) (table : Table) (front : IsFront image table (length im
       }
 
   room_there : (place : ℕ) (kinds : List Kind) → table place ≡ Some kinds → length kinds ≤ 32
-  room_there place kinds is = merge_room image table (length image.code) front place place kinds (front.merged place kinds is)
+  room_there place kinds is = join_room image table (length image.code) front place place kinds (front.joined place kinds is)
 
   reached_there : (place : ℕ) → IsPlace image.code place → (place ≡ 0 → ⊥) → (from : ℕ) × IsPlace image.code from × IsSuccessor image.code from place
   reached_there place is ne =
       let p = front.passes place is.0 is in
-      let m = front.merged place p.kinds p.known in
+      let m = front.joined place p.kinds p.known in
       elim m.some.1 [
         | inl e ↦ absurd (ne e.0)
         | inr c ↦ (let f = c.2 in (c.0, (front.only c.0 f.before f.known).1, record { instr = f.instr; next = f.next; here = f.here; leads = f.leads }))
@@ -163,7 +163,7 @@ module _ (image : Image) (table : Table) (front : IsFront image table (length im
   starts_there : 0 < length image.code → table 0 ≡ Some []
   starts_there some =
       let p = front.passes 0 some (first_place image.code some) in
-      let m = front.merged 0 p.kinds p.known in
+      let m = front.joined 0 p.kinds p.known in
       let empty : p.kinds ≡ [] = within_none p.kinds (m.above [] (inl (refl, refl))) in
       p.known ∙ ap (λ (v : List Kind). Some v) empty
 
@@ -210,15 +210,15 @@ module _ (image : Image) (table : Table) (done : ℕ) (front : IsFront image tab
         subst (λ (v : List Kind). AreWithin v top) its (subst (AreWithin l.lower) most (all_within_along l.lower a.after g.0 l.within g.2)))
   ]
 
-  merge_enters : (place : ℕ) (kinds : List Kind) → IsPlace image.code place → ((q : ℕ) (known : List Kind) → q < place → table q ≡ Some known → Enters other q known) → IsMerge image table place place kinds → Enters other place kinds
-  merge_enters place kinds is below m =
+  join_enters : (place : ℕ) (kinds : List Kind) → IsPlace image.code place → ((q : ℕ) (known : List Kind) → q < place → table q ≡ Some known → Enters other q known) → IsJoin image table place place kinds → Enters other place kinds
+  join_enters place kinds is below m =
       let t = top_at place is in
       (t.0, t.1, m.least t.0 (λ others comes. comes_within place place t.0 others t.1 below comes))
 
   all_below : (n q : ℕ) (kinds : List Kind) → q < n → table q ≡ Some kinds → Enters other q kinds
   all_below zero q kinds h is = absurd (omega arith)
   all_below (suc n) q kinds h is =
-      merge_enters q kinds (front.only q kinds is).1 (λ from known before was. all_below n from known (omega arith) was) (front.merged q kinds is)
+      join_enters q kinds (front.only q kinds is).1 (λ from known before was. all_below n from known (omega arith) was) (front.joined q kinds is)
 
   pub lies_above : (q : ℕ) (kinds : List Kind) → table q ≡ Some kinds → Enters other q kinds
   lies_above q kinds is = all_below (suc q) q kinds (omega arith) is
@@ -235,7 +235,7 @@ module _ (image : Image) (table : Table) (done : ℕ) (front : IsFront image tab
 
   does : (place : ℕ) (a : Arrives image table place) → IsPlace image.code place → Does place a
   does place a is =
-      let e = merge_enters place a.kinds is (λ q known before was. lies_above q known was) a.merged in
+      let e = join_enters place a.kinds is (λ q known before was. lies_above q known was) a.joined in
       let b = agrees_so.allowed place e.0 e.1 in
       let same = same_instr image.code place b.instr a.instr b.next a.next b.here a.here in
       let l = effect_lower (slot_types image) (length image.timers) b.instr a.kinds e.0 b.after e.2 b.effect in

@@ -37,8 +37,8 @@ pub record ComesFrom (image : Image) (table : Table) (from to : ℕ) (kinds : Li
 abbrev pub Comes : Image → Table → ℕ → ℕ → List Kind → Type 0
 Comes image table done to kinds = ((to ≡ 0) × (kinds ≡ [])) ⊎ ((from : ℕ) × (from < done) × ComesFrom image table from to kinds)
 
--- Something comes to the place, and these are the least kinds above all that comes.
-pub record IsMerge (image : Image) (table : Table) (done to : ℕ) (kinds : List Kind) : Type 0 where
+-- Something comes to the place, and these are the join of all that comes: the least kinds above it.
+pub record IsJoin (image : Image) (table : Table) (done to : ℕ) (kinds : List Kind) : Type 0 where
   pub some : (first : List Kind) × Comes image table done to first
   pub above : (others : List Kind) → Comes image table done to others → AreWithin others kinds
   pub least : (top : List Kind) → ((others : List Kind) → Comes image table done to others → AreWithin others top) → AreWithin kinds top
@@ -61,7 +61,7 @@ pub record Passes (image : Image) (table : Table) (place : ℕ) : Type 0 where
 -- these places has a fault.
 pub record IsFront (image : Image) (table : Table) (done : ℕ) : Type 0 where
   pub only : (place : ℕ) (kinds : List Kind) → table place ≡ Some kinds → (place < done) × IsPlace image.code place
-  pub merged : (place : ℕ) (kinds : List Kind) → table place ≡ Some kinds → IsMerge image table place place kinds
+  pub joined : (place : ℕ) (kinds : List Kind) → table place ≡ Some kinds → IsJoin image table place place kinds
   pub passes : (place : ℕ) → place < done → IsPlace image.code place → Passes image table place
 
 -- ---- the faults of a place, of which at most one is its first
@@ -72,11 +72,13 @@ pub record Arrives (image : Image) (table : Table) (place : ℕ) : Type 0 where
   pub next : ℕ
   pub kinds : List Kind
   pub here : instr_at image.code place ≡ Some (instr, next)
-  pub merged : IsMerge image table place place kinds
+  pub joined : IsJoin image table place place kinds
 
+-- the fault of the place's instruction by itself
 abbrev pub own_fault : {image : Image} {table : Table} {place : ℕ} → Arrives image table place → Option VerifyFault
 own_fault {image} a = fault_of (slots_of image) (length image.timers) a.instr a.kinds
 
+-- The instruction jumps to this place.
 abbrev pub JumpsTo : Instr → ℕ → ℕ → Type 0
 JumpsTo (Jump when distance) next to = to ≡ next + distance
 JumpsTo Halt next to = ⊥
@@ -124,6 +126,7 @@ pub record Clashes (image : Image) (table : Table) (place : ℕ) : Type 0 where
 abbrev pub HasOwn : Image → Table → ℕ → VerifyFault → Type 0
 HasOwn image table place fault = (a : Arrives image table place) × (own_fault a ≡ Some fault)
 
+-- This is the first fault of the place.
 abbrev pub IsFaultAt : Image → Table → ℕ → VerifyFault → Type 0
 IsFaultAt image table place Unreachable = (kinds : List Kind) → Comes image table place place kinds → ⊥
 IsFaultAt image table place BadTarget = JumpsBadly image table place

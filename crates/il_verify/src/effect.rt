@@ -1,5 +1,5 @@
-// What an instruction does to the kinds on the stack, and the faults that it has by itself. The top
-// is the last element.
+// The transfer function of each instruction: what it makes of the kinds on the stack, and the faults
+// that it has by itself. The top is the last element.
 ghost use Rattle.std.specs.Prelude.{◌≡◌, ◌≢◌, Some, None, reverse, length, OnOk, OnErr, IfErr, IfSome, IfNone, IsTrue, MatchResult, [], ◌∷◌, ◌⊎◌, ℕ, List};
 ghost use Rattle.il_image.specs.Machine as spec_machine;
 ghost use Rattle.il_image.specs.Effects.{below, compares, effect, looks_at, second_kind, two, type_of_kind, widens, with_truth};
@@ -11,7 +11,7 @@ ghost use Rattle.il_verify.specs.Judging as spec_judging;
 ghost use Rattle.il_verify.specs.Slots.{types_of};
 
 use crate::fault::VerifyFault;
-use crate::slots::Slot;
+use crate::slots::SlotType;
 use bay_base::types::ElementaryType;
 use il_image::arithmetic::{Comparison, Operation, Width};
 use il_image::instr::Instr;
@@ -167,7 +167,7 @@ fn widen(kinds: &mut Vec<Kind>, from: Width, to: Width) -> Result<(), VerifyFaul
 }
 
 // A BOOL on top is set or reset into a slot, which has to be a BOOL.
-fn look_at_truth(slots: &[Slot], number: u16, kinds: &[Kind]) -> Result<(), VerifyFault>
+fn look_at_truth(slots: &[SlotType], number: u16, kinds: &[Kind]) -> Result<(), VerifyFault>
     ensures ok { OnOk result (with_truth (types_of slots.now) number (reverse kinds.now) ≡ Some (reverse kinds.now)) }
     ensures err { IfErr result (λ f. (f ≡ VerifyFault.WrongKind) × (with_truth (types_of slots.now) number (reverse kinds.now) ≡ None)) }
 {
@@ -181,7 +181,7 @@ fn look_at_truth(slots: &[Slot], number: u16, kinds: &[Kind]) -> Result<(), Veri
 
 // What an instruction does with a slot.
 fn use_slot(
-    slots: &[Slot],
+    slots: &[SlotType],
     slot_use: SlotUse,
     number: u16,
     kinds: &mut Vec<Kind>,
@@ -220,7 +220,7 @@ fn use_timer(timer_use: TimerUse, kinds: &mut Vec<Kind>) -> Result<(), VerifyFau
 
 // Does to the kinds what an instruction does, where they are of the kinds that it wants.
 fn apply(
-    slots: &[Slot],
+    slots: &[SlotType],
     timers: usize,
     instr: Instr,
     kinds: &mut Vec<Kind>,
@@ -275,7 +275,7 @@ fn operands(instr: Instr) -> usize
 }
 
 // Whether an instruction writes a slot that may only be read.
-fn writes_read_only(slots: &[Slot], instr: Instr) -> bool
+fn writes_read_only(slots: &[SlotType], instr: Instr) -> bool
     ensures { result ≡ spec_judging.writes_read_only slots.now instr }
 {
     match instr {
@@ -289,10 +289,11 @@ fn writes_read_only(slots: &[Slot], instr: Instr) -> bool
     }
 }
 
-/// Does to the kinds what an instruction does, or tells its first fault.
+/// The transfer function of an instruction: the kinds behind it take the place of those before it, or
+/// it has a fault, of which this is the first.
 #[tactic(auto, unfolding(crate::specs::Judging::fault_of))]
-pub(crate) fn judge(
-    slots: &[Slot],
+pub(crate) fn transfer(
+    slots: &[SlotType],
     timers: usize,
     instr: Instr,
     kinds: &mut Vec<Kind>,

@@ -3,7 +3,7 @@ use Rattle.il_verify.specs.Judging.{operands}
 use Rattle.std.proofs.lemmas.List.{length-reverse}
 use Rattle.std.proofs.lemmas.Result.{err_from_is_err_and}
 use Rattle.il_verify.proofs.JudgeLemmas.{allowed_faultless, misfit_fault, missing_fault, room_fault, write_fault}
-use Rattle.il_verify.proofs.effect.judge.Goals as goal
+use Rattle.il_verify.proofs.effect.transfer.Goals as goal
 
 pub returns-in_err-find_named-clause-err : goal.returns-in_err-find_named-clause-err
 returns-in_err-find_named-clause-err c =

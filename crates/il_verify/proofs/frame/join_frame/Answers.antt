@@ -1,6 +1,6 @@
 use Rattle.std.proofs.Common.{arith}
 use Rattle.il_verify.proofs.FrameLemmas.{joined_grows}
-use Rattle.il_verify.proofs.frame.meet.Goals as goal
+use Rattle.il_verify.proofs.frame.join_frame.Goals as goal
 
 pub returns-clause-ok : goal.returns-clause-ok
 returns-clause-ok c =
