@@ -57,18 +57,22 @@ plain_frames pending place = option_map plain_frame (frame_at pending place)
 abbrev pub beside : {A : Type 0} → ℕ → Option A → (ℕ → Option A) → ℕ → Option A
 beside place known others q = if q == place then known else others q
 
--- Another path comes to a place: the new frame is the join of the old one, if there is one, and of what comes.
+-- Another path comes to a place: the new frame is the join of the old one, if there is one, and of
+-- what comes.
 pub record Grows (come : PlainFrame) (old : Option PlainFrame) (new : PlainFrame) : Type 0 where
   pub over : AreWithin come.kinds new.kinds
   pub keeps : (m : PlainFrame) → old ≡ Some m → AreWithin m.kinds new.kinds
-  pub least : (top : List Kind) → AreWithin come.kinds top → ((m : PlainFrame) → old ≡ Some m → AreWithin m.kinds top) → AreWithin new.kinds top
+  pub least : (top : List Kind) → AreWithin come.kinds top
+      → ((m : PlainFrame) → old ≡ Some m → AreWithin m.kinds top) → AreWithin new.kinds top
   pub longer : come.longest ≤ new.longest
   pub keeps_longer : (m : PlainFrame) → old ≡ Some m → m.longest ≤ new.longest
-  pub from : (new.longest ≡ come.longest) ⊎ ((m : PlainFrame) × (old ≡ Some m) × (new.longest ≡ m.longest))
+  pub from : (new.longest ≡ come.longest)
+      ⊎ ((m : PlainFrame) × (old ≡ Some m) × (new.longest ≡ m.longest))
 
 -- It comes where this is so, and else the frame stays.
 abbrev pub ComesWhere : Type 0 → PlainFrame → Option PlainFrame → Option PlainFrame → Type 0
-ComesWhere P come old new = (P × ((frame : PlainFrame) × (new ≡ Some frame) × Grows come old frame)) ⊎ ((P → ⊥) × (new ≡ old))
+ComesWhere P come old new = (P × ((frame : PlainFrame) × (new ≡ Some frame) × Grows come old frame))
+    ⊎ ((P → ⊥) × (new ≡ old))
 
 -- A frame at the place has another number of kinds.
 abbrev pub Clashing : Option PlainFrame → List Kind → Type 0
@@ -128,7 +132,8 @@ pub record FallsOff (code : List ℕ) (instr : Instr) (next : ℕ) : Type 0 wher
 
 -- It leads to no place, with the fault of that: a wrong jump comes before the end of the code.
 abbrev pub LeadsWrong : List ℕ → Instr → ℕ → VerifyFault → Type 0
-LeadsWrong code instr next fault = ((fault ≡ BadTarget) × JumpsWrong code instr next) ⊎ ((fault ≡ NoHalt) × FallsOff code instr next)
+LeadsWrong code instr next fault = ((fault ≡ BadTarget) × JumpsWrong code instr next)
+    ⊎ ((fault ≡ NoHalt) × FallsOff code instr next)
 
 -- A path comes to where it jumps, and to where it goes on.
 abbrev pub Jumps : Instr → ℕ → PlainFrame → PlainFrames → PlainFrames → Type 0
@@ -143,25 +148,30 @@ abbrev pub Falls : Instr → ℕ → PlainFrame → PlainFrames → PlainFrames 
 Falls instr next come old new = (to : ℕ) → ComesWhere (GoesOn instr next to) come (old to) (new to)
 
 -- The instruction of the image is done on the kinds at its place.
-pub record Visits (image : Image) (instr : Instr) (next : ℕ) (come : PlainFrame) (old new : PlainFrames) : Type 0 where
+pub record Visits (image : Image) (instr : Instr) (next : ℕ) (come : PlainFrame)
+    (old new : PlainFrames) : Type 0 where
   pub gives : List Kind
   pub faultless : fault_of (slots_of image) (length image.timers) instr come.kinds ≡ None
-  pub effect : effect (types_of (slots_of image)) (length image.timers) instr come.kinds ≡ Some gives
+  pub effect : effect (types_of (slots_of image)) (length image.timers) instr come.kinds
+      ≡ Some gives
   pub right : LeadsRight image.code instr next
   pub mid : PlainFrames
   pub jumps : Jumps instr next (record { kinds = gives; longest = come.longest + 1 }) old mid
   pub falls : Falls instr next (record { kinds = gives; longest = come.longest + 1 }) mid new
 
 -- The instruction fails, by itself, or by where it leads, or by what is there.
-pub record MisLeads (image : Image) (instr : Instr) (next : ℕ) (come : PlainFrame) (fault : VerifyFault) : Type 0 where
+pub record MisLeads (image : Image) (instr : Instr) (next : ℕ) (come : PlainFrame)
+    (fault : VerifyFault) : Type 0 where
   pub faultless : fault_of (slots_of image) (length image.timers) instr come.kinds ≡ None
   pub wrong : LeadsWrong image.code instr next fault
 
 -- It is right by itself, but leads to a place where another number of kinds is.
-pub record Collides (image : Image) (instr : Instr) (next : ℕ) (come : PlainFrame) (old : PlainFrames) : Type 0 where
+pub record Collides (image : Image) (instr : Instr) (next : ℕ) (come : PlainFrame)
+    (old : PlainFrames) : Type 0 where
   pub gives : List Kind
   pub faultless : fault_of (slots_of image) (length image.timers) instr come.kinds ≡ None
-  pub effect : effect (types_of (slots_of image)) (length image.timers) instr come.kinds ≡ Some gives
+  pub effect : effect (types_of (slots_of image)) (length image.timers) instr come.kinds
+      ≡ Some gives
   pub right : LeadsRight image.code instr next
   pub to : ℕ
   pub leads : JumpsTo instr next to ⊎ GoesOn instr next to
@@ -171,4 +181,5 @@ pub record Collides (image : Image) (instr : Instr) (next : ℕ) (come : PlainFr
 abbrev pub FailsVisit : Image → Instr → ℕ → PlainFrame → PlainFrames → VerifyFault → Type 0
 FailsVisit image instr next come old fault =
     (fault_of (slots_of image) (length image.timers) instr come.kinds ≡ Some fault)
-    ⊎ (MisLeads image instr next come fault ⊎ ((fault ≡ DepthClash) × Collides image instr next come old))
+    ⊎ (MisLeads image instr next come fault
+    ⊎ ((fault ≡ DepthClash) × Collides image instr next come old))

@@ -66,7 +66,8 @@ unfit (Some with_any) (Some actual) = None
 
 -- the fault of the kinds that the instruction takes or looks at
 abbrev pub misfit : List SlotType → ℕ → Instr → List Kind → Option VerifyFault
-misfit slots timers i kinds = unfit (effect_on slots timers kinds (undivided i)) (effect_on slots timers kinds i)
+misfit slots timers i kinds =
+    unfit (effect_on slots timers kinds (undivided i)) (effect_on slots timers kinds i)
 
 -- what the contracts of the code's parts cite: a BOOL, and an operation of two numbers
 abbrev pub truth : Kind

@@ -38,10 +38,14 @@ fn join_all(kinds: &mut Vec<Kind>, others: &[Kind])
     }
 }
 
-// Joins a frame with what another path brings to its place. A frame of another depth stays as it was.
+// Joins a frame with what another path brings to its place. A frame of another depth stays as it
+// was.
 fn join_frame(frame: &mut Frame, kinds: &[Kind], longest: u32) -> Result<(), VerifyFault>
-    ensures ok { OnOk result (Grows (record { kinds = reverse kinds.now; longest = longest }) (Some (plain_frame frame.old)) (plain_frame frame.new)) }
-    ensures err { IfErr result (λ f. (f ≡ VerifyFault.DepthClash) × (length frame.old.kinds.items ≢ length kinds.now)) }
+    ensures ok { OnOk result
+        (Grows (record { kinds = reverse kinds.now; longest = longest })
+        (Some (plain_frame frame.old)) (plain_frame frame.new)) }
+    ensures err { IfErr result
+        (λ f. (f ≡ VerifyFault.DepthClash) × (length frame.old.kinds.items ≢ length kinds.now)) }
 {
     if frame.kinds.len() != kinds.len() {
         return Err(VerifyFault::DepthClash);
@@ -55,7 +59,8 @@ fn join_frame(frame: &mut Frame, kinds: &[Kind], longest: u32) -> Result<(), Ver
 fn grow(pending: &mut Vec<Option<Frame>>, place: usize) -> Result<(), AllocError>
     requires { place < 2 ^ 64 - 1 }
     ensures room { OnOk result (place < length pending.new.items) }
-    ensures same { OnOk result ((q : ℕ) → plain_frames pending.new.items q ≡ plain_frames pending.old.items q) }
+    ensures same { OnOk result
+        ((q : ℕ) → plain_frames pending.new.items q ≡ plain_frames pending.old.items q) }
 {
     for _ in pending.len()..place + 1 {
         pending.push(None)?;
@@ -70,8 +75,14 @@ fn arrive(
     kinds: &[Kind],
     longest: u32,
 ) -> Result<(), VerifyFault>
-    ensures ok { OnOk result ((frame : Frame) × (slot.new ≡ Some frame) × Grows (record { kinds = reverse kinds.now; longest = longest }) (option_map plain_frame slot.old) (plain_frame frame)) }
-    ensures err { IfErr result (λ f. f ≢ VerifyFault.OutOfMemory → (f ≡ VerifyFault.DepthClash) × Clashing (option_map plain_frame slot.old) (reverse kinds.now)) }
+    ensures ok { OnOk result
+        ((frame : Frame) × (slot.new ≡ Some frame)
+        × Grows (record { kinds = reverse kinds.now; longest = longest })
+        (option_map plain_frame slot.old) (plain_frame frame)) }
+    ensures err { IfErr result
+        (λ f. f ≢ VerifyFault.OutOfMemory
+        → (f ≡ VerifyFault.DepthClash)
+        × Clashing (option_map plain_frame slot.old) (reverse kinds.now)) }
 {
     if let Some(frame) = slot {
         return join_frame(frame, kinds, longest);
@@ -90,8 +101,13 @@ fn pend(
     longest: u32,
 ) -> Result<(), VerifyFault>
     requires { place < 2 ^ 64 - 1 }
-    ensures ok { OnOk result (Pends (plain_frames pending.old.items) (plain_frames pending.new.items) place (record { kinds = reverse kinds.now; longest = longest })) }
-    ensures err { IfErr result (λ f. f ≢ VerifyFault.OutOfMemory → (f ≡ VerifyFault.DepthClash) × Clashing (plain_frames pending.old.items place) (reverse kinds.now)) }
+    ensures ok { OnOk result
+        (Pends (plain_frames pending.old.items) (plain_frames pending.new.items) place
+        (record { kinds = reverse kinds.now; longest = longest })) }
+    ensures err { IfErr result
+        (λ f. f ≢ VerifyFault.OutOfMemory
+        → (f ≡ VerifyFault.DepthClash)
+        × Clashing (plain_frames pending.old.items place) (reverse kinds.now)) }
 {
     grow(pending, place)?;
     arrive(alloc, &mut pending[place], kinds, longest)
@@ -107,8 +123,13 @@ pub(crate) fn jump(
     pending: &mut Vec<Option<Frame>>,
 ) -> Result<(), VerifyFault>
     requires { next < 2 ^ 63 }
-    ensures ok { OnOk result (Jumps instr next (record { kinds = reverse kinds.now; longest = longest }) (plain_frames pending.old.items) (plain_frames pending.new.items)) }
-    ensures err { IfErr result (λ f. f ≢ VerifyFault.OutOfMemory → (f ≡ VerifyFault.DepthClash) × JumpClash instr next (plain_frames pending.old.items) (reverse kinds.now)) }
+    ensures ok { OnOk result
+        (Jumps instr next (record { kinds = reverse kinds.now; longest = longest })
+        (plain_frames pending.old.items) (plain_frames pending.new.items)) }
+    ensures err { IfErr result
+        (λ f. f ≢ VerifyFault.OutOfMemory
+        → (f ≡ VerifyFault.DepthClash)
+        × JumpClash instr next (plain_frames pending.old.items) (reverse kinds.now)) }
 {
     match instr {
         Instr::Jump(_, distance) => {
@@ -131,7 +152,8 @@ pub(crate) fn goes_on(instr: Instr) -> bool
 // What is pending at a place, which no longer is.
 fn taken(pending: &mut Vec<Option<Frame>>, place: usize) -> Option<Frame>
     ensures value { result ≡ frame_at pending.old.items place }
-    ensures others { (q : ℕ) → (q ≡ place → ⊥) → plain_frames pending.new.items q ≡ plain_frames pending.old.items q }
+    ensures others { (q : ℕ) → (q ≡ place → ⊥)
+        → plain_frames pending.new.items q ≡ plain_frames pending.old.items q }
 {
     if place < pending.len() {
         pending[place].take()
@@ -147,8 +169,13 @@ pub(crate) fn fall(
     frame: Frame,
     pending: &mut Vec<Option<Frame>>,
 ) -> Result<Option<Frame>, VerifyFault>
-    ensures ok { IfOk result (λ behind. Falls instr next (plain_frame frame) (plain_frames pending.old.items) (beside next (option_map plain_frame behind) (plain_frames pending.new.items))) }
-    ensures err { IfErr result (λ f. (f ≡ VerifyFault.DepthClash) × ((spec.goes_on instr ≡ true) × Clashing (plain_frames pending.old.items next) (plain_frame frame).kinds)) }
+    ensures ok { IfOk result
+        (λ behind. Falls instr next (plain_frame frame) (plain_frames pending.old.items)
+        (beside next (option_map plain_frame behind) (plain_frames pending.new.items))) }
+    ensures err { IfErr result
+        (λ f. (f ≡ VerifyFault.DepthClash)
+        × ((spec.goes_on instr ≡ true)
+        × Clashing (plain_frames pending.old.items next) (plain_frame frame).kinds)) }
 {
     let old = taken(pending, next);
     if !goes_on(instr) {

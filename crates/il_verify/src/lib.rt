@@ -5,7 +5,8 @@
 // - `points`: whether an image's points are points of the bay.
 // - `slots`: the slots that the code uses.
 // - `plan`: what is looked up: the slots, and where instructions begin.
-// - `effect`: the transfer function of each instruction on the kinds on the stack, and its own faults.
+// - `effect`: the transfer function of each instruction on the kinds on the stack, and its own
+// faults.
 // - `frame`: the frames of the places that are still to come, and how frames are joined.
 // - `visit`: one place of the code.
 // - `pass`: the pass over all places.

@@ -56,9 +56,12 @@ pub(crate) fn visit(
     requires plan { IsPlan image.now plan.now }
     requires fits { next < 2 ^ 63 }
     requires short { frame.longest < 2 ^ 32 - 1 }
-    ensures ok { IfOk result (λ behind. Visits image.now instr next (plain_frame frame) (plain_frames pending.old.items)
+    ensures ok { IfOk result
+        (λ behind. Visits image.now instr next (plain_frame frame) (plain_frames pending.old.items)
         (beside next (option_map plain_frame behind) (plain_frames pending.new.items))) }
-    ensures err { IfErr result (λ f. f ≢ VerifyFault.OutOfMemory → FailsVisit image.now instr next (plain_frame frame) (plain_frames pending.old.items) f) }
+    ensures err { IfErr result
+        (λ f. f ≢ VerifyFault.OutOfMemory
+        → FailsVisit image.now instr next (plain_frame frame) (plain_frames pending.old.items) f) }
 {
     let Frame { kinds, longest } = frame;
     let mut kinds = kinds;

@@ -5,7 +5,9 @@ use Rattle.il_verify.proofs.PassLemmas.{Passing}
 use Rattle.il_verify.proofs.pass.pass.Given as goal
 
 abbrev pub invariant-loop-place : goal.invariant-loop-place
-invariant-loop-place l = Passing l.image l.place l.budget l.depth (beside l.place (option_map plain_frame l.frame) (plain_frames l.pending.items))
+invariant-loop-place l =
+    Passing l.image l.place l.budget l.depth
+    (beside l.place (option_map plain_frame l.frame) (plain_frames l.pending.items))
 
 abbrev pub decreases-loop-place : goal.decreases-loop-place
 decreases-loop-place l = length l.image.code - l.place

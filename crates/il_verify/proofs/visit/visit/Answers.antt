@@ -13,15 +13,23 @@ returns-in-Err-fall-clause-err c = λ ne.
     let come : PlainFrame = record { kinds = gives; longest = c.args.frame.longest + 1 } in
     let old = plain_frames c.args.pending.now.items in
     let mid = plain_frames c.jump.new.pending.items in
-    let jumps = subst (λ (items : List Kind). Jumps c.args.instr c.args.next (record { kinds = reverse items; longest = c.args.frame.longest + 1 }) old mid) c.as_slice-3.ensures.value c.in-Ok-jump.ensures.ok in
+    let jumps =
+    subst (λ (items : List Kind). Jumps c.args.instr c.args.next
+    (record { kinds = reverse items; longest = c.args.frame.longest + 1 }) old mid)
+    c.as_slice-3.ensures.value c.in-Ok-jump.ensures.ok in
     let h = c.in-Err-fall.ensures.err in
     inr (inr (
       h.0,
       record {
         gives = gives;
-        faultless = fault_there image c.as_slice.result.now c.args.plan.now.timers c.args.instr kinds None slots c.requires.plan.timers c.in-Ok.ensures.faultless;
-        effect = effect_so image c.as_slice.result.now c.args.plan.now.timers c.args.instr kinds (Some gives) slots c.requires.plan.timers c.in-Ok.ensures.ok;
-        right = subst (λ (code : List ℕ). LeadsRight code c.args.instr c.args.next) c.code.ensures.value c.in-Ok-check_targets.ensures.ok;
+        faultless =
+            fault_there image c.as_slice.result.now c.args.plan.now.timers c.args.instr kinds None
+            slots c.requires.plan.timers c.in-Ok.ensures.faultless;
+        effect =
+            effect_so image c.as_slice.result.now c.args.plan.now.timers c.args.instr kinds
+            (Some gives) slots c.requires.plan.timers c.in-Ok.ensures.ok;
+        right = subst (λ (code : List ℕ). LeadsRight code c.args.instr c.args.next)
+            c.code.ensures.value c.in-Ok-check_targets.ensures.ok;
         to = c.args.next;
         leads = inr (h.1.0, refl);
         clash = clash_before c.args.instr c.args.next come old mid jumps h.1.1;
@@ -38,10 +46,17 @@ returns-clause-ok c =
     let mid = plain_frames c.jump.new.pending.items in
     record {
       gives = gives;
-      faultless = fault_there image c.as_slice.result.now c.args.plan.now.timers c.args.instr kinds None slots c.requires.plan.timers c.in-Ok.ensures.faultless;
-      effect = effect_so image c.as_slice.result.now c.args.plan.now.timers c.args.instr kinds (Some gives) slots c.requires.plan.timers c.in-Ok.ensures.ok;
-      right = subst (λ (code : List ℕ). LeadsRight code c.args.instr c.args.next) c.code.ensures.value c.in-Ok-check_targets.ensures.ok;
+      faultless =
+          fault_there image c.as_slice.result.now c.args.plan.now.timers c.args.instr kinds None
+          slots c.requires.plan.timers c.in-Ok.ensures.faultless;
+      effect =
+          effect_so image c.as_slice.result.now c.args.plan.now.timers c.args.instr kinds
+          (Some gives) slots c.requires.plan.timers c.in-Ok.ensures.ok;
+      right = subst (λ (code : List ℕ). LeadsRight code c.args.instr c.args.next)
+          c.code.ensures.value c.in-Ok-check_targets.ensures.ok;
       mid = mid;
-      jumps = subst (λ (items : List Kind). Jumps c.args.instr c.args.next (record { kinds = reverse items; longest = c.args.frame.longest + 1 }) old mid) c.as_slice-3.ensures.value c.in-Ok-jump.ensures.ok;
+      jumps = subst (λ (items : List Kind). Jumps c.args.instr c.args.next
+          (record { kinds = reverse items; longest = c.args.frame.longest + 1 }) old mid)
+          c.as_slice-3.ensures.value c.in-Ok-jump.ensures.ok;
       falls = c.in-Ok-fall.ensures.ok;
     }
