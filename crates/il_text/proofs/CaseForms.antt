@@ -6,15 +6,15 @@ use Rattle.il_text.specs.Forms as form
 use Rattle.il_text.specs.LetterCase.{upper_place, upper_source, upper_argument, upper_action}
 use Rattle.il_text.specs.Listing.{Place, named, output, Source, Action, load, store, combine, invert, convert, jump, leave, call}
 use Rattle.il_text.specs.Parts.{Part, heading, opening, declaring, closing, labelling, acting, entering, leaving, ending}
-use Rattle.il_text.specs.Tokens.{Symbol, name, frame_word, type_word, literal, mnemonic_word, mark_symbol}
+use Rattle.il_text.specs.Tokens.{Symbol, name, keyword_word, type_word, literal, mnemonic_word, mark_symbol}
 use Rattle.il_text.specs.declared.form.Tail.{Tail}
 use Rattle.il_text.specs.declared.program.Input.{Input}
 use Rattle.il_text.specs.declared.program.Literal.{Literal}
 use Rattle.il_text.specs.declared.program.Operator.{Operator}
 use Rattle.il_text.specs.declared.program.Output.{Output}
 use Rattle.il_text.specs.declared.program.Scope.TheVariants.{Local, External}
-use Rattle.il_text.specs.declared.token.Frame.{Frame}
-use Rattle.il_text.specs.declared.token.Frame.TheVariants as frame
+use Rattle.il_text.specs.declared.token.Keyword.{Keyword}
+use Rattle.il_text.specs.declared.token.Keyword.TheVariants as keyword
 use Rattle.il_text.specs.declared.token.Mark.{Mark}
 use Rattle.il_text.specs.declared.token.Mark.TheVariants as mark
 use Rattle.il_text.specs.declared.token.Mnemonic.{Mnemonic}
@@ -42,7 +42,7 @@ upper_parts = map upper_part
 -- a test of a token that is no name
 kept : {A : Type 0} → (f : Symbol → A) → ((n : List ℕ) → f (name (map up n)) ≡ f (name n)) → (s : Symbol) → f (upper_symbol s) ≡ f s
 kept f h (name n) = h n
-kept f h (frame_word w) = refl
+kept f h (keyword_word w) = refl
 kept f h (type_word k) = refl
 kept f h (literal v) = refl
 kept f h (mnemonic_word m) = refl
@@ -50,7 +50,7 @@ kept f h (mark_symbol m) = refl
 
 name-s : (s : Symbol) → form.name_of (upper_symbol s) ≡ option_map (map up) (form.name_of s)
 name-s (name n) = refl
-name-s (frame_word w) = refl
+name-s (keyword_word w) = refl
 name-s (type_word k) = refl
 name-s (literal v) = refl
 name-s (mnemonic_word m) = refl
@@ -339,7 +339,7 @@ rest-up (c ∷ ss) = rw (colon-s c, follows-up ss) (rest_by (form.is_colon c && 
 
 by-up : (s : Symbol) (ss : List Symbol) → form.statement_by (upper_symbol s) (upper_symbols ss) ≡ option_map upper_parts (form.statement_by s ss)
 by-up (name n) ss = refl
-by-up (frame_word w) ss = refl
+by-up (keyword_word w) ss = refl
 by-up (type_word k) ss = refl
 by-up (literal v) ss = refl
 by-up (mnemonic_word m) ss = statement-up m ss
@@ -370,13 +370,13 @@ heading_by : (o : Option (List ℕ)) → option_map (λ n. heading n ∷ []) (op
 heading_by None = refl
 heading_by (Some n) = refl
 
-framed-up : (w : Frame) (ss : List Symbol) → form.framed w (upper_symbols ss) ≡ option_map upper_parts (form.framed w ss)
-unfolding form.framed
-framed-up frame.Program ss = ap (option_map (λ n. heading n ∷ [])) (only_name-up ss) ∙ heading_by (form.only_name ss)
-framed-up frame.EndProgram ss = only-up ending ending refl ss
-framed-up frame.Var ss = only-up (opening Local) (opening Local) refl ss
-framed-up frame.VarExternal ss = only-up (opening External) (opening External) refl ss
-framed-up frame.EndVar ss = only-up closing closing refl ss
+keyword_line-up : (w : Keyword) (ss : List Symbol) → form.keyword_line w (upper_symbols ss) ≡ option_map upper_parts (form.keyword_line w ss)
+unfolding form.keyword_line
+keyword_line-up keyword.Program ss = ap (option_map (λ n. heading n ∷ [])) (only_name-up ss) ∙ heading_by (form.only_name ss)
+keyword_line-up keyword.EndProgram ss = only-up ending ending refl ss
+keyword_line-up keyword.Var ss = only-up (opening Local) (opening Local) refl ss
+keyword_line-up keyword.VarExternal ss = only-up (opening External) (opening External) refl ss
+keyword_line-up keyword.EndVar ss = only-up closing closing refl ss
 
 marked-up : (m : Mark) (ss : List Symbol) → form.marked m (upper_symbols ss) ≡ option_map upper_parts (form.marked m ss)
 unfolding form.marked
@@ -390,7 +390,7 @@ marked-up mark.Close ss = only-up leaving leaving refl ss
 
 first-up : (s : Symbol) (rest ss : List Symbol) → form.by_first (upper_symbol s) (upper_symbols rest) (upper_symbols ss) ≡ option_map upper_parts (form.by_first s rest ss)
 first-up (name n) rest ss = named_line-up n rest ss
-first-up (frame_word w) rest ss = framed-up w rest
+first-up (keyword_word w) rest ss = keyword_line-up w rest
 first-up (type_word k) rest ss = refl
 first-up (literal v) rest ss = refl
 first-up (mnemonic_word m) rest ss = statement-up m rest

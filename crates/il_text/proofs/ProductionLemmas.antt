@@ -5,11 +5,11 @@ use Rattle.std.proofs.Math.ListN.{drop_of_length-le}
 use Rattle.std.proofs.Math.Seq.{drop-append_seam, take-append_seam}
 use Rattle.std.proofs.lemmas.List.{take-append-drop}
 use Rattle.bay_base.specs.declared.types.ElementaryType.{ElementaryType}
-use Rattle.il_text.specs.Forms.{after_front, alone, argument, argument_list, arguments, both, called, closed_arguments, closed_by, combined, declaration, declared_by, declared_names, elementary_of, ends_with, entered, framed, input_named, is_assign, is_close, is_colon, is_comma, is_dot, is_mnemonic, is_open, is_semicolon, label_or, label_rest, labelled, literal_of, literal_or, marked, may_follow_label, name_of, named_line, names_from, one_part, only, only_literal, only_name, operand, output_by, output_named, parted, parts_at, parts_of, place, same_input, statement, statement_by, tail, type_of}
+use Rattle.il_text.specs.Forms.{after_front, alone, argument, argument_list, arguments, both, called, closed_arguments, closed_by, combined, declaration, declared_by, declared_names, elementary_of, ends_with, entered, keyword_line, input_named, is_assign, is_close, is_colon, is_comma, is_dot, is_mnemonic, is_open, is_semicolon, label_or, label_rest, labelled, literal_of, literal_or, marked, may_follow_label, name_of, named_line, names_from, one_part, only, only_literal, only_name, operand, output_by, output_named, parted, parts_at, parts_of, place, same_input, statement, statement_by, tail, type_of}
 use Rattle.il_text.specs.Listing.{Place, named, output, Source, constant, variable, Action, load, store, combine, invert, convert, jump, leave, call}
 use Rattle.il_text.specs.Parts.{Part, heading, opening, declaring, closing, labelling, acting, entering, leaving, ending}
 use Rattle.il_text.specs.Productions.{IsPlace, of_name, of_output, IsOperand, of_literal, of_place, IsArgument, AreArguments, no_argument, one_argument, two_arguments, IsAction, loads, stores, combines, inverts, converts, leaves, jumps, calls, IsStatement, acts, enters, enters_with, spelled_names, IsDeclaration, plain, initial, IsLine, blank, heads, opens, opens_external, declares, closes, labels, labels_with, states, leaves_block, ends, LinesAreProduced}
-use Rattle.il_text.specs.Tokens.{Symbol, name, frame_word, type_word, literal, mnemonic_word, mark_symbol}
+use Rattle.il_text.specs.Tokens.{Symbol, name, keyword_word, type_word, literal, mnemonic_word, mark_symbol}
 use Rattle.il_text.specs.declared.form.Tail.{Tail}
 use Rattle.il_text.specs.declared.program.DeclaredType.{DeclaredType}
 use Rattle.il_text.specs.declared.program.DeclaredType.TheVariants.{Elementary, Timer}
@@ -18,8 +18,8 @@ use Rattle.il_text.specs.declared.program.Literal.{Literal}
 use Rattle.il_text.specs.declared.program.Operator.{Operator}
 use Rattle.il_text.specs.declared.program.Output.{Output}
 use Rattle.il_text.specs.declared.program.Scope.TheVariants.{Local, External}
-use Rattle.il_text.specs.declared.token.Frame.{Frame}
-use Rattle.il_text.specs.declared.token.Frame.TheVariants as frame
+use Rattle.il_text.specs.declared.token.Keyword.{Keyword}
+use Rattle.il_text.specs.declared.token.Keyword.TheVariants as keyword
 use Rattle.il_text.specs.declared.token.Mark.{Mark}
 use Rattle.il_text.specs.declared.token.Mark.TheVariants as mark
 use Rattle.il_text.specs.declared.token.Mnemonic.{Mnemonic}
@@ -54,7 +54,7 @@ either_false false b e = (refl, e)
 
 named_is : (s : Symbol) (n : List ℕ) → name_of s ≡ Some n → s ≡ name n
 named_is (name m) n e = ap (λ (x : List ℕ). name x) (some_same m n e)
-named_is (frame_word w) n e = absurd cc
+named_is (keyword_word w) n e = absurd cc
 named_is (type_word k) n e = absurd cc
 named_is (literal v) n e = absurd cc
 named_is (mnemonic_word m) n e = absurd cc
@@ -62,7 +62,7 @@ named_is (mark_symbol m) n e = absurd cc
 
 literal_is : (s : Symbol) (v : Literal) → literal_of s ≡ Some v → s ≡ literal v
 literal_is (name n) v e = absurd cc
-literal_is (frame_word w) v e = absurd cc
+literal_is (keyword_word w) v e = absurd cc
 literal_is (type_word k) v e = absurd cc
 literal_is (literal u) v e = ap (λ (x : Literal). literal x) (some_same u v e)
 literal_is (mnemonic_word m) v e = absurd cc
@@ -70,7 +70,7 @@ literal_is (mark_symbol m) v e = absurd cc
 
 type_is : (s : Symbol) (k : DeclaredType) → type_of s ≡ Some k → s ≡ type_word k
 type_is (name n) k e = absurd cc
-type_is (frame_word w) k e = absurd cc
+type_is (keyword_word w) k e = absurd cc
 type_is (type_word l) k e = ap (λ (x : DeclaredType). type_word x) (some_same l k e)
 type_is (literal v) k e = absurd cc
 type_is (mnemonic_word m) k e = absurd cc
@@ -78,7 +78,7 @@ type_is (mark_symbol m) k e = absurd cc
 
 elementary_is : (s : Symbol) (k : DeclaredType) → elementary_of s ≡ Some k → (t : ElementaryType) × (s ≡ type_word (Elementary t)) × (k ≡ Elementary t)
 elementary_is (name n) k e = absurd cc
-elementary_is (frame_word w) k e = absurd cc
+elementary_is (keyword_word w) k e = absurd cc
 elementary_is (type_word (Elementary t)) k e = (t, refl, sym (some_same (Elementary t) k e))
 elementary_is (type_word (Timer t)) k e = absurd cc
 elementary_is (literal v) k e = absurd cc
@@ -87,7 +87,7 @@ elementary_is (mark_symbol m) k e = absurd cc
 
 mnemonic_is : (s : Symbol) → is_mnemonic s ≡ true → (m : Mnemonic) × (s ≡ mnemonic_word m)
 mnemonic_is (name n) e = absurd cc
-mnemonic_is (frame_word w) e = absurd cc
+mnemonic_is (keyword_word w) e = absurd cc
 mnemonic_is (type_word k) e = absurd cc
 mnemonic_is (literal v) e = absurd cc
 mnemonic_is (mnemonic_word m) e = (m, refl)
@@ -95,7 +95,7 @@ mnemonic_is (mark_symbol m) e = absurd cc
 
 only_assign : (s : Symbol) → is_assign s ≡ true → s ≡ mark_symbol mark.Assign
 only_assign (name n) e = absurd cc
-only_assign (frame_word w) e = absurd cc
+only_assign (keyword_word w) e = absurd cc
 only_assign (type_word k) e = absurd cc
 only_assign (literal v) e = absurd cc
 only_assign (mnemonic_word m) e = absurd cc
@@ -109,7 +109,7 @@ only_assign (mark_symbol mark.Close) e = absurd cc
 
 only_close : (s : Symbol) → is_close s ≡ true → s ≡ mark_symbol mark.Close
 only_close (name n) e = absurd cc
-only_close (frame_word w) e = absurd cc
+only_close (keyword_word w) e = absurd cc
 only_close (type_word k) e = absurd cc
 only_close (literal v) e = absurd cc
 only_close (mnemonic_word m) e = absurd cc
@@ -123,7 +123,7 @@ only_close (mark_symbol mark.Close) e = refl
 
 only_colon : (s : Symbol) → is_colon s ≡ true → s ≡ mark_symbol mark.Colon
 only_colon (name n) e = absurd cc
-only_colon (frame_word w) e = absurd cc
+only_colon (keyword_word w) e = absurd cc
 only_colon (type_word k) e = absurd cc
 only_colon (literal v) e = absurd cc
 only_colon (mnemonic_word m) e = absurd cc
@@ -137,7 +137,7 @@ only_colon (mark_symbol mark.Close) e = absurd cc
 
 only_comma : (s : Symbol) → is_comma s ≡ true → s ≡ mark_symbol mark.Comma
 only_comma (name n) e = absurd cc
-only_comma (frame_word w) e = absurd cc
+only_comma (keyword_word w) e = absurd cc
 only_comma (type_word k) e = absurd cc
 only_comma (literal v) e = absurd cc
 only_comma (mnemonic_word m) e = absurd cc
@@ -151,7 +151,7 @@ only_comma (mark_symbol mark.Close) e = absurd cc
 
 only_dot : (s : Symbol) → is_dot s ≡ true → s ≡ mark_symbol mark.Dot
 only_dot (name n) e = absurd cc
-only_dot (frame_word w) e = absurd cc
+only_dot (keyword_word w) e = absurd cc
 only_dot (type_word k) e = absurd cc
 only_dot (literal v) e = absurd cc
 only_dot (mnemonic_word m) e = absurd cc
@@ -165,7 +165,7 @@ only_dot (mark_symbol mark.Close) e = absurd cc
 
 only_open : (s : Symbol) → is_open s ≡ true → s ≡ mark_symbol mark.Open
 only_open (name n) e = absurd cc
-only_open (frame_word w) e = absurd cc
+only_open (keyword_word w) e = absurd cc
 only_open (type_word k) e = absurd cc
 only_open (literal v) e = absurd cc
 only_open (mnemonic_word m) e = absurd cc
@@ -179,7 +179,7 @@ only_open (mark_symbol mark.Close) e = absurd cc
 
 only_semicolon : (s : Symbol) → is_semicolon s ≡ true → s ≡ mark_symbol mark.Semicolon
 only_semicolon (name n) e = absurd cc
-only_semicolon (frame_word w) e = absurd cc
+only_semicolon (keyword_word w) e = absurd cc
 only_semicolon (type_word k) e = absurd cc
 only_semicolon (literal v) e = absurd cc
 only_semicolon (mnemonic_word m) e = absurd cc
@@ -412,7 +412,7 @@ label_line n rest more b =
     ap (λ (xs : List Symbol). parts_of (name n ∷ mark_symbol mark.Colon ∷ xs)) b.spelled ∙ ap (λ (o : Option (List Part)). option_map (λ ps. labelling n ∷ ps) o) b.read
 
 line_is : (ts : List Symbol) (ps : List Part) → IsLine ts ps → parts_of ts ≡ Some ps
-unfolding parts_of framed marked only_name named_line label_rest may_follow_label labelled
+unfolding parts_of keyword_line marked only_name named_line label_rest may_follow_label labelled
 line_is ts ps (blank e q) = ap parts_of e ∙ ap (λ (z : List Part). Some z) (sym q)
 line_is ts ps (heads n e q) = ap parts_of e ∙ ap (λ (z : List Part). Some z) (sym q)
 line_is ts ps (opens e q) = ap parts_of e ∙ ap (λ (z : List Part). Some z) (sym q)
@@ -654,7 +654,7 @@ declaration_read ts ps e = declared_case ts ps (parted is_colon ts) refl e
 
 statement_by_read : (m : Symbol) (ss : List Symbol) (ps : List Part) → statement_by m ss ≡ Some ps → IsStatement (m ∷ ss) ps
 statement_by_read (name n) ss ps e = absurd cc
-statement_by_read (frame_word w) ss ps e = absurd cc
+statement_by_read (keyword_word w) ss ps e = absurd cc
 statement_by_read (type_word k) ss ps e = absurd cc
 statement_by_read (literal v) ss ps e = absurd cc
 statement_by_read (mnemonic_word m) ss ps e = statement_read m ss ps e
@@ -683,13 +683,13 @@ only_is : (p : Part) (ss : List Symbol) (ps : List Part) → only p ss ≡ Some 
 only_is p [] ps e = (refl, sym (some_same (p ∷ []) ps e))
 only_is p (s ∷ ss) ps e = absurd cc
 
-framed_read : (w : Frame) (ss : List Symbol) (ps : List Part) → framed w ss ≡ Some ps → IsLine (frame_word w ∷ ss) ps
-unfolding framed
-framed_read frame.Program ss ps e = let m = map_some (λ n. heading n ∷ []) (only_name ss) ps e in heads m.0 (ap (λ (xs : List Symbol). frame_word frame.Program ∷ xs) (only_name_is ss m.0 m.1)) (sym m.2)
-framed_read frame.EndProgram ss ps e = let h = only_is ending ss ps e in ends (ap (λ (xs : List Symbol). frame_word frame.EndProgram ∷ xs) h.0) h.1
-framed_read frame.Var ss ps e = let h = only_is (opening Local) ss ps e in opens (ap (λ (xs : List Symbol). frame_word frame.Var ∷ xs) h.0) h.1
-framed_read frame.VarExternal ss ps e = let h = only_is (opening External) ss ps e in opens_external (ap (λ (xs : List Symbol). frame_word frame.VarExternal ∷ xs) h.0) h.1
-framed_read frame.EndVar ss ps e = let h = only_is closing ss ps e in closes (ap (λ (xs : List Symbol). frame_word frame.EndVar ∷ xs) h.0) h.1
+keyword_line_read : (w : Keyword) (ss : List Symbol) (ps : List Part) → keyword_line w ss ≡ Some ps → IsLine (keyword_word w ∷ ss) ps
+unfolding keyword_line
+keyword_line_read keyword.Program ss ps e = let m = map_some (λ n. heading n ∷ []) (only_name ss) ps e in heads m.0 (ap (λ (xs : List Symbol). keyword_word keyword.Program ∷ xs) (only_name_is ss m.0 m.1)) (sym m.2)
+keyword_line_read keyword.EndProgram ss ps e = let h = only_is ending ss ps e in ends (ap (λ (xs : List Symbol). keyword_word keyword.EndProgram ∷ xs) h.0) h.1
+keyword_line_read keyword.Var ss ps e = let h = only_is (opening Local) ss ps e in opens (ap (λ (xs : List Symbol). keyword_word keyword.Var ∷ xs) h.0) h.1
+keyword_line_read keyword.VarExternal ss ps e = let h = only_is (opening External) ss ps e in opens_external (ap (λ (xs : List Symbol). keyword_word keyword.VarExternal ∷ xs) h.0) h.1
+keyword_line_read keyword.EndVar ss ps e = let h = only_is closing ss ps e in closes (ap (λ (xs : List Symbol). keyword_word keyword.EndVar ∷ xs) h.0) h.1
 
 marked_read : (m : Mark) (ss : List Symbol) (ps : List Part) → marked m ss ≡ Some ps → IsLine (mark_symbol m ∷ ss) ps
 unfolding marked
@@ -705,7 +705,7 @@ line_read : (ts : List Symbol) (ps : List Part) → parts_of ts ≡ Some ps → 
 unfolding parts_of named_line
 line_read [] ps e = blank refl (sym (some_same [] ps e))
 line_read (name n ∷ ss) ps e = named_case n ss ps (label_rest ss) refl e
-line_read (frame_word w ∷ ss) ps e = framed_read w ss ps e
+line_read (keyword_word w ∷ ss) ps e = keyword_line_read w ss ps e
 line_read (type_word k ∷ ss) ps e = absurd cc
 line_read (literal v ∷ ss) ps e = absurd cc
 line_read (mnemonic_word m ∷ ss) ps e = states (statement_read m ss ps e)

@@ -16,7 +16,7 @@ use Rattle.il_text.specs.ReaderViews.{read_on}
 use Rattle.il_text.specs.Runs.{IsPiece}
 use Rattle.bay_base.specs.Names.{same_name}
 use Rattle.il_text.specs.Symbols.{piece, cut, mark_of}
-use Rattle.il_text.specs.Tokens.{Symbol, name, frame_word, type_word, literal, mnemonic_word, mark_symbol, Piece, blank, line_end, token, bad_token, bad_literal}
+use Rattle.il_text.specs.Tokens.{Symbol, name, keyword_word, type_word, literal, mnemonic_word, mark_symbol, Piece, blank, line_end, token, bad_token, bad_literal}
 use Rattle.il_text.specs.declared.fault.TextFault.{TextFault}
 use Rattle.il_text.specs.declared.fault.TextFault.TheVariants.{BadToken, BadLine, BadLiteral}
 use Rattle.bay_base.proofs.ListLemmas.{front_of, none_left}
@@ -275,7 +275,7 @@ unfolding parts_of marked
 hopeless_parts [] more h = absurd (false≢true h)
 hopeless_parts (s ∷ []) more h = absurd (false≢true h)
 hopeless_parts (name n ∷ t ∷ ss) more h = named_nothing n t (ss ++ more) h
-hopeless_parts (frame_word w ∷ t ∷ ss) more h = absurd (false≢true h)
+hopeless_parts (keyword_word w ∷ t ∷ ss) more h = absurd (false≢true h)
 hopeless_parts (mnemonic_word m ∷ t ∷ ss) more h = absurd (false≢true h)
 hopeless_parts (type_word k ∷ t ∷ ss) more h = refl
 hopeless_parts (literal v ∷ t ∷ ss) more h = refl

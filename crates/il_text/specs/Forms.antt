@@ -4,7 +4,7 @@ use Rattle.std.specs.List.{position_or_len}
 use Rattle.bay_base.specs.Names.{same_name}
 use Rattle.il_text.specs.Listing.{Place, named, output, Source, constant, variable, Action, load, store, combine, invert, convert, jump, leave, call}
 use Rattle.il_text.specs.Parts.{Part, heading, opening, declaring, closing, labelling, acting, entering, leaving, ending}
-use Rattle.il_text.specs.Tokens.{Symbol, name, frame_word, type_word, literal, mnemonic_word, mark_symbol}
+use Rattle.il_text.specs.Tokens.{Symbol, name, keyword_word, type_word, literal, mnemonic_word, mark_symbol}
 use Rattle.il_text.specs.declared.form.Tail.{Tail}
 use Rattle.il_text.specs.declared.program.DeclaredType.{DeclaredType}
 use Rattle.il_text.specs.declared.program.DeclaredType.TheVariants.{Elementary}
@@ -15,8 +15,8 @@ use Rattle.il_text.specs.declared.program.Operator.{Operator}
 use Rattle.il_text.specs.declared.program.Output.{Output}
 use Rattle.il_text.specs.declared.program.Output.TheVariants as gives
 use Rattle.il_text.specs.declared.program.Scope.TheVariants.{Local, External}
-use Rattle.il_text.specs.declared.token.Frame.{Frame}
-use Rattle.il_text.specs.declared.token.Frame.TheVariants as frame
+use Rattle.il_text.specs.declared.token.Keyword.{Keyword}
+use Rattle.il_text.specs.declared.token.Keyword.TheVariants as keyword
 use Rattle.il_text.specs.declared.token.Mark.{Mark}
 use Rattle.il_text.specs.declared.token.Mark.TheVariants as mark
 use Rattle.il_text.specs.declared.token.Mnemonic.{Mnemonic}
@@ -256,13 +256,13 @@ abbrev pub only : Part → List Symbol → Option (List Part)
 only p [] = Some (p ∷ [])
 only p (s ∷ ss) = None
 
--- a word of the frame: PROGRAM has a name, the others stand alone
-unfoldable pub framed : Frame → List Symbol → Option (List Part)
-framed frame.Program ss = option_map (λ n. heading n ∷ []) (only_name ss)
-framed frame.EndProgram ss = only ending ss
-framed frame.Var ss = only (opening Local) ss
-framed frame.VarExternal ss = only (opening External) ss
-framed frame.EndVar ss = only closing ss
+-- a keyword: PROGRAM has a name, the others stand alone
+unfoldable pub keyword_line : Keyword → List Symbol → Option (List Part)
+keyword_line keyword.Program ss = option_map (λ n. heading n ∷ []) (only_name ss)
+keyword_line keyword.EndProgram ss = only ending ss
+keyword_line keyword.Var ss = only (opening Local) ss
+keyword_line keyword.VarExternal ss = only (opening External) ss
+keyword_line keyword.EndVar ss = only closing ss
 
 -- a line that begins with this mark
 unfoldable pub marked : Mark → List Symbol → Option (List Part)
@@ -271,7 +271,7 @@ marked other ss = None
 
 abbrev pub by_first : Symbol → List Symbol → List Symbol → Option (List Part)
 by_first (name n) rest ss = named_line n rest ss
-by_first (frame_word w) rest ss = framed w rest
+by_first (keyword_word w) rest ss = keyword_line w rest
 by_first (type_word k) rest ss = None
 by_first (literal v) rest ss = None
 by_first (mnemonic_word m) rest ss = statement m rest

@@ -11,7 +11,7 @@ use crate::program::{
     Argument, Arguments, Condition, DeclaredType, Input, Instruction, Literal, Operand, Operator,
     Output, Scope, StoreKind, Variable,
 };
-use crate::token::{Frame, Mark, Mnemonic, Token};
+use crate::token::{Keyword, Mark, Mnemonic, Token};
 use bay_base::names::same_name;
 
 /// An instruction, or an operator with the opening of its parenthesis.
@@ -520,17 +520,17 @@ fn labelled<'t, 'a>(label: &'a str, tokens: &'t [Token<'a>]) -> Option<Line<'t, 
     }
 }
 
-/// A line that begins with a word of the frame.
-#[tactic(auto, unfolding(crate::specs::Forms::framed))]
-fn framed<'t, 'a>(word: Frame, tokens: &'t [Token<'a>]) -> Option<Line<'t, 'a>>
-    ensures { option_and_then line_parts result ≡ spec.framed word (symbols_of tokens.now) }
+/// A line that begins with a word of the keyword.
+#[tactic(auto, unfolding(crate::specs::Forms::keyword_line))]
+fn keyword_line<'t, 'a>(word: Keyword, tokens: &'t [Token<'a>]) -> Option<Line<'t, 'a>>
+    ensures { option_and_then line_parts result ≡ spec.keyword_line word (symbols_of tokens.now) }
 {
     let line = match word {
-        Frame::Program => return only_name(tokens).map(Line::Heading),
-        Frame::EndProgram => Line::Ending,
-        Frame::Var => Line::Opening(Scope::Local),
-        Frame::VarExternal => Line::Opening(Scope::External),
-        Frame::EndVar => Line::Closing,
+        Keyword::Program => return only_name(tokens).map(Line::Heading),
+        Keyword::EndProgram => Line::Ending,
+        Keyword::Var => Line::Opening(Scope::Local),
+        Keyword::VarExternal => Line::Opening(Scope::External),
+        Keyword::EndVar => Line::Closing,
     };
     if tokens.is_empty() { Some(line) } else { None }
 }
@@ -577,7 +577,7 @@ pub(crate) fn line_of<'t, 'a>(tokens: &'t [Token<'a>]) -> Option<Line<'t, 'a>>
     };
     match *first {
         Token::Name(name) => named_line(name, rest, tokens),
-        Token::Frame(word) => framed(word, rest),
+        Token::Keyword(word) => keyword_line(word, rest),
         Token::Mnemonic(mnemonic) => statement_line(mnemonic, rest),
         Token::Mark(mark) => marked(mark, rest),
         Token::Type(_) | Token::Literal(_) => None,
