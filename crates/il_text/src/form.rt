@@ -9,7 +9,7 @@ ghost use Rattle.il_text.specs.Views.{action_of, argument_of, arguments_of, plac
 
 use crate::program::{
     Argument, Arguments, Condition, DeclaredType, Input, Instruction, Literal, Operand, Operator,
-    Output, Scope, StoreKind, Variable,
+    Output, Scope, StoreKind, SymbolicVariable,
 };
 use crate::token::{Keyword, Mark, Mnemonic, Token};
 use bay_base::names::same_name;
@@ -162,21 +162,21 @@ fn output_named(word: &str) -> Option<Output>
 
 /// The output of a timer, by the tokens of both names.
 #[tactic(auto, unfolding(crate::specs::Forms::output_by))]
-fn output_by<'a>(timer: Token<'a>, output: Token<'a>) -> Option<Variable<'a>>
+fn output_by<'a>(timer: Token<'a>, output: Token<'a>) -> Option<SymbolicVariable<'a>>
     ensures { option_map place_of result ≡ spec.output_by (symbol_of timer.entry) (symbol_of output.entry) }
 {
     let timer = name_of(timer)?;
     let output = output_named(name_of(output)?)?;
-    Some(Variable::Output { timer, output })
+    Some(SymbolicVariable::Output { timer, output })
 }
 
 /// A name, or a name with `.Q` or `.ET`.
 #[tactic(auto, unfolding(crate::specs::Forms::place))]
-fn place<'a>(tokens: &[Token<'a>]) -> Option<Variable<'a>>
+fn place<'a>(tokens: &[Token<'a>]) -> Option<SymbolicVariable<'a>>
     ensures { option_map place_of result ≡ spec.place (symbols_of tokens.now) }
 {
     match tokens {
-        [only] => name_of(*only).map(Variable::Name),
+        [only] => name_of(*only).map(SymbolicVariable::Name),
         [timer, dot, output] if is_dot(*dot) => output_by(*timer, *output),
         _ => None,
     }

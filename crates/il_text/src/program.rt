@@ -81,7 +81,7 @@ pub enum Output {
 
 /// What an instruction reads or writes by name, with the spelling of the text.
 #[derive(Clone, Copy, Debug)]
-pub enum Variable<'a> {
+pub enum SymbolicVariable<'a> {
     /// A name.
     Name(&'a str),
     /// A timer's name and one of its outputs.
@@ -92,7 +92,7 @@ pub enum Variable<'a> {
 #[derive(Clone, Copy, Debug)]
 pub enum Operand<'a> {
     Literal(Literal),
-    Variable(Variable<'a>),
+    Variable(SymbolicVariable<'a>),
 }
 
 /// An operator that combines the current result with an operand (IEC 61131-3:2003, table 52).
@@ -180,7 +180,7 @@ pub enum Instruction<'a> {
     /// `ST`, `STN`, `S`, `R`: the current result is stored.
     Store {
         kind: StoreKind,
-        target: Variable<'a>,
+        target: SymbolicVariable<'a>,
     },
     /// An operator: the current result is combined with the operand, which is negated first where it
     /// says so.
