@@ -8,7 +8,7 @@ use Rattle.il_text.specs.Listing.{Action, load, store, combine, invert, convert,
 use Rattle.il_text.specs.Parts.{Part, heading, opening, declaring, closing, labelling, acting, entering, leaving, ending}
 use Rattle.il_text.specs.Places.{last_line}
 use Rattle.il_text.specs.Reading.{onto, lines, then_on, tokens_of, Read, is_instruction, has_instruction, past_limit, counted, bounded, limited, stepped, after_parts, after_line, whole_at, reading, none_yet, program_of}
-use Rattle.il_text.specs.Steps.{Opened, Reached, at_place, with_name, declared_in, with_declarations, with_item, with_opened, is_start, is_between, block_scope, is_outside, is_some, is_load, may_begin_with, declared_here, closed_block, left_here, may_stand, may_act, may_enter, may_leave, step, steps}
+use Rattle.il_text.specs.Steps.{Opened, Reached, at_place, with_name, declared_in, with_declarations, with_item, with_opened, is_start, is_between_blocks, block_scope, is_outside, is_some, is_load, may_begin_with, declared_here, closed_block, left_here, may_stand, may_act, may_enter, may_leave, step, steps}
 use Rattle.il_text.specs.Symbols.{cut}
 use Rattle.il_text.specs.Texts.{ReadsAs}
 use Rattle.il_text.specs.Tokens.{Symbol, Piece, blank, line_end, token, bad_token, bad_literal}
@@ -167,7 +167,7 @@ left-up n r (f ∷ fs) =
 step-up : (n : ℕ) (r : Reached) (p : Part) → step n (upper_reached r) (upper_part p) ≡ option_map upper_reached (step n r p)
 unfolding step
 step-up n r (heading name) = cond_map upper_reached (is_start r.place) (Some (with_name name r))
-step-up n r (opening scope) = cond_map upper_reached (is_between r.place) (Some (at_place (place.Block scope) r))
+step-up n r (opening scope) = cond_map upper_reached (is_between_blocks r.place) (Some (at_place (place.Block scope) r))
 step-up n r (declaring ns kind initial) = declaring-up n ns kind initial r (block_scope r.place)
 step-up n r closing = closing-up r (block_scope r.place)
 step-up n r (labelling name) =

@@ -9,7 +9,7 @@ use Rattle.il_text.specs.Listing.{label, action, PlainProgram}
 use Rattle.il_text.specs.Parts.{Part, heading, opening, declaring, closing, labelling, acting, entering, leaving, ending}
 use Rattle.il_text.specs.Places.{last_line}
 use Rattle.il_text.specs.Reading.{Read, then_on, tokens_of, is_instruction, has_instruction, past_limit, counted, bounded, stepped, after_parts, after_line, whole_at, reading, none_yet, program_of, lines}
-use Rattle.il_text.specs.Steps.{Reached, nothing_read, at_place, with_name, with_item, with_opened, with_declarations, declared_in, left_here, block_scope, is_start, is_between, may_stand, may_act, may_enter, may_leave, step, steps}
+use Rattle.il_text.specs.Steps.{Reached, nothing_read, at_place, with_name, with_item, with_opened, with_declarations, declared_in, left_here, block_scope, is_start, is_between_blocks, may_stand, may_act, may_enter, may_leave, step, steps}
 use Rattle.il_text.specs.Symbols.{cut}
 use Rattle.il_text.specs.Texts.{Line, numbered, all_parts, is_entering, is_leaving, IsDeep, Allowed, no_program, too_deep, too_long, Refused, Ends, OnParts, OnTokens, Reads, ReadsAs}
 use Rattle.il_text.specs.Tokens.{Symbol, Piece}
@@ -35,7 +35,7 @@ unfolding step
 part_depth n r s (heading name) e =
     let d = depth_of r s (with_name name r) refl (cond_some (is_start r.place) (with_name name r) s e).1 in omega (arith, d)
 part_depth n r s (opening scope) e =
-    let d = depth_of r s (at_place (place.Block scope) r) refl (cond_some (is_between r.place) (at_place (place.Block scope) r) s e).1 in omega (arith, d)
+    let d = depth_of r s (at_place (place.Block scope) r) refl (cond_some (is_between_blocks r.place) (at_place (place.Block scope) r) s e).1 in omega (arith, d)
 part_depth n r s (declaring ns kind initial) e =
     let c = declared_some n ns kind initial r s (block_scope r.place) e in
     let d = depth_of r s (with_declarations (map (declared_in n c.0 kind initial) ns) r) refl c.3 in omega (arith, d)

@@ -99,8 +99,8 @@ fn is_start(place: Stage) -> bool
     matches!(place, Stage::Start)
 }
 
-fn is_between(place: Stage) -> bool
-    ensures { result ≡ rules.is_between place }
+fn is_between_blocks(place: Stage) -> bool
+    ensures { result ≡ rules.is_between_blocks place }
 {
     matches!(place, Stage::Declarations)
 }
@@ -289,7 +289,7 @@ impl<'a> Draft<'a> {
         ensures bad { IfErr result (λ e. e ≡ BadLine line) }
         ensures none { IfErr result (λ e. step line (reached_of self.old) (opening scope) ≡ None) }
     {
-        if !is_between(self.place) {
+        if !is_between_blocks(self.place) {
             return Err(TextFault::BadLine { line });
         }
         self.place = Stage::Block(scope);
