@@ -4,7 +4,7 @@ use Rattle.std.proofs.lemmas.Bool.{false≢true, eqb-true, ne_eqb}
 use Rattle.std.proofs.lemmas.List.{map-append}
 use Rattle.std.proofs.Math.Bool.{and-false}
 use Rattle.il_text.specs.Characters.{linked}
-use Rattle.il_text.specs.Forms.{names_from, declared_names, declared_by, after_front, parts_at, tail, declaration, is_colon, is_comma, label_rest, label_or, named_line, marked, is_hopeless, parts_of}
+use Rattle.il_text.specs.Forms.{names_from, declared_names, declared_by, after_front, parts_at, tail, declaration, is_mark, label_rest, label_or, named_line, marked, is_hopeless, parts_of}
 use Rattle.std.specs.List.{position_or_len}
 use Rattle.il_text.specs.declared.form.Tail.{Tail}
 use Rattle.il_text.specs.Listing.{PlainProgram}
@@ -230,43 +230,43 @@ pub step_token : (last : ℕ) (r : Read) (n : ℕ) (ss : List Symbol) (bs : List
 step_token last r n ss bs s e t h k = rw (cut_piece bs s e h, k) (read_token last r n ss t _)
 
 -- a name that neither a colon nor a comma follows begins no declaration
-tailed_names : (n : List ℕ) (c : Symbol) (xs : List Symbol) (t : Option Tail) → is_comma c ≡ false → option_and_then (λ k. declared_names k (name n ∷ c ∷ xs)) t ≡ None
+tailed_names : (n : List ℕ) (c : Symbol) (xs : List Symbol) (t : Option Tail) → is_mark mark.Comma c ≡ false → option_and_then (λ k. declared_names k (name n ∷ c ∷ xs)) t ≡ None
 unfolding names_from
 tailed_names n c xs None h = refl
 tailed_names n c xs (Some k) h = rw h refl
 
-fronted_names : (n : List ℕ) (c : Symbol) (xs back : List Symbol) → is_comma c ≡ false → declared_by (after_front (name n ∷ c ∷ xs) back) ≡ None
+fronted_names : (n : List ℕ) (c : Symbol) (xs back : List Symbol) → is_mark mark.Comma c ≡ false → declared_by (after_front (name n ∷ c ∷ xs) back) ≡ None
 fronted_names n c xs [] h = refl
 fronted_names n c xs (s ∷ rest) h = tailed_names n c xs (tail rest) h
 
-parted_names : (n : List ℕ) (c : Symbol) (more : List Symbol) (k : ℕ) → is_comma c ≡ false → declared_by (parts_at (suc (suc k)) (name n ∷ c ∷ more)) ≡ None
+parted_names : (n : List ℕ) (c : Symbol) (more : List Symbol) (k : ℕ) → is_mark mark.Comma c ≡ false → declared_by (parts_at (suc (suc k)) (name n ∷ c ∷ more)) ≡ None
 unfolding parts_at
 parted_names n c more k h = fronted_names n c (take k more) (drop k more) h
 
 two_more : (k : ℕ) → 1 + (1 + k) ≡ suc (suc k)
 two_more k = omega arith
 
-position_names : (n : List ℕ) (c : Symbol) (more : List Symbol) → is_colon c ≡ false → position_or_len is_colon (name n ∷ c ∷ more) ≡ suc (suc (position_or_len is_colon more))
-position_names n c more h = rw h (two_more (position_or_len is_colon more))
+position_names : (n : List ℕ) (c : Symbol) (more : List Symbol) → is_mark mark.Colon c ≡ false → position_or_len (is_mark mark.Colon) (name n ∷ c ∷ more) ≡ suc (suc (position_or_len (is_mark mark.Colon) more))
+position_names n c more h = rw h (two_more (position_or_len (is_mark mark.Colon) more))
 
 neither : (a b : Bool) → not (a || b) ≡ true → (a ≡ false) × (b ≡ false)
 neither true b h = absurd (false≢true h)
 neither false true h = absurd (false≢true h)
 neither false false h = (refl, refl)
 
-no_declaration : (n : List ℕ) (c : Symbol) (more : List Symbol) → is_colon c ≡ false → is_comma c ≡ false → declaration (name n ∷ c ∷ more) ≡ None
+no_declaration : (n : List ℕ) (c : Symbol) (more : List Symbol) → is_mark mark.Colon c ≡ false → is_mark mark.Comma c ≡ false → declaration (name n ∷ c ∷ more) ≡ None
 unfolding declaration
 no_declaration n c more h k =
-    ap (λ (m : ℕ). declared_by (parts_at m (name n ∷ c ∷ more))) (position_names n c more h) ∙ parted_names n c more (position_or_len is_colon more) k
+    ap (λ (m : ℕ). declared_by (parts_at m (name n ∷ c ∷ more))) (position_names n c more h) ∙ parted_names n c more (position_or_len (is_mark mark.Colon) more) k
 
-no_label : (c : Symbol) (more : List Symbol) → is_colon c ≡ false → label_rest (c ∷ more) ≡ None
+no_label : (c : Symbol) (more : List Symbol) → is_mark mark.Colon c ≡ false → label_rest (c ∷ more) ≡ None
 unfolding label_rest
 no_label c more h = rw h refl
 
-named_nothing : (n : List ℕ) (c : Symbol) (more : List Symbol) → not (is_colon c || is_comma c) ≡ true → named_line n (c ∷ more) (name n ∷ c ∷ more) ≡ None
+named_nothing : (n : List ℕ) (c : Symbol) (more : List Symbol) → not (is_mark mark.Colon c || is_mark mark.Comma c) ≡ true → named_line n (c ∷ more) (name n ∷ c ∷ more) ≡ None
 unfolding named_line
 named_nothing n c more h =
-    let k = neither (is_colon c) (is_comma c) h in
+    let k = neither (is_mark mark.Colon c) (is_mark mark.Comma c) h in
     ap (label_or n (name n ∷ c ∷ more)) (no_label c more k.0) ∙ no_declaration n c more k.0 k.1
 
 -- tokens with which no line begins make no line, whatever follows

@@ -15,9 +15,9 @@ ghost use Rattle.il_text.specs.Views.{action_of, declared_of, entry_of};
 ghost use Rattle.il_text.specs.declared.fault.TextFault.TheVariants.{BadLine, OutOfMemory};
 
 use crate::fault::TextFault;
-use crate::form::{Line, Statement, Tail, is_comma, line_of, name_of};
+use crate::form::{Line, Statement, Tail, is_mark, line_of, name_of};
 use crate::program::{Declaration, Instruction, Item, Literal, Operand, Operator, Scope};
-use crate::token::Token;
+use crate::token::{Mark, Token};
 use std::alloc::Global;
 use std::mem;
 
@@ -569,7 +569,7 @@ fn declare_token<'a>(
 {
     let line = declaring.line;
     if after_name {
-        if is_comma(token) {
+        if is_mark(token, Mark::Comma) {
             return Ok(false);
         }
         return Err(TextFault::BadLine { line });

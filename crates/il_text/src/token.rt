@@ -25,7 +25,7 @@ pub enum Mnemonic {
 }
 
 /// A mark of a line.
-#[derive(Clone, Copy)]
+#[derive(Clone, Copy, PartialEq, Eq)]
 pub enum Mark {
     Colon,
     Assign,
