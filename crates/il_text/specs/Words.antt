@@ -10,7 +10,7 @@ use Rattle.il_text.specs.declared.program.DeclaredType.TheVariants.{Elementary, 
 use Rattle.il_text.specs.declared.program.Literal.TheVariants.{Truth}
 use Rattle.il_text.specs.declared.program.Operator.TheVariants as operator
 use Rattle.il_text.specs.declared.program.StoreKind.TheVariants as kind
-use Rattle.il_text.specs.declared.program.TimerKind.TheVariants as timer
+use Rattle.bay_base.specs.declared.types.TimerKind.TheVariants as timer
 use Rattle.il_text.specs.declared.token.Keyword.TheVariants as keyword
 use Rattle.il_text.specs.declared.token.Mnemonic.TheVariants as mnemonic
 use Rattle.il_text.specs.Tokens.{Symbol, keyword_word, type_word, literal, mnemonic_word}

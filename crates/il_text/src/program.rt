@@ -3,7 +3,7 @@ ghost use Rattle.std.specs.Prelude.{◌≡◌, map, true};
 ghost use Rattle.il_text.specs.Grammar.{rises, item_lines};
 ghost use Rattle.il_text.specs.ItemViews.{entry_of};
 
-use bay_base::types::ElementaryType;
+use bay_base::types::{ElementaryType, TimerKind};
 
 /// A program: its name, what it declares, and its items in the order of the text. The lines of the
 /// items never fall.
@@ -42,15 +42,6 @@ pub enum DeclaredType {
     Elementary(ElementaryType),
     /// An instance of a timer.
     Timer(TimerKind),
-}
-
-/// A timer (IEC 61131-3:2003, 2.5.2.3.4).
-#[derive(Clone, Copy, Debug)]
-pub enum TimerKind {
-    /// `TON`
-    OnDelay,
-    /// `TOF`
-    OffDelay,
 }
 
 /// A literal: its type, where it has one, and its value (IEC 61131-3:2003, 2.2).

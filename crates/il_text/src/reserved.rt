@@ -4,11 +4,9 @@ ghost use Rattle.il_text.specs.TokenViews.{symbol_of};
 ghost use Rattle.il_text.specs.Words as spec;
 ghost use Rattle.il_text.specs.declared.token.Mnemonic.TheVariants.{Combine};
 
-use crate::program::{
-    Condition, Conversion, DeclaredType, Literal, Operator, StoreKind, TimerKind,
-};
+use crate::program::{Condition, Conversion, DeclaredType, Literal, Operator, StoreKind};
 use crate::token::{Keyword, Mnemonic, Token};
-use bay_base::types::ElementaryType;
+use bay_base::types::{ElementaryType, TimerKind};
 use bay_base::words::{ReservedWord, reserved_word};
 
 pub(crate) fn combine(operator: Operator, negated: bool) -> Mnemonic
