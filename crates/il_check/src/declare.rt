@@ -19,10 +19,10 @@ use crate::rules::number_in;
 use crate::typed::{External, Slot, Timer, Variable};
 use bay_base::names::same_name;
 use bay_base::text::Text;
-use bay_base::types::ElementaryType;
+use bay_base::types::{ElementaryType, TimerKind};
 use bay_config::bay::Point;
 use il_image::value::Value;
-use il_text::program::{Declaration, DeclaredType, Literal, Scope, TimerKind};
+use il_text::program::{Declaration, DeclaredType, Literal, Scope};
 use std::alloc::{AllocError, Global};
 use std::collections::BTreeMap;
 

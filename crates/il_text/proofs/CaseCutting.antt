@@ -11,7 +11,7 @@ use Rattle.il_text.specs.Words.{symbol_of_word, reserved_symbol}
 use Rattle.il_text.specs.Pieces.{opens, ends, closes, blanked, blank_of, joins, join, pieces}
 use Rattle.il_text.specs.Places.{last_line}
 use Rattle.il_text.specs.Symbols.{literal_piece, name_or_reserved, plain_word, word, mark_of, mark_piece, is_line_end, piece, cut}
-use Rattle.il_text.specs.Tokens.{Symbol, name, frame_word, type_word, literal, mnemonic_word, mark_symbol, Piece, blank, line_end, token, bad_token, bad_literal}
+use Rattle.il_text.specs.Tokens.{Symbol, name, keyword_word, type_word, literal, mnemonic_word, mark_symbol, Piece, blank, line_end, token, bad_token, bad_literal}
 use Rattle.bay_base.specs.Words.{reserved_of}
 use Rattle.bay_base.specs.declared.words.ReservedWord.{ReservedWord}
 use Rattle.bay_base.specs.declared.words.ReservedWord.TheVariants as word_is
@@ -28,7 +28,7 @@ use Rattle.il_text.proofs.CaseLemmas.{up, up-eqb, up-underscore, up-digit, up-al
 
 abbrev pub upper_symbol : Symbol → Symbol
 upper_symbol (name n) = name (map up n)
-upper_symbol (frame_word w) = frame_word w
+upper_symbol (keyword_word w) = keyword_word w
 upper_symbol (type_word k) = type_word k
 upper_symbol (literal v) = literal v
 upper_symbol (mnemonic_word m) = mnemonic_word m

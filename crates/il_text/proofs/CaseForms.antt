@@ -6,15 +6,15 @@ use Rattle.il_text.specs.Forms as form
 use Rattle.il_text.specs.LetterCase.{upper_place, upper_source, upper_argument, upper_action}
 use Rattle.il_text.specs.Listing.{Place, named, output, Source, Action, load, store, combine, invert, convert, jump, leave, call}
 use Rattle.il_text.specs.Parts.{Part, heading, opening, declaring, closing, labelling, acting, entering, leaving, ending}
-use Rattle.il_text.specs.Tokens.{Symbol, name, frame_word, type_word, literal, mnemonic_word, mark_symbol}
+use Rattle.il_text.specs.Tokens.{Symbol, name, keyword_word, type_word, literal, mnemonic_word, mark_symbol}
 use Rattle.il_text.specs.declared.form.Tail.{Tail}
 use Rattle.il_text.specs.declared.program.Input.{Input}
 use Rattle.il_text.specs.declared.program.Literal.{Literal}
 use Rattle.il_text.specs.declared.program.Operator.{Operator}
 use Rattle.il_text.specs.declared.program.Output.{Output}
 use Rattle.il_text.specs.declared.program.Scope.TheVariants.{Local, External}
-use Rattle.il_text.specs.declared.token.Frame.{Frame}
-use Rattle.il_text.specs.declared.token.Frame.TheVariants as frame
+use Rattle.il_text.specs.declared.token.Keyword.{Keyword}
+use Rattle.il_text.specs.declared.token.Keyword.TheVariants as keyword
 use Rattle.il_text.specs.declared.token.Mark.{Mark}
 use Rattle.il_text.specs.declared.token.Mark.TheVariants as mark
 use Rattle.il_text.specs.declared.token.Mnemonic.{Mnemonic}
@@ -42,7 +42,7 @@ upper_parts = map upper_part
 -- a test of a token that is no name
 kept : {A : Type 0} → (f : Symbol → A) → ((n : List ℕ) → f (name (map up n)) ≡ f (name n)) → (s : Symbol) → f (upper_symbol s) ≡ f s
 kept f h (name n) = h n
-kept f h (frame_word w) = refl
+kept f h (keyword_word w) = refl
 kept f h (type_word k) = refl
 kept f h (literal v) = refl
 kept f h (mnemonic_word m) = refl
@@ -50,7 +50,7 @@ kept f h (mark_symbol m) = refl
 
 name-s : (s : Symbol) → form.name_of (upper_symbol s) ≡ option_map (map up) (form.name_of s)
 name-s (name n) = refl
-name-s (frame_word w) = refl
+name-s (keyword_word w) = refl
 name-s (type_word k) = refl
 name-s (literal v) = refl
 name-s (mnemonic_word m) = refl
@@ -59,14 +59,8 @@ name-s (mark_symbol m) = refl
 literal-s : (s : Symbol) → form.literal_of (upper_symbol s) ≡ form.literal_of s
 literal-s s = kept form.literal_of (λ n. refl) s
 
-colon-s : (s : Symbol) → form.is_colon (upper_symbol s) ≡ form.is_colon s
-colon-s s = kept form.is_colon (λ n. refl) s
-
-comma-s : (s : Symbol) → form.is_comma (upper_symbol s) ≡ form.is_comma s
-comma-s s = kept form.is_comma (λ n. refl) s
-
-close-s : (s : Symbol) → form.is_close (upper_symbol s) ≡ form.is_close s
-close-s s = kept form.is_close (λ n. refl) s
+mark-s : (m : Mark) (s : Symbol) → form.is_mark m (upper_symbol s) ≡ form.is_mark m s
+mark-s m s = kept (form.is_mark m) (λ n. refl) s
 
 cond_map : {A B : Type 0} → (f : A → B) (b : Bool) (o : Option A) → cond b (option_map f o) None ≡ option_map f (cond b o None)
 cond_map f true o = refl
@@ -116,8 +110,8 @@ place-up [] = refl
 place-up (s ∷ []) = ap (option_map named) (name-s s) ∙ named_to (form.name_of s)
 place-up (s ∷ d ∷ []) = refl
 place-up (s ∷ d ∷ o ∷ []) =
-    ap (λ (b : Bool). cond b (form.output_by (upper_symbol s) (upper_symbol o)) None) (kept form.is_dot (λ n. refl) d)
-    ∙ cond_to upper_place (form.is_dot d) (form.output_by (upper_symbol s) (upper_symbol o)) (form.output_by s o) (output_by-up s o)
+    ap (λ (b : Bool). cond b (form.output_by (upper_symbol s) (upper_symbol o)) None) (mark-s mark.Dot d)
+    ∙ cond_to upper_place (form.is_mark mark.Dot d) (form.output_by (upper_symbol s) (upper_symbol o)) (form.output_by s o) (output_by-up s o)
 place-up (s ∷ d ∷ o ∷ t ∷ ss) = refl
 
 only_literal-up : (ss : List Symbol) → form.only_literal (upper_symbols ss) ≡ form.only_literal ss
@@ -154,8 +148,8 @@ unfolding form.argument
 argument-up [] = refl
 argument-up (i ∷ []) = refl
 argument-up (i ∷ a ∷ ss) =
-    rw (kept form.is_assign (λ n. refl) a, name-s i, inputs_by (form.name_of i), operand-up ss)
-    (cond_to upper_argument (form.is_assign a) _ _ (given_by (option_and_then form.input_named (form.name_of i)) (form.operand ss)))
+    rw (mark-s mark.Assign a, name-s i, inputs_by (form.name_of i), operand-up ss)
+    (cond_to upper_argument (form.is_mark mark.Assign a) _ _ (given_by (option_and_then form.input_named (form.name_of i)) (form.operand ss)))
 
 position-up : (f : Symbol → Bool) → ((s : Symbol) → f (upper_symbol s) ≡ f s) → (ss : List Symbol) → position_or_len f (upper_symbols ss) ≡ position_or_len f ss
 position-up f h [] = refl
@@ -172,8 +166,8 @@ parts_at-up : (n : ℕ) (ss : List Symbol) → form.parts_at n (upper_symbols ss
 unfolding form.parts_at
 parts_at-up n ss = rw (take-map upper_symbol n ss, drop-map upper_symbol n ss) (after_by (take n ss) (drop n ss))
 
-parted-up : (f : Symbol → Bool) → ((s : Symbol) → f (upper_symbol s) ≡ f s) → (ss : List Symbol) → form.parted f (upper_symbols ss) ≡ option_map up_both (form.parted f ss)
-parted-up f h ss = ap (λ (n : ℕ). form.parts_at n (upper_symbols ss)) (position-up f h ss) ∙ parts_at-up (position_or_len f ss) ss
+parted-up : (m : Mark) (ss : List Symbol) → form.parted m (upper_symbols ss) ≡ option_map up_both (form.parted m ss)
+parted-up m ss = ap (λ (n : ℕ). form.parts_at n (upper_symbols ss)) (position-up (form.is_mark m) (mark-s m) ss) ∙ parts_at-up (position_or_len (form.is_mark m) ss) ss
 
 abbrev up_arguments : List (Input × Source) → List (Input × Source)
 up_arguments = map upper_argument
@@ -202,7 +196,7 @@ list_by ss (Some p) = rw (argument-up p.0, argument-up p.1) (two_by (form.argume
 arguments-up : (ss : List Symbol) → form.arguments (upper_symbols ss) ≡ option_map up_arguments (form.arguments ss)
 unfolding form.arguments
 arguments-up [] = refl
-arguments-up (s ∷ ss) = ap (form.argument_list (upper_symbols (s ∷ ss))) (parted-up form.is_comma comma-s (s ∷ ss)) ∙ list_by (s ∷ ss) (form.parted form.is_comma (s ∷ ss))
+arguments-up (s ∷ ss) = ap (form.argument_list (upper_symbols (s ∷ ss))) (parted-up mark.Comma (s ∷ ss)) ∙ list_by (s ∷ ss) (form.parted mark.Comma (s ∷ ss))
 
 ends_by : (front rest : List Symbol) → form.ends_with (upper_symbols front) (upper_symbols rest) ≡ option_map up_arguments (form.ends_with front rest)
 ends_by front [] = arguments-up front
@@ -214,7 +208,7 @@ closed_by-up (Some p) = ends_by p.0 p.1
 
 closed-up : (ss : List Symbol) → form.closed_arguments (upper_symbols ss) ≡ option_map up_arguments (form.closed_arguments ss)
 unfolding form.closed_arguments
-closed-up ss = ap form.closed_by (parted-up form.is_close close-s ss) ∙ closed_by-up (form.parted form.is_close ss)
+closed-up ss = ap form.closed_by (parted-up mark.Close ss) ∙ closed_by-up (form.parted mark.Close ss)
 
 call_by : (n : Option (List ℕ)) (o : Option (List (Input × Source)))
     → option_and_then (λ n. option_map (call n) (option_map up_arguments o)) (option_map (map up) n) ≡ option_map upper_action (option_and_then (λ n. option_map (call n) o) n)
@@ -227,7 +221,7 @@ unfolding form.called
 called-up [] = refl
 called-up (t ∷ []) = refl
 called-up (t ∷ o ∷ ss) =
-    rw (kept form.is_open (λ n. refl) o, name-s t, closed-up ss) (cond_to upper_action (form.is_open o) _ _ (call_by (form.name_of t) (form.closed_arguments ss)))
+    rw (mark-s mark.Open o, name-s t, closed-up ss) (cond_to upper_action (form.is_mark mark.Open o) _ _ (call_by (form.name_of t) (form.closed_arguments ss)))
 
 one_part-up : (o : Option Action) → form.one_part (option_map upper_action o) ≡ option_map upper_parts (form.one_part o)
 one_part-up None = refl
@@ -259,8 +253,8 @@ cond_two false x y p q e f = f
 combined-up : (o : Operator) (n : Bool) (ss : List Symbol) → form.combined o n (upper_symbols ss) ≡ option_map upper_parts (form.combined o n ss)
 combined-up o n [] = refl
 combined-up o n (s ∷ ss) =
-    ap (λ (b : Bool). cond b (form.entered o n (upper_symbols ss)) (form.one_part (option_map (combine o n) (form.operand (upper_symbols (s ∷ ss)))))) (kept form.is_open (λ m. refl) s)
-    ∙ cond_two (form.is_open s) (form.entered o n ss) (form.one_part (option_map (combine o n) (form.operand (s ∷ ss)))) _ _
+    ap (λ (b : Bool). cond b (form.entered o n (upper_symbols ss)) (form.one_part (option_map (combine o n) (form.operand (upper_symbols (s ∷ ss)))))) (mark-s mark.Open s)
+    ∙ cond_two (form.is_mark mark.Open s) (form.entered o n ss) (form.one_part (option_map (combine o n) (form.operand (s ∷ ss)))) _ _
     (entered-up o n ss)
     (made_of upper_source (combine o n) (λ x. refl) (form.operand (upper_symbols (s ∷ ss))) (form.operand (s ∷ ss)) (operand-up (s ∷ ss)))
 
@@ -279,10 +273,10 @@ tail-up : (ss : List Symbol) → form.tail (upper_symbols ss) ≡ form.tail ss
 unfolding form.tail
 tail-up [] = refl
 tail-up (k ∷ []) = refl
-tail-up (k ∷ e ∷ []) = rw (kept form.is_semicolon (λ n. refl) e, kept form.type_of (λ n. refl) k) refl
+tail-up (k ∷ e ∷ []) = rw (mark-s mark.Semicolon e, kept form.type_of (λ n. refl) k) refl
 tail-up (k ∷ a ∷ v ∷ []) = refl
 tail-up (k ∷ a ∷ v ∷ e ∷ []) =
-    rw (kept form.is_assign (λ n. refl) a, kept form.is_semicolon (λ n. refl) e, literal-s v, kept form.elementary_of (λ n. refl) k) refl
+    rw (mark-s mark.Assign a, mark-s mark.Semicolon e, literal-s v, kept form.elementary_of (λ n. refl) k) refl
 tail-up (k ∷ a ∷ v ∷ e ∷ f ∷ ss) = refl
 
 abbrev upper_names : List (List ℕ) → List (List ℕ)
@@ -304,7 +298,7 @@ names-up false (s ∷ ss) =
     rw (name-s s, rest) (names_then (form.name_of s) (form.names_from true ss))
 names-up true (s ∷ ss) =
     let rest : form.names_from false (upper_symbols ss) ≡ option_map upper_names (form.names_from false ss) = unfold form.names_from in names-up false ss in
-    rw (comma-s s, rest) (cond_map upper_names (form.is_comma s) (form.names_from false ss))
+    rw (mark-s mark.Comma s, rest) (cond_map upper_names (form.is_mark mark.Comma s) (form.names_from false ss))
 
 declaring_by : (t : Tail) (q : Option (List (List ℕ)))
     → option_map (λ ns. declaring ns t.kind t.initial ∷ []) (option_map upper_names q) ≡ option_map upper_parts (option_map (λ ns. declaring ns t.kind t.initial ∷ []) q)
@@ -321,7 +315,7 @@ declared-up (Some p) = ap (option_and_then (λ t. form.declared_names t (upper_s
 
 declaration-up : (ss : List Symbol) → form.declaration (upper_symbols ss) ≡ option_map upper_parts (form.declaration ss)
 unfolding form.declaration
-declaration-up ss = ap form.declared_by (parted-up form.is_colon colon-s ss) ∙ declared-up (form.parted form.is_colon ss)
+declaration-up ss = ap form.declared_by (parted-up mark.Colon ss) ∙ declared-up (form.parted mark.Colon ss)
 
 follows-up : (ss : List Symbol) → form.may_follow_label (upper_symbols ss) ≡ form.may_follow_label ss
 unfolding form.may_follow_label
@@ -335,11 +329,11 @@ rest_by false ss = refl
 rest-up : (ss : List Symbol) → form.label_rest (upper_symbols ss) ≡ option_map upper_symbols (form.label_rest ss)
 unfolding form.label_rest
 rest-up [] = refl
-rest-up (c ∷ ss) = rw (colon-s c, follows-up ss) (rest_by (form.is_colon c && form.may_follow_label ss) ss)
+rest-up (c ∷ ss) = rw (mark-s mark.Colon c, follows-up ss) (rest_by (form.is_mark mark.Colon c && form.may_follow_label ss) ss)
 
 by-up : (s : Symbol) (ss : List Symbol) → form.statement_by (upper_symbol s) (upper_symbols ss) ≡ option_map upper_parts (form.statement_by s ss)
 by-up (name n) ss = refl
-by-up (frame_word w) ss = refl
+by-up (keyword_word w) ss = refl
 by-up (type_word k) ss = refl
 by-up (literal v) ss = refl
 by-up (mnemonic_word m) ss = statement-up m ss
@@ -370,13 +364,13 @@ heading_by : (o : Option (List ℕ)) → option_map (λ n. heading n ∷ []) (op
 heading_by None = refl
 heading_by (Some n) = refl
 
-framed-up : (w : Frame) (ss : List Symbol) → form.framed w (upper_symbols ss) ≡ option_map upper_parts (form.framed w ss)
-unfolding form.framed
-framed-up frame.Program ss = ap (option_map (λ n. heading n ∷ [])) (only_name-up ss) ∙ heading_by (form.only_name ss)
-framed-up frame.EndProgram ss = only-up ending ending refl ss
-framed-up frame.Var ss = only-up (opening Local) (opening Local) refl ss
-framed-up frame.VarExternal ss = only-up (opening External) (opening External) refl ss
-framed-up frame.EndVar ss = only-up closing closing refl ss
+keyword_line-up : (w : Keyword) (ss : List Symbol) → form.keyword_line w (upper_symbols ss) ≡ option_map upper_parts (form.keyword_line w ss)
+unfolding form.keyword_line
+keyword_line-up keyword.Program ss = ap (option_map (λ n. heading n ∷ [])) (only_name-up ss) ∙ heading_by (form.only_name ss)
+keyword_line-up keyword.EndProgram ss = only-up ending ending refl ss
+keyword_line-up keyword.Var ss = only-up (opening Local) (opening Local) refl ss
+keyword_line-up keyword.VarExternal ss = only-up (opening External) (opening External) refl ss
+keyword_line-up keyword.EndVar ss = only-up closing closing refl ss
 
 marked-up : (m : Mark) (ss : List Symbol) → form.marked m (upper_symbols ss) ≡ option_map upper_parts (form.marked m ss)
 unfolding form.marked
@@ -390,7 +384,7 @@ marked-up mark.Close ss = only-up leaving leaving refl ss
 
 first-up : (s : Symbol) (rest ss : List Symbol) → form.by_first (upper_symbol s) (upper_symbols rest) (upper_symbols ss) ≡ option_map upper_parts (form.by_first s rest ss)
 first-up (name n) rest ss = named_line-up n rest ss
-first-up (frame_word w) rest ss = framed-up w rest
+first-up (keyword_word w) rest ss = keyword_line-up w rest
 first-up (type_word k) rest ss = refl
 first-up (literal v) rest ss = refl
 first-up (mnemonic_word m) rest ss = statement-up m rest

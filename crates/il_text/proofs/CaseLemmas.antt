@@ -6,11 +6,12 @@ use Rattle.std.specs.Char.{to_ascii_uppercase, is_ascii_digit, is_ascii_alphabet
 use Rattle.std.specs.List.{position_or_len, prefix_len}
 use Rattle.std.specs.Str.Parse.{digits_value_after}
 use Rattle.std.specs.Prelude.{ℤ}
+use Rattle.bay_base.specs.Results.{◌>>=◌}
 use Rattle.bay_base.specs.Names.{same_name}
 use Rattle.il_text.specs.declared.literal.LiteralFault.{LiteralFault}
 use Rattle.il_text.specs.declared.program.Literal.TheVariants.{Lint}
 use Rattle.bay_base.proofs.NameLemmas.{same-upper}
-use Rattle.il_text.specs.Literals.{is_underscore, is_hash, is_integer, number, halves, base_of, decimal, based, integer, Signed, signed, read_on, truth_of, number_or_truth, bool_or_truth, typed_number, bool_literal, int_literal, dint_literal, time_literal, typed_bool, typed_int, typed_dint, typed_lint, typed_time, Duration, number_len, unit_len, number_of_part, with_part, part, total_of, milliseconds, prefixed}
+use Rattle.il_text.specs.Literals.{is_underscore, is_hash, is_integer, number, halves, base_of, decimal, based, integer, Signed, signed, truth_of, number_or_truth, bool_or_truth, typed_number, bool_literal, int_literal, dint_literal, time_literal, typed_bool, typed_int, typed_dint, typed_lint, typed_time, Duration, number_len, unit_len, number_of_part, with_part, part, total_of, milliseconds, prefixed}
 
 abbrev pub up : ℕ → ℕ
 up = to_ascii_uppercase
@@ -179,7 +180,7 @@ typed-up w = ap (number_or_truth (map up w)) (truth-up w) ∙ number_by w (truth
 
 bool_by : (w : List ℕ) (o : Option Bool) → bool_or_truth (map up w) o ≡ bool_or_truth w o
 bool_by w (Some b) = refl
-bool_by w None = ap (λ (z : Option Signed). read_on (signed z) bool_literal) (integer-up w)
+bool_by w None = ap (λ (z : Option Signed). signed z >>= bool_literal) (integer-up w)
 
 bool-up : (w : List ℕ) → typed_bool (map up w) ≡ typed_bool w
 unfolding typed_bool
@@ -191,15 +192,15 @@ time-up w = ap time_literal (milliseconds-up w)
 
 int-up : (w : List ℕ) → typed_int (map up w) ≡ typed_int w
 unfolding typed_int
-int-up w = ap (λ (z : Result ℤ LiteralFault). read_on z int_literal) (typed-up w)
+int-up w = ap (λ (z : Result ℤ LiteralFault). z >>= int_literal) (typed-up w)
 
 dint-up : (w : List ℕ) → typed_dint (map up w) ≡ typed_dint w
 unfolding typed_dint
-dint-up w = ap (λ (z : Result ℤ LiteralFault). read_on z dint_literal) (typed-up w)
+dint-up w = ap (λ (z : Result ℤ LiteralFault). z >>= dint_literal) (typed-up w)
 
 lint-up : (w : List ℕ) → typed_lint (map up w) ≡ typed_lint w
 unfolding typed_lint
-lint-up w = ap (λ (z : Result ℤ LiteralFault). read_on z (λ value. Ok (Lint value))) (typed-up w)
+lint-up w = ap (λ (z : Result ℤ LiteralFault). z >>= (λ value. Ok (Lint value))) (typed-up w)
 
 pub prefixed-up : (a w : List ℕ) → prefixed (map up a) (map up w) ≡ prefixed a w
 unfolding prefixed

@@ -1,14 +1,15 @@
 -- Letters in upper case: lines and the program.
 use Rattle.std.proofs.Common.{◌≡◌, ℕ, ◌+◌, Bool, true, false, cond, List, [], ◌∷◌, ◌++◌, Option, Some, None, Ok, Err, Result, option_map, option_and_then, map, length, leb, ltb, refl, sym, ap, subst, ◌∙◌}
 use Rattle.std.proofs.lemmas.List.{length-map, map-append}
+use Rattle.bay_base.specs.Results.{◌>>=◌}
 use Rattle.il_text.specs.Forms.{parts_of}
 use Rattle.il_text.specs.Grammar.{is_plain}
 use Rattle.il_text.specs.LetterCase.{upper_action, upper_entry, upper_entries, upper_declared, upper_program, LettersMayBeRespelled}
 use Rattle.il_text.specs.Listing.{Action, load, store, combine, invert, convert, jump, leave, call, Entry, label, action, block, entry, entries_of, Declared, PlainProgram}
 use Rattle.il_text.specs.Parts.{Part, heading, opening, declaring, closing, labelling, acting, entering, leaving, ending}
 use Rattle.il_text.specs.Places.{last_line}
-use Rattle.il_text.specs.Reading.{onto, lines, then_on, tokens_of, Read, is_instruction, has_instruction, past_limit, counted, bounded, limited, stepped, after_parts, after_line, whole_at, reading, none_yet, program_of}
-use Rattle.il_text.specs.Steps.{Opened, Reached, at_place, with_name, declared_in, with_declarations, with_item, with_opened, is_start, is_between, block_scope, is_outside, is_some, is_load, may_begin_with, declared_here, closed_block, left_here, may_stand, may_act, may_enter, may_leave, step, steps}
+use Rattle.il_text.specs.Reading.{onto, lines, tokens_of, Read, is_instruction, has_instruction, past_limit, counted, bounded, limited, stepped, after_parts, after_line, whole_at, reading, none_yet, program_of}
+use Rattle.il_text.specs.Steps.{Opened, Reached, at_place, with_name, declared_in, with_declarations, with_item, with_opened, is_start, is_between_blocks, block_scope, is_outside, is_some, is_load, may_begin_with, declared_here, closed_block, left_here, may_stand, may_act, may_enter, may_leave, step, steps}
 use Rattle.il_text.specs.Symbols.{cut}
 use Rattle.il_text.specs.Texts.{ReadsAs}
 use Rattle.il_text.specs.Tokens.{Symbol, Piece, blank, line_end, token, bad_token, bad_literal}
@@ -42,7 +43,7 @@ abbrev upper_tokens : Result (List Symbol) TextFault → Result (List Symbol) Te
 upper_tokens (Ok ss) = Ok (upper_symbols ss)
 upper_tokens (Err e) = Err e
 
-token-then : (s : Symbol) (r : Result (List Symbol) TextFault) → then_on (upper_tokens r) (λ ss. Ok (upper_symbol s ∷ ss)) ≡ upper_tokens (then_on r (λ ss. Ok (s ∷ ss)))
+token-then : (s : Symbol) (r : Result (List Symbol) TextFault) → (upper_tokens r >>= (λ ss. Ok (upper_symbol s ∷ ss))) ≡ upper_tokens (r >>= (λ ss. Ok (s ∷ ss)))
 token-then s (Ok ss) = refl
 token-then s (Err e) = refl
 
@@ -51,7 +52,7 @@ unfolding tokens_of
 tokens-up n [] = refl
 tokens-up n (blank ∷ ps) = unfold tokens_of in tokens-up n ps
 tokens-up n (line_end ∷ ps) = unfold tokens_of in tokens-up n ps
-tokens-up n (token s ∷ ps) = ap (λ (r : Result (List Symbol) TextFault). then_on r (λ ss. Ok (upper_symbol s ∷ ss))) (unfold tokens_of in tokens-up n ps) ∙ token-then s (tokens_of n ps)
+tokens-up n (token s ∷ ps) = ap (λ (r : Result (List Symbol) TextFault). r >>= (λ ss. Ok (upper_symbol s ∷ ss))) (unfold tokens_of in tokens-up n ps) ∙ token-then s (tokens_of n ps)
 tokens-up n (bad_token ∷ ps) = refl
 tokens-up n (bad_literal ∷ ps) = refl
 
@@ -167,7 +168,7 @@ left-up n r (f ∷ fs) =
 step-up : (n : ℕ) (r : Reached) (p : Part) → step n (upper_reached r) (upper_part p) ≡ option_map upper_reached (step n r p)
 unfolding step
 step-up n r (heading name) = cond_map upper_reached (is_start r.place) (Some (with_name name r))
-step-up n r (opening scope) = cond_map upper_reached (is_between r.place) (Some (at_place (place.Block scope) r))
+step-up n r (opening scope) = cond_map upper_reached (is_between_blocks r.place) (Some (at_place (place.Block scope) r))
 step-up n r (declaring ns kind initial) = declaring-up n ns kind initial r (block_scope r.place)
 step-up n r closing = closing-up r (block_scope r.place)
 step-up n r (labelling name) =
@@ -258,12 +259,12 @@ whole-up last s place.Body = refl
 whole-up last s place.Finished = refl
 
 then_read : (f g : Read → Result PlainProgram TextFault) → ((s : Read) → f (upper_read s) ≡ upper_program (g s)) → (x : Result Read TextFault)
-    → then_on (upper_ok x) f ≡ upper_program (then_on x g)
+    → (upper_ok x >>= f) ≡ upper_program (x >>= g)
 then_read f g h (Ok s) = h s
 then_read f g h (Err e) = refl
 
 then_tokens : (f g : List Symbol → Result PlainProgram TextFault) → ((ss : List Symbol) → f (upper_symbols ss) ≡ upper_program (g ss)) → (x : Result (List Symbol) TextFault)
-    → then_on (upper_tokens x) f ≡ upper_program (then_on x g)
+    → (upper_tokens x >>= f) ≡ upper_program (x >>= g)
 then_tokens f g h (Ok ss) = h ss
 then_tokens f g h (Err e) = refl
 
@@ -271,9 +272,9 @@ reading-up : (last : ℕ) (r : Read) (n : ℕ) (ls : List (List Piece)) → read
 unfolding reading
 reading-up last r n [] = whole-up last r.reached r.reached.place
 reading-up last r n (l ∷ ls) =
-    ap (λ (x : Result (List Symbol) TextFault). then_on x (λ ts. then_on (after_line n last (upper_read r) ts) (λ s. reading last s (n + 1) (map (map upper_piece) ls)))) (tokens-up n l)
-    ∙ then_tokens _ (λ ts. then_on (after_line n last r ts) (λ s. reading last s (n + 1) ls))
-    (λ ts. ap (λ (x : Result Read TextFault). then_on x (λ s. reading last s (n + 1) (map (map upper_piece) ls))) (after-up n last r ts)
+    ap (λ (x : Result (List Symbol) TextFault). x >>= (λ ts. after_line n last (upper_read r) ts >>= (λ s. reading last s (n + 1) (map (map upper_piece) ls)))) (tokens-up n l)
+    ∙ then_tokens _ (λ ts. after_line n last r ts >>= (λ s. reading last s (n + 1) ls))
+    (λ ts. ap (λ (x : Result Read TextFault). x >>= (λ s. reading last s (n + 1) (map (map upper_piece) ls))) (after-up n last r ts)
     ∙ then_read _ (λ s. reading last s (n + 1) ls) (λ s. unfold reading in reading-up last s (n + 1) ls) (after_line n last r ts))
     (tokens_of n l)
 

@@ -9,7 +9,7 @@ use Rattle.il_text.specs.Grammar.{Numbered, Declaration, Block, declaration_part
 use Rattle.il_text.specs.Listing.{Action, load, store, combine, invert, convert, jump, leave, call, Entry, label, action, block, Entries, entries_of, Declared}
 use Rattle.il_text.specs.Parts.{Part, heading, opening, declaring, closing, labelling, acting, entering, leaving, ending}
 use Rattle.il_text.specs.Reading.{listed}
-use Rattle.il_text.specs.Steps.{Opened, Reached, nothing_read, at_place, with_name, declared_in, with_declarations, with_item, with_opened, with_closed, is_start, is_between, block_scope, is_body, is_outside, is_some, is_load, may_begin_with, declared_here, closed_block, may_stand, may_act, may_enter, may_leave, left_here, step}
+use Rattle.il_text.specs.Steps.{Opened, Reached, nothing_read, at_place, with_name, declared_in, with_declarations, with_item, with_opened, with_closed, is_start, is_between_blocks, block_scope, is_body, is_outside, is_some, is_load, may_begin_with, declared_here, closed_block, may_stand, may_act, may_enter, may_leave, left_here, step}
 use Rattle.il_text.specs.declared.listing.Stage.{Stage}
 use Rattle.il_text.specs.declared.listing.Stage.TheVariants as place
 use Rattle.il_text.specs.declared.program.DeclaredType.{DeclaredType}
@@ -115,7 +115,7 @@ start_at ps r (place.Block scope) h x = absurd (false≢true h)
 start_at ps r place.Body h x = absurd (false≢true h)
 start_at ps r place.Finished h x = absurd (false≢true h)
 
-between_at : (ps : List Numbered) (r : Reached) (p : Stage) → is_between p ≡ true → ReachesAt ps r p → Between ps r
+between_at : (ps : List Numbered) (r : Reached) (p : Stage) → is_between_blocks p ≡ true → ReachesAt ps r p → Between ps r
 between_at ps r place.Start h x = absurd (false≢true h)
 between_at ps r place.Declarations h x = x
 between_at ps r (place.Block scope) h x = absurd (false≢true h)
@@ -406,7 +406,7 @@ step_reaches n ps r s (heading name) x e =
     let c = cond_some (is_start r.place) (with_name name r) s e in
     subst (λ (t : Reached). Reaches (ps ++ (n, heading name) ∷ []) t) c.1 (heading_taken n name ps r (start_at ps r r.place c.0 x))
 step_reaches n ps r s (opening scope) x e =
-    let c = cond_some (is_between r.place) (at_place (place.Block scope) r) s e in
+    let c = cond_some (is_between_blocks r.place) (at_place (place.Block scope) r) s e in
     subst (λ (t : Reached). Reaches (ps ++ (n, opening scope) ∷ []) t) c.1 (opening_taken n scope ps r (between_at ps r r.place c.0 x))
 step_reaches n ps r s (declaring ns kind initial) x e =
     let c = declared_some n ns kind initial r s (block_scope r.place) e in

@@ -2,7 +2,7 @@
 use Rattle.std.proofs.Common.{◌≡◌, ℕ, ◌+◌, ◌<◌, ◌≤◌, suc, Bool, true, false, cond, Ok, Err, List, [], ◌∷◌, ◌++◌, Option, Some, None, option_map, option_and_then, map, reverse, length, get_or, drop, refl, sym, ap, ◌∙◌, rules, arith, add-one, drop-cons, append-nil, append_assoc, Vec, Global, Bor}
 use Rattle.std.proofs.lemmas.Grind.{common_steps}
 use Rattle.std.proofs.lemmas.List.{length-map, length-reverse, map-append, reverse-append}
-use Rattle.il_text.specs.Forms.{name_of, is_comma, names_from, declared_names, parts_of}
+use Rattle.il_text.specs.Forms.{name_of, is_mark, names_from, declared_names, parts_of}
 use Rattle.il_text.specs.Listing.{label, action, block, entries_of, Declared}
 use Rattle.il_text.specs.ListingViews.{opened_of}
 use Rattle.il_text.specs.Parts.{Part, declaring}
@@ -21,6 +21,7 @@ use Rattle.il_text.specs.declared.program.Literal.{Literal}
 use Rattle.il_text.specs.declared.program.Item.{Item, Label, Instruction, Block, the_lemmas}
 use Rattle.il_text.specs.declared.program.Operator.{Operator}
 use Rattle.il_text.specs.declared.program.Scope.{Scope}
+use Rattle.il_text.specs.declared.token.Mark.TheVariants as mark
 use Rattle.il_text.specs.declared.token.Token.{Token}
 
 pub front_item : {X : Type 0} → (xs : List X) (i : ℕ) (x : X) → i < length xs → x ≡ get_or xs i x → drop i xs ≡ x ∷ drop (i + 1) xs
@@ -80,12 +81,12 @@ pub at_no_name : (line : ℕ) (scope : Scope) (tail : Tail) (before : List Decla
 unfolding declared_from names_from
 at_no_name line scope tail before s ss e = rw e refl
 
-pub at_comma : (line : ℕ) (scope : Scope) (tail : Tail) (before : List Declared) (s : Symbol) (ss : List Symbol) → is_comma s ≡ true
+pub at_comma : (line : ℕ) (scope : Scope) (tail : Tail) (before : List Declared) (s : Symbol) (ss : List Symbol) → is_mark mark.Comma s ≡ true
     → declared_from line scope tail before true (s ∷ ss) ≡ declared_from line scope tail before false ss
 unfolding declared_from names_from
 at_comma line scope tail before s ss e = rw e refl
 
-pub at_no_comma : (line : ℕ) (scope : Scope) (tail : Tail) (before : List Declared) (s : Symbol) (ss : List Symbol) → is_comma s ≡ false
+pub at_no_comma : (line : ℕ) (scope : Scope) (tail : Tail) (before : List Declared) (s : Symbol) (ss : List Symbol) → is_mark mark.Comma s ≡ false
     → declared_from line scope tail before true (s ∷ ss) ≡ None
 unfolding declared_from names_from
 at_no_comma line scope tail before s ss e = rw e refl

@@ -4,19 +4,20 @@ use Rattle.std.proofs.lemmas.Bool.{false≢true, eqb-true, ne_eqb}
 use Rattle.std.proofs.lemmas.List.{map-append}
 use Rattle.std.proofs.Math.Bool.{and-false}
 use Rattle.il_text.specs.Characters.{linked}
-use Rattle.il_text.specs.Forms.{names_from, declared_names, declared_by, after_front, parts_at, tail, declaration, is_colon, is_comma, label_rest, label_or, named_line, marked, is_hopeless, parts_of}
+use Rattle.il_text.specs.Forms.{names_from, declared_names, declared_by, after_front, parts_at, tail, declaration, is_mark, label_rest, label_or, named_line, marked, is_hopeless, parts_of}
 use Rattle.std.specs.List.{position_or_len}
+use Rattle.bay_base.specs.Results.{◌>>=◌}
 use Rattle.il_text.specs.declared.form.Tail.{Tail}
 use Rattle.il_text.specs.Listing.{PlainProgram}
 use Rattle.il_text.specs.declared.token.Mark.TheVariants as mark
 use Rattle.il_text.specs.Pieces.{opens, ends, closes, blanked, pieces}
-use Rattle.il_text.specs.Reading.{Read, reading, lines, onto, tokens_of, then_on, after_line, whole, none_yet, program_of}
+use Rattle.il_text.specs.Reading.{Read, reading, lines, onto, tokens_of, after_line, whole, none_yet, program_of}
 use Rattle.il_text.specs.Places.{last_line}
 use Rattle.il_text.specs.ReaderViews.{read_on}
 use Rattle.il_text.specs.Runs.{IsPiece}
 use Rattle.bay_base.specs.Names.{same_name}
 use Rattle.il_text.specs.Symbols.{piece, cut, mark_of}
-use Rattle.il_text.specs.Tokens.{Symbol, name, frame_word, type_word, literal, mnemonic_word, mark_symbol, Piece, blank, line_end, token, bad_token, bad_literal}
+use Rattle.il_text.specs.Tokens.{Symbol, name, keyword_word, type_word, literal, mnemonic_word, mark_symbol, Piece, blank, line_end, token, bad_token, bad_literal}
 use Rattle.il_text.specs.declared.fault.TextFault.{TextFault}
 use Rattle.il_text.specs.declared.fault.TextFault.TheVariants.{BadToken, BadLine, BadLiteral}
 use Rattle.bay_base.proofs.ListLemmas.{front_of, none_left}
@@ -44,17 +45,17 @@ onto_more (t ∷ ss) s ls = ap (onto (token t)) (onto_more ss s ls)
 tokens_good : (line : ℕ) (ss : List Symbol) → tokens_of line (map token ss) ≡ Ok ss
 unfolding tokens_of
 tokens_good line [] = refl
-tokens_good line (s ∷ ss) = ap (λ (r : Result (List Symbol) TextFault). then_on r (λ xs. Ok (s ∷ xs))) (unfold tokens_of in tokens_good line ss)
+tokens_good line (s ∷ ss) = ap (λ (r : Result (List Symbol) TextFault). r >>= (λ xs. Ok (s ∷ xs))) (unfold tokens_of in tokens_good line ss)
 
 tokens_bad : (line : ℕ) (ss : List Symbol) (l : List Piece) → tokens_of line (map token ss ++ bad_token ∷ l) ≡ Err (BadToken line)
 unfolding tokens_of
 tokens_bad line [] l = refl
-tokens_bad line (s ∷ ss) l = ap (λ (r : Result (List Symbol) TextFault). then_on r (λ xs. Ok (s ∷ xs))) (unfold tokens_of in tokens_bad line ss l)
+tokens_bad line (s ∷ ss) l = ap (λ (r : Result (List Symbol) TextFault). r >>= (λ xs. Ok (s ∷ xs))) (unfold tokens_of in tokens_bad line ss l)
 
 tokens_bad_literal : (line : ℕ) (ss : List Symbol) (l : List Piece) → tokens_of line (map token ss ++ bad_literal ∷ l) ≡ Err (BadLiteral line)
 unfolding tokens_of
 tokens_bad_literal line [] l = refl
-tokens_bad_literal line (s ∷ ss) l = ap (λ (r : Result (List Symbol) TextFault). then_on r (λ xs. Ok (s ∷ xs))) (unfold tokens_of in tokens_bad_literal line ss l)
+tokens_bad_literal line (s ∷ ss) l = ap (λ (r : Result (List Symbol) TextFault). r >>= (λ xs. Ok (s ∷ xs))) (unfold tokens_of in tokens_bad_literal line ss l)
 
 read_blank : (last : ℕ) (r : Read) (n : ℕ) (ss : List Symbol) (ps : List Piece) → read_on last r n ss (blank ∷ ps) ≡ read_on last r n ss ps
 unfolding read_on lines
@@ -66,20 +67,20 @@ read_token last r n ss s ps = ap (reading last r n) (lines_onto ss (token s ∷ 
 
 -- a line of good tokens, and the lines after it
 reading_line : (last : ℕ) (r : Read) (n : ℕ) (ss : List Symbol) (ls : List (List Piece))
-    → reading last r n (map token ss ∷ ls) ≡ then_on (after_line n last r ss) (λ s. reading last s (n + 1) ls)
+    → reading last r n (map token ss ∷ ls) ≡ (after_line n last r ss >>= (λ s. reading last s (n + 1) ls))
 unfolding reading
 reading_line last r n ss ls =
-    ap (λ (t : Result (List Symbol) TextFault). then_on t (λ ts. then_on (after_line n last r ts) (λ s. reading last s (n + 1) ls))) (tokens_good n ss)
+    ap (λ (t : Result (List Symbol) TextFault). t >>= (λ ts. after_line n last r ts >>= (λ s. reading last s (n + 1) ls))) (tokens_good n ss)
 
 read_line_end : (last : ℕ) (r : Read) (n : ℕ) (ss : List Symbol) (ps : List Piece)
-    → read_on last r n ss (line_end ∷ ps) ≡ then_on (after_line n last r ss) (λ s. read_on last s (n + 1) [] ps)
+    → read_on last r n ss (line_end ∷ ps) ≡ (after_line n last r ss >>= (λ s. read_on last s (n + 1) [] ps))
 unfolding read_on lines
 read_line_end last r n ss ps =
     ap (reading last r n) (lines_onto ss (line_end ∷ ps) ∙ onto_line ss [] (lines ps) ∙ ap (λ (l : List Piece). l ∷ lines ps) (append-nil (map token ss)))
     ∙ reading_line last r n ss (lines ps)
 
 pub read_end : (last : ℕ) (r : Read) (n : ℕ) (ss : List Symbol)
-    → read_on last r n ss [] ≡ then_on (after_line n last r ss) (λ s. whole last s.reached)
+    → read_on last r n ss [] ≡ (after_line n last r ss >>= (λ s. whole last s.reached))
 unfolding read_on lines reading
 read_end last r n ss =
     ap (reading last r n) (lines_onto ss [] ∙ onto_line ss [] [] ∙ ap (λ (l : List Piece). l ∷ []) (append-nil (map token ss)))
@@ -230,43 +231,43 @@ pub step_token : (last : ℕ) (r : Read) (n : ℕ) (ss : List Symbol) (bs : List
 step_token last r n ss bs s e t h k = rw (cut_piece bs s e h, k) (read_token last r n ss t _)
 
 -- a name that neither a colon nor a comma follows begins no declaration
-tailed_names : (n : List ℕ) (c : Symbol) (xs : List Symbol) (t : Option Tail) → is_comma c ≡ false → option_and_then (λ k. declared_names k (name n ∷ c ∷ xs)) t ≡ None
+tailed_names : (n : List ℕ) (c : Symbol) (xs : List Symbol) (t : Option Tail) → is_mark mark.Comma c ≡ false → option_and_then (λ k. declared_names k (name n ∷ c ∷ xs)) t ≡ None
 unfolding names_from
 tailed_names n c xs None h = refl
 tailed_names n c xs (Some k) h = rw h refl
 
-fronted_names : (n : List ℕ) (c : Symbol) (xs back : List Symbol) → is_comma c ≡ false → declared_by (after_front (name n ∷ c ∷ xs) back) ≡ None
+fronted_names : (n : List ℕ) (c : Symbol) (xs back : List Symbol) → is_mark mark.Comma c ≡ false → declared_by (after_front (name n ∷ c ∷ xs) back) ≡ None
 fronted_names n c xs [] h = refl
 fronted_names n c xs (s ∷ rest) h = tailed_names n c xs (tail rest) h
 
-parted_names : (n : List ℕ) (c : Symbol) (more : List Symbol) (k : ℕ) → is_comma c ≡ false → declared_by (parts_at (suc (suc k)) (name n ∷ c ∷ more)) ≡ None
+parted_names : (n : List ℕ) (c : Symbol) (more : List Symbol) (k : ℕ) → is_mark mark.Comma c ≡ false → declared_by (parts_at (suc (suc k)) (name n ∷ c ∷ more)) ≡ None
 unfolding parts_at
 parted_names n c more k h = fronted_names n c (take k more) (drop k more) h
 
 two_more : (k : ℕ) → 1 + (1 + k) ≡ suc (suc k)
 two_more k = omega arith
 
-position_names : (n : List ℕ) (c : Symbol) (more : List Symbol) → is_colon c ≡ false → position_or_len is_colon (name n ∷ c ∷ more) ≡ suc (suc (position_or_len is_colon more))
-position_names n c more h = rw h (two_more (position_or_len is_colon more))
+position_names : (n : List ℕ) (c : Symbol) (more : List Symbol) → is_mark mark.Colon c ≡ false → position_or_len (is_mark mark.Colon) (name n ∷ c ∷ more) ≡ suc (suc (position_or_len (is_mark mark.Colon) more))
+position_names n c more h = rw h (two_more (position_or_len (is_mark mark.Colon) more))
 
 neither : (a b : Bool) → not (a || b) ≡ true → (a ≡ false) × (b ≡ false)
 neither true b h = absurd (false≢true h)
 neither false true h = absurd (false≢true h)
 neither false false h = (refl, refl)
 
-no_declaration : (n : List ℕ) (c : Symbol) (more : List Symbol) → is_colon c ≡ false → is_comma c ≡ false → declaration (name n ∷ c ∷ more) ≡ None
+no_declaration : (n : List ℕ) (c : Symbol) (more : List Symbol) → is_mark mark.Colon c ≡ false → is_mark mark.Comma c ≡ false → declaration (name n ∷ c ∷ more) ≡ None
 unfolding declaration
 no_declaration n c more h k =
-    ap (λ (m : ℕ). declared_by (parts_at m (name n ∷ c ∷ more))) (position_names n c more h) ∙ parted_names n c more (position_or_len is_colon more) k
+    ap (λ (m : ℕ). declared_by (parts_at m (name n ∷ c ∷ more))) (position_names n c more h) ∙ parted_names n c more (position_or_len (is_mark mark.Colon) more) k
 
-no_label : (c : Symbol) (more : List Symbol) → is_colon c ≡ false → label_rest (c ∷ more) ≡ None
+no_label : (c : Symbol) (more : List Symbol) → is_mark mark.Colon c ≡ false → label_rest (c ∷ more) ≡ None
 unfolding label_rest
 no_label c more h = rw h refl
 
-named_nothing : (n : List ℕ) (c : Symbol) (more : List Symbol) → not (is_colon c || is_comma c) ≡ true → named_line n (c ∷ more) (name n ∷ c ∷ more) ≡ None
+named_nothing : (n : List ℕ) (c : Symbol) (more : List Symbol) → not (is_mark mark.Colon c || is_mark mark.Comma c) ≡ true → named_line n (c ∷ more) (name n ∷ c ∷ more) ≡ None
 unfolding named_line
 named_nothing n c more h =
-    let k = neither (is_colon c) (is_comma c) h in
+    let k = neither (is_mark mark.Colon c) (is_mark mark.Comma c) h in
     ap (label_or n (name n ∷ c ∷ more)) (no_label c more k.0) ∙ no_declaration n c more k.0 k.1
 
 -- tokens with which no line begins make no line, whatever follows
@@ -275,7 +276,7 @@ unfolding parts_of marked
 hopeless_parts [] more h = absurd (false≢true h)
 hopeless_parts (s ∷ []) more h = absurd (false≢true h)
 hopeless_parts (name n ∷ t ∷ ss) more h = named_nothing n t (ss ++ more) h
-hopeless_parts (frame_word w ∷ t ∷ ss) more h = absurd (false≢true h)
+hopeless_parts (keyword_word w ∷ t ∷ ss) more h = absurd (false≢true h)
 hopeless_parts (mnemonic_word m ∷ t ∷ ss) more h = absurd (false≢true h)
 hopeless_parts (type_word k ∷ t ∷ ss) more h = refl
 hopeless_parts (literal v ∷ t ∷ ss) more h = refl
@@ -292,9 +293,9 @@ unfolding after_line
 hopeless_line last r n ss more h = rw (hopeless_parts ss more h) refl
 
 abbrev with_front : List Symbol → Result (List Symbol) TextFault → Result (List Symbol) TextFault
-with_front ss t = then_on t (λ ts. Ok (ss ++ ts))
+with_front ss t = (t >>= (λ ts. Ok (ss ++ ts)))
 
-front_then : (s : Symbol) (ss : List Symbol) (t : Result (List Symbol) TextFault) → then_on (with_front ss t) (λ ts. Ok (s ∷ ts)) ≡ with_front (s ∷ ss) t
+front_then : (s : Symbol) (ss : List Symbol) (t : Result (List Symbol) TextFault) → (with_front ss t >>= (λ ts. Ok (s ∷ ts))) ≡ with_front (s ∷ ss) t
 front_then s ss (Ok ts) = refl
 front_then s ss (Err e) = refl
 
@@ -305,7 +306,7 @@ front_none (Err e) = refl
 tokens_front : (n : ℕ) (ss : List Symbol) (l : List Piece) → tokens_of n (map token ss ++ l) ≡ with_front ss (tokens_of n l)
 unfolding tokens_of
 tokens_front n [] l = front_none (unfold tokens_of in tokens_of n l)
-tokens_front n (s ∷ ss) l = ap (λ (t : Result (List Symbol) TextFault). then_on t (λ ts. Ok (s ∷ ts))) (unfold tokens_of in tokens_front n ss l) ∙ front_then s ss (unfold tokens_of in tokens_of n l)
+tokens_front n (s ∷ ss) l = ap (λ (t : Result (List Symbol) TextFault). t >>= (λ ts. Ok (s ∷ ts))) (unfold tokens_of in tokens_front n ss l) ∙ front_then s ss (unfold tokens_of in tokens_of n l)
 
 -- what a line comes to that begins with such tokens
 abbrev hopeless_end : ℕ → Result (List Symbol) TextFault → Result PlainProgram TextFault
@@ -313,15 +314,15 @@ hopeless_end n (Ok ts) = Err (BadLine n)
 hopeless_end n (Err e) = Err e
 
 hopeless_by : (last : ℕ) (r : Read) (n : ℕ) (ss : List Symbol) (ls : List (List Piece)) (t : Result (List Symbol) TextFault) → is_hopeless ss ≡ true
-    → then_on (with_front ss t) (λ ts. then_on (after_line n last r ts) (λ s. reading last s (n + 1) ls)) ≡ hopeless_end n t
+    → (with_front ss t >>= (λ ts. after_line n last r ts >>= (λ s. reading last s (n + 1) ls))) ≡ hopeless_end n t
 hopeless_by last r n ss ls (Err e) h = refl
-hopeless_by last r n ss ls (Ok ts) h = ap (λ (x : Result Read TextFault). then_on x (λ s. reading last s (n + 1) ls)) (hopeless_line last r n ss ts h)
+hopeless_by last r n ss ls (Ok ts) h = ap (λ (x : Result Read TextFault). x >>= (λ s. reading last s (n + 1) ls)) (hopeless_line last r n ss ts h)
 
 hopeless_reads : (last : ℕ) (r : Read) (n : ℕ) (ss : List Symbol) (l : List Piece) (ls : List (List Piece)) → is_hopeless ss ≡ true
     → reading last r n ((map token ss ++ l) ∷ ls) ≡ hopeless_end n (tokens_of n l)
 unfolding reading
 hopeless_reads last r n ss l ls h =
-    ap (λ (t : Result (List Symbol) TextFault). then_on t (λ ts. then_on (after_line n last r ts) (λ s. reading last s (n + 1) ls))) (tokens_front n ss l)
+    ap (λ (t : Result (List Symbol) TextFault). t >>= (λ ts. after_line n last r ts >>= (λ s. reading last s (n + 1) ls))) (tokens_front n ss l)
     ∙ (unfold reading in hopeless_by last r n ss ls (tokens_of n l) h)
 
 hopeless_more : (ss : List Symbol) (s : Symbol) → is_hopeless ss ≡ true → is_hopeless (ss ++ s ∷ []) ≡ true
@@ -367,7 +368,7 @@ pub step_bad_literal : (last : ℕ) (r : Read) (n : ℕ) (ss : List Symbol) (bs 
 step_bad_literal last r n ss bs s e h k = rw (cut_piece bs s e h, k) (read_bad_literal last r n ss _)
 
 pub step_line_end : (last : ℕ) (r : Read) (n : ℕ) (ss : List Symbol) (bs : List ℕ) (s e : ℕ) → IsPiece bs s e → piece (slice_range bs s e) ≡ line_end
-    → read_on last r n ss (cut false (drop s bs)) ≡ then_on (after_line n last r ss) (λ q. read_on last q (n + 1) [] (cut false (drop e bs)))
+    → read_on last r n ss (cut false (drop s bs)) ≡ (after_line n last r ss >>= (λ q. read_on last q (n + 1) [] (cut false (drop e bs))))
 step_line_end last r n ss bs s e h k = rw (cut_piece bs s e h, k) (read_line_end last r n ss _)
 
 pub step_opening : (last : ℕ) (r : Read) (n : ℕ) (ss : List Symbol) (bs : List ℕ) (s : ℕ) → opens (drop s bs) ≡ true → closes (drop (s + 2) bs) ≡ true
@@ -387,7 +388,7 @@ pub step_inside : (last : ℕ) (r : Read) (n : ℕ) (ss : List Symbol) (bs : Lis
 step_inside last r n ss bs s w h e = rw (cut_inside_other bs s w h e) (read_blank last r n ss _)
 
 pub step_inside_end : (last : ℕ) (r : Read) (n : ℕ) (ss : List Symbol) (bs : List ℕ) (s : ℕ) → s < length bs → ends (drop s bs) ≡ false → slice_index bs s ≡ 10
-    → read_on last r n ss (cut true (drop s bs)) ≡ then_on (after_line n last r ss) (λ q. read_on last q (n + 1) [] (cut true (drop (s + 1) bs)))
+    → read_on last r n ss (cut true (drop s bs)) ≡ (after_line n last r ss >>= (λ q. read_on last q (n + 1) [] (cut true (drop (s + 1) bs))))
 step_inside_end last r n ss bs s w h e = rw (cut_inside_end bs s w h e) (read_line_end last r n ss _)
 
 pub ruleset step_rules = (front_of)
@@ -399,7 +400,7 @@ pub ruleset opening_rules = (step_opening, step_unclosed, opens_within)
 pub ruleset comment_rules = (step_closing, step_inside, step_inside_end, ends_within)
 
 pub step_ended : (last : ℕ) (r : Read) (n : ℕ) (ss : List Symbol) (bs : List ℕ) (b : Bool) (s e : ℕ) → b ≡ false → IsPiece bs s e → line_end ≡ piece (slice_range bs s e)
-    → read_on last r n ss (cut b (drop s bs)) ≡ then_on (after_line n last r ss) (λ q. read_on last q (n + 1) [] (cut b (drop e bs)))
+    → read_on last r n ss (cut b (drop s bs)) ≡ (after_line n last r ss >>= (λ q. read_on last q (n + 1) [] (cut b (drop e bs))))
 step_ended last r n ss bs b s e f h k =
     rw f (step_line_end last r n ss bs s e h (sym k))
 
@@ -412,5 +413,5 @@ unfolding cut blanked pieces
 cut_none b bs i h = rw (none_left bs i h) refl
 
 pub text_end : (last : ℕ) (r : Read) (n : ℕ) (ss : List Symbol) (bs : List ℕ) (b : Bool) (i : ℕ) → length bs ≤ i
-    → read_on last r n ss (cut b (drop i bs)) ≡ then_on (after_line n last r ss) (λ s. whole last s.reached)
+    → read_on last r n ss (cut b (drop i bs)) ≡ (after_line n last r ss >>= (λ s. whole last s.reached))
 text_end last r n ss bs b i h = rw (cut_none b bs i h) (read_end last r n ss)

@@ -3,13 +3,14 @@ use Rattle.std.proofs.Common.{◌≡◌, ℕ, ◌+◌, ◌<◌, ◌≤◌, ◌�
 use Rattle.std.specs.List.{count_by}
 use Rattle.std.proofs.lemmas.Bool.{false≢true, ltb-true, ltb-false, leb-true, leb-false}
 use Rattle.std.proofs.lemmas.List.Recursion.{is_count_by}
+use Rattle.bay_base.specs.Results.{◌>>=◌}
 use Rattle.il_text.specs.Forms.{parts_of}
 use Rattle.il_text.specs.Grammar.{Numbered, Derives}
 use Rattle.il_text.specs.Listing.{label, action, PlainProgram}
 use Rattle.il_text.specs.Parts.{Part, heading, opening, declaring, closing, labelling, acting, entering, leaving, ending}
 use Rattle.il_text.specs.Places.{last_line}
-use Rattle.il_text.specs.Reading.{Read, then_on, tokens_of, is_instruction, has_instruction, past_limit, counted, bounded, stepped, after_parts, after_line, whole_at, reading, none_yet, program_of, lines}
-use Rattle.il_text.specs.Steps.{Reached, nothing_read, at_place, with_name, with_item, with_opened, with_declarations, declared_in, left_here, block_scope, is_start, is_between, may_stand, may_act, may_enter, may_leave, step, steps}
+use Rattle.il_text.specs.Reading.{Read, tokens_of, is_instruction, has_instruction, past_limit, counted, bounded, stepped, after_parts, after_line, whole_at, reading, none_yet, program_of, lines}
+use Rattle.il_text.specs.Steps.{Reached, nothing_read, at_place, with_name, with_item, with_opened, with_declarations, declared_in, left_here, block_scope, is_start, is_between_blocks, may_stand, may_act, may_enter, may_leave, step, steps}
 use Rattle.il_text.specs.Symbols.{cut}
 use Rattle.il_text.specs.Texts.{Line, numbered, all_parts, is_entering, is_leaving, IsDeep, Allowed, no_program, too_deep, too_long, Refused, Ends, OnParts, OnTokens, Reads, ReadsAs}
 use Rattle.il_text.specs.Tokens.{Symbol, Piece}
@@ -35,7 +36,7 @@ unfolding step
 part_depth n r s (heading name) e =
     let d = depth_of r s (with_name name r) refl (cond_some (is_start r.place) (with_name name r) s e).1 in omega (arith, d)
 part_depth n r s (opening scope) e =
-    let d = depth_of r s (at_place (place.Block scope) r) refl (cond_some (is_between r.place) (at_place (place.Block scope) r) s e).1 in omega (arith, d)
+    let d = depth_of r s (at_place (place.Block scope) r) refl (cond_some (is_between_blocks r.place) (at_place (place.Block scope) r) s e).1 in omega (arith, d)
 part_depth n r s (declaring ns kind initial) e =
     let c = declared_some n ns kind initial r s (block_scope r.place) e in
     let d = depth_of r s (with_declarations (map (declared_in n c.0 kind initial) ns) r) refl c.3 in omega (arith, d)
@@ -205,7 +206,7 @@ goes_quiet last n instr before ls ps s f h q c k d =
 
 counts_so : (last n instr : ℕ) (before : List Line) (ls : List (List Piece)) (ps : List Part) (s : Reached) (b : Bool) → More last n ls
     → run nothing_read (all_parts (before ++ (n, ps) ∷ [])) ≡ Some s → has_instruction ps ≡ true → instr ≡ count_by holds before → ltb instr 4000 ≡ b → depth s ≤ 16
-    → Going last before n ls (then_on (cond b (Ok (record { reached = s; instructions = instr + 1 })) (Err (past_limit n last (TooLong n)))) (rest last n ls)) ps
+    → Going last before n ls (cond b (Ok (record { reached = s; instructions = instr + 1 })) (Err (past_limit n last (TooLong n))) >>= rest last n ls) ps
 counts_so last n instr before ls ps s true f h q c t d =
     let m = count_more before (n, ps) in
     let z : ◌≡◌ {A = ℕ} (cond (has_instruction ps) 1 0) 1 = rw q refl in
@@ -224,7 +225,7 @@ counts_so last n instr before ls ps s false f h q c t d =
 
 bounded_so : (last n instr : ℕ) (before : List Line) (ls : List (List Piece)) (ps : List Part) (s : Reached) (b : Bool) → More last n ls
     → run nothing_read (all_parts (before ++ (n, ps) ∷ [])) ≡ Some s → has_instruction ps ≡ true → instr ≡ count_by holds before → leb (depth s) 16 ≡ b
-    → Going last before n ls (then_on (cond b (counted n last instr s) (Err (past_limit n last (TooDeep n)))) (rest last n ls)) ps
+    → Going last before n ls (cond b (counted n last instr s) (Err (past_limit n last (TooDeep n))) >>= rest last n ls) ps
 bounded_so last n instr before ls ps s true f h q c t = counts_so last n instr before ls ps s (ltb instr 4000) f h q c refl (leb-true _ _ t)
 bounded_so last n instr before ls ps s false f h q c t =
     let k : 16 < depth s = leb-false _ _ t in
@@ -232,7 +233,7 @@ bounded_so last n instr before ls ps s false f h q c t =
 
 limited_so : (last n : ℕ) (before : List Line) (r : Read) (ls : List (List Piece)) (ps : List Part) (s : Reached) (b : Bool) → More last n ls → After before r
     → run nothing_read (all_parts (before ++ (n, ps) ∷ [])) ≡ Some s → steps n r.reached ps ≡ Some s → has_instruction ps ≡ b
-    → Going last before n ls (then_on (cond b (bounded n last r.instructions s) (Ok (record { reached = s; instructions = r.instructions }))) (rest last n ls)) ps
+    → Going last before n ls (cond b (bounded n last r.instructions s) (Ok (record { reached = s; instructions = r.instructions })) >>= rest last n ls) ps
 unfolding bounded
 limited_so last n before r ls ps s true f a h e q = bounded_so last n r.instructions before ls ps s (leb (depth s) 16) f h q a.count refl
 limited_so last n before r ls ps s false f a h e q =
@@ -240,19 +241,19 @@ limited_so last n before r ls ps s false f a h e q =
     goes_quiet last n r.instructions before ls ps s f h q a.count a.short (omega (arith, d, a.shallow))
 
 stepped_so : (last n : ℕ) (before : List Line) (r : Read) (ls : List (List Piece)) (ps : List Part) (o : Option Reached) → More last n ls → After before r
-    → steps n r.reached ps ≡ o → Going last before n ls (then_on (stepped n last r.instructions ps o) (rest last n ls)) ps
+    → steps n r.reached ps ≡ o → Going last before n ls (stepped n last r.instructions ps o >>= rest last n ls) ps
 stepped_so last n before r ls ps None f a e =
     inr (no_program (stops (all_parts (before ++ (n, ps) ∷ [])) (line_run before n ps r.reached a.runs ∙ e)) refl)
 stepped_so last n before r ls ps (Some s) f a e =
     limited_so last n before r ls ps s (has_instruction ps) f a (line_run before n ps r.reached a.runs ∙ e) e refl
 
 parts_so : (last n : ℕ) (before : List Line) (r : Read) (ls : List (List Piece)) (o : Option (List Part)) → More last n ls → After before r
-    → OnParts n (Going last before n ls (then_on (after_parts n last r o) (rest last n ls))) o (then_on (after_parts n last r o) (rest last n ls))
+    → OnParts n (Going last before n ls (after_parts n last r o >>= rest last n ls)) o (after_parts n last r o >>= rest last n ls)
 parts_so last n before r ls None f a = refl
 parts_so last n before r ls (Some ps) f a = stepped_so last n before r ls ps (steps n r.reached ps) f a refl
 
 tokens_so : (last n : ℕ) (before : List Line) (r : Read) (ls : List (List Piece)) (t : Result (List Symbol) TextFault) → More last n ls → After before r
-    → OnTokens n (Going last before n ls (then_on t (λ ts. then_on (after_line n last r ts) (rest last n ls)))) t (then_on t (λ ts. then_on (after_line n last r ts) (rest last n ls)))
+    → OnTokens n (Going last before n ls (t >>= (λ ts. after_line n last r ts >>= rest last n ls))) t (t >>= (λ ts. after_line n last r ts >>= rest last n ls))
 unfolding after_line
 tokens_so last n before r ls (Err e) f a = refl
 tokens_so last n before r ls (Ok ts) f a = parts_so last n before r ls (parts_of ts) f a

@@ -1,8 +1,8 @@
 -- The plain data that declarations and items of the code stand for.
 use Rattle.std.specs.Prelude.{List, [], ◌∷◌}
 use Rattle.il_text.specs.Listing.{Place, named, output, Source, constant, variable, Action, load, store, combine, invert, convert, jump, leave, call, Entry, label, action, block, entries_of, Declared}
-use Rattle.il_text.specs.declared.program.Variable.{Variable}
-use Rattle.il_text.specs.declared.program.Variable.TheVariants as v
+use Rattle.il_text.specs.declared.program.SymbolicVariable.{SymbolicVariable}
+use Rattle.il_text.specs.declared.program.SymbolicVariable.TheVariants as v
 use Rattle.il_text.specs.declared.program.Operand.{Operand}
 use Rattle.il_text.specs.declared.program.Operand.TheVariants as o
 use Rattle.il_text.specs.declared.program.Input.{Input}
@@ -15,7 +15,7 @@ use Rattle.il_text.specs.declared.program.Item.{Item, fold-Item}
 use Rattle.il_text.specs.declared.program.Item.TheOpen.{Item-F}
 use Rattle.il_text.specs.declared.program.Declaration.{Declaration}
 
-abbrev pub place_of : Variable → Place
+abbrev pub place_of : SymbolicVariable → Place
 place_of (v.Name name) = named name.now
 place_of (v.Output timer gives) = output timer.now gives
 

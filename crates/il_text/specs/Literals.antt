@@ -4,6 +4,7 @@ use Rattle.std.specs.Char.{is_digit, is_ascii_digit, is_ascii_alphabetic}
 use Rattle.std.specs.List.{position_or_len, before_first, after_first, prefix_len}
 use Rattle.std.specs.Str.{byte}
 use Rattle.std.specs.Str.Parse.{digits_value}
+use Rattle.bay_base.specs.Results.{◌>>=◌}
 use Rattle.bay_base.specs.Names.{same_name}
 use Rattle.il_text.specs.declared.literal.LiteralFault.{LiteralFault}
 use Rattle.il_text.specs.declared.literal.LiteralFault.TheVariants.{Malformed, OutOfRange}
@@ -63,11 +64,6 @@ decimal_or_based w (Some h) = based h.0 h.1
 unfoldable pub integer : List ℕ → Option Signed
 integer w = decimal_or_based w (halves w)
 
--- what comes of a value, or the fault in its place
-abbrev pub read_on : {A B : Type 0} → Result A LiteralFault → (A → Result B LiteralFault) → Result B LiteralFault
-read_on (Ok x) f = f x
-read_on (Err e) f = Err e
-
 -- the value of a number, which is of 64 bits at most
 abbrev pub signed : Option Signed → Result ℤ LiteralFault
 signed None = Err Malformed
@@ -77,7 +73,7 @@ signed (Some (true, n)) =
 
 -- a number without a type
 unfoldable pub untyped : Option Signed → Result Literal LiteralFault
-untyped z = read_on (signed z) (λ value. Ok (Number value))
+untyped z = signed z >>= (λ value. Ok (Number value))
 
 abbrev pub is_between : ℤ → ℤ → ℤ → Bool
 is_between low high z = int_le low z && int_le z high
@@ -106,20 +102,20 @@ typed_number w = number_or_truth w (truth_of w)
 
 abbrev pub bool_or_truth : List ℕ → Option Bool → Result Literal LiteralFault
 bool_or_truth w (Some b) = Ok (Truth b)
-bool_or_truth w None = read_on (signed (integer w)) bool_literal
+bool_or_truth w None = signed (integer w) >>= bool_literal
 
 -- `BOOL#`: TRUE, FALSE, or the numbers 0 and 1
 unfoldable pub typed_bool : List ℕ → Result Literal LiteralFault
 typed_bool w = bool_or_truth w (truth_of w)
 
 unfoldable pub typed_int : List ℕ → Result Literal LiteralFault
-typed_int w = read_on (typed_number w) int_literal
+typed_int w = typed_number w >>= int_literal
 
 unfoldable pub typed_dint : List ℕ → Result Literal LiteralFault
-typed_dint w = read_on (typed_number w) dint_literal
+typed_dint w = typed_number w >>= dint_literal
 
 unfoldable pub typed_lint : List ℕ → Result Literal LiteralFault
-typed_lint w = read_on (typed_number w) (λ value. Ok (Lint value))
+typed_lint w = typed_number w >>= (λ value. Ok (Lint value))
 
 -- what is left of a duration, its milliseconds so far, and whether a part was there
 pub record Duration : Type 0 where

@@ -3,7 +3,7 @@ use Rattle.std.specs.Prelude.{◌≡◌, ◌↔◌, ℕ, Bool, false, List, [], 
 use Rattle.il_text.specs.Forms.{input_named, output_named, parts_of, same_input}
 use Rattle.il_text.specs.Listing.{Place, named, output, Source, constant, variable, Action, load, store, combine, invert, convert, jump, leave, call}
 use Rattle.il_text.specs.Parts.{Part, heading, opening, declaring, closing, labelling, acting, entering, leaving, ending}
-use Rattle.il_text.specs.Tokens.{Symbol, name, frame_word, type_word, literal, mnemonic_word, mark_symbol}
+use Rattle.il_text.specs.Tokens.{Symbol, name, keyword_word, type_word, literal, mnemonic_word, mark_symbol}
 use Rattle.il_text.specs.declared.program.Condition.{Condition}
 use Rattle.il_text.specs.declared.program.Conversion.{Conversion}
 use Rattle.il_text.specs.declared.program.DeclaredType.{DeclaredType}
@@ -15,7 +15,7 @@ use Rattle.il_text.specs.declared.program.Operator.{Operator}
 use Rattle.il_text.specs.declared.program.Output.{Output}
 use Rattle.il_text.specs.declared.program.Scope.TheVariants.{Local, External}
 use Rattle.il_text.specs.declared.program.StoreKind.{StoreKind}
-use Rattle.il_text.specs.declared.token.Frame.TheVariants as frame
+use Rattle.il_text.specs.declared.token.Keyword.TheVariants as keyword
 use Rattle.il_text.specs.declared.token.Mark.TheVariants as mark
 use Rattle.il_text.specs.declared.token.Mnemonic.TheVariants as mnemonic
 
@@ -76,16 +76,16 @@ pub data IsDeclaration (ts : List Symbol) (p : Part) : Type 0 where
 -- A line: blank; PROGRAM with its name; a word of a block; a declaration; [name ":"] [instr]; `)`; END_PROGRAM.
 pub data IsLine (ts : List Symbol) (ps : List Part) : Type 0 where
   blank : ts ≡ [] → ps ≡ [] → IsLine ts ps
-  heads : (n : List ℕ) → ts ≡ frame_word frame.Program ∷ name n ∷ [] → ps ≡ heading n ∷ [] → IsLine ts ps
-  opens : ts ≡ frame_word frame.Var ∷ [] → ps ≡ opening Local ∷ [] → IsLine ts ps
-  opens_external : ts ≡ frame_word frame.VarExternal ∷ [] → ps ≡ opening External ∷ [] → IsLine ts ps
+  heads : (n : List ℕ) → ts ≡ keyword_word keyword.Program ∷ name n ∷ [] → ps ≡ heading n ∷ [] → IsLine ts ps
+  opens : ts ≡ keyword_word keyword.Var ∷ [] → ps ≡ opening Local ∷ [] → IsLine ts ps
+  opens_external : ts ≡ keyword_word keyword.VarExternal ∷ [] → ps ≡ opening External ∷ [] → IsLine ts ps
   declares : (p : Part) → IsDeclaration ts p → ps ≡ p ∷ [] → IsLine ts ps
-  closes : ts ≡ frame_word frame.EndVar ∷ [] → ps ≡ closing ∷ [] → IsLine ts ps
+  closes : ts ≡ keyword_word keyword.EndVar ∷ [] → ps ≡ closing ∷ [] → IsLine ts ps
   labels : (n : List ℕ) → ts ≡ name n ∷ mark_symbol mark.Colon ∷ [] → ps ≡ labelling n ∷ [] → IsLine ts ps
   labels_with : (n : List ℕ) (rest : List Symbol) (more : List Part) → ts ≡ name n ∷ mark_symbol mark.Colon ∷ rest → IsStatement rest more → ps ≡ labelling n ∷ more → IsLine ts ps
   states : IsStatement ts ps → IsLine ts ps
   leaves_block : ts ≡ mark_symbol mark.Close ∷ [] → ps ≡ leaving ∷ [] → IsLine ts ps
-  ends : ts ≡ frame_word frame.EndProgram ∷ [] → ps ≡ ending ∷ [] → IsLine ts ps
+  ends : ts ≡ keyword_word keyword.EndProgram ∷ [] → ps ≡ ending ∷ [] → IsLine ts ps
 
 -- The parts that a line is read to are those of its production; and a line that is read to none has no production.
 abbrev pub LinesAreProduced : Type 0

@@ -1,8 +1,9 @@
 -- Inner: what is left to read, at one place of a text.
 use Rattle.std.specs.Prelude.{ℕ, ◌+◌, List, [], ◌++◌, map, drop, Result}
+use Rattle.bay_base.specs.Results.{◌>>=◌}
 use Rattle.il_text.specs.Listing.{PlainProgram}
 use Rattle.il_text.specs.ListingViews.{read_of}
-use Rattle.il_text.specs.Reading.{Read, reading, lines, then_on, after_line, whole}
+use Rattle.il_text.specs.Reading.{Read, reading, lines, after_line, whole}
 use Rattle.il_text.specs.Symbols.{cut}
 use Rattle.il_text.specs.Tokens.{Symbol, Piece, token}
 use Rattle.il_text.specs.TokenViews.{symbols_of}
@@ -20,10 +21,10 @@ left_of r =
 -- the same where the line ends here
 abbrev pub ended_of : code.Reader → Result PlainProgram TextFault
 ended_of r =
-    then_on (after_line r.line r.last (read_of r.listing) (symbols_of r.tokens.items))
-    (λ s. read_on r.last s (r.line + 1) [] (cut r.in_comment (drop r.at r.text.now)))
+    after_line r.line r.last (read_of r.listing) (symbols_of r.tokens.items)
+    >>= (λ s. read_on r.last s (r.line + 1) [] (cut r.in_comment (drop r.at r.text.now)))
 
 -- and where the text does
 abbrev pub whole_of : code.Reader → Result PlainProgram TextFault
 whole_of r =
-    then_on (after_line r.line r.last (read_of r.listing) (symbols_of r.tokens.items)) (λ s. whole r.last s.reached)
+    after_line r.line r.last (read_of r.listing) (symbols_of r.tokens.items) >>= (λ s. whole r.last s.reached)

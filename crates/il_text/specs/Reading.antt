@@ -1,5 +1,6 @@
 -- The program of a text, line by line (IEC 61131-3:2003, 2.5.3 and annex B).
 use Rattle.std.specs.Prelude.{ℕ, ◌+◌, Bool, true, false, ◌||◌, ◌==◌, nat_lt, nat_le, if◌then◌else◌, List, [], ◌∷◌, length, Option, Some, None, Result, Ok, Err}
+use Rattle.bay_base.specs.Results.{◌>>=◌}
 use Rattle.il_text.specs.Listing.{PlainProgram}
 use Rattle.il_text.specs.Tokens.{Symbol, Piece, blank, line_end, token, bad_token, bad_literal}
 use Rattle.il_text.specs.Symbols.{cut}
@@ -26,16 +27,12 @@ lines (token s ∷ ps) = onto (token s) (lines ps)
 lines (bad_token ∷ ps) = onto bad_token (lines ps)
 lines (bad_literal ∷ ps) = onto bad_literal (lines ps)
 
-abbrev pub then_on : {A B : Type 0} → Result A TextFault → (A → Result B TextFault) → Result B TextFault
-then_on (Ok x) f = f x
-then_on (Err e) f = Err e
-
 -- the tokens of a line, or its leftmost fault
 unfoldable pub tokens_of : ℕ → List Piece → Result (List Symbol) TextFault
 tokens_of line [] = Ok []
 tokens_of line (blank ∷ ps) = tokens_of line ps
 tokens_of line (line_end ∷ ps) = tokens_of line ps
-tokens_of line (token s ∷ ps) = then_on (tokens_of line ps) (λ ss. Ok (s ∷ ss))
+tokens_of line (token s ∷ ps) = tokens_of line ps >>= (λ ss. Ok (s ∷ ss))
 tokens_of line (bad_token ∷ ps) = Err (BadToken line)
 tokens_of line (bad_literal ∷ ps) = Err (BadLiteral line)
 
@@ -104,7 +101,7 @@ whole last s = whole_at last s s.place
 unfoldable pub reading : ℕ → Read → ℕ → List (List Piece) → Result PlainProgram TextFault
 reading last r line [] = whole last r.reached
 reading last r line (l ∷ ls) =
-    then_on (tokens_of line l) (λ ts. then_on (after_line line last r ts) (λ s. reading last s (line + 1) ls))
+    tokens_of line l >>= (λ ts. after_line line last r ts >>= (λ s. reading last s (line + 1) ls))
 
 abbrev pub none_yet : Read
 none_yet = record { reached = nothing_read; instructions = 0 }

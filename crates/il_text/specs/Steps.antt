@@ -71,9 +71,9 @@ abbrev pub is_start : Stage → Bool
 is_start place.Start = true
 is_start other = false
 
-abbrev pub is_between : Stage → Bool
-is_between place.Declarations = true
-is_between other = false
+abbrev pub is_between_blocks : Stage → Bool
+is_between_blocks place.Declarations = true
+is_between_blocks other = false
 
 abbrev pub block_scope : Stage → Option Scope
 block_scope (place.Block scope) = Some scope
@@ -135,7 +135,7 @@ left_here n r (f ∷ fs) = Some (with_closed n r f fs)
 -- one part, of the line of this number
 unfoldable pub step : ℕ → Reached → Part → Option Reached
 step n r (heading name) = if is_start r.place then Some (with_name name r) else None
-step n r (opening scope) = if is_between r.place then Some (at_place (place.Block scope) r) else None
+step n r (opening scope) = if is_between_blocks r.place then Some (at_place (place.Block scope) r) else None
 step n r (declaring ns kind initial) = declared_here n ns kind initial r (block_scope r.place)
 step n r closing = closed_block r (block_scope r.place)
 step n r (labelling name) = if may_stand r then Some (with_item (label n name) r) else None

@@ -15,9 +15,9 @@ ghost use Rattle.il_text.specs.Views.{action_of, declared_of, entry_of};
 ghost use Rattle.il_text.specs.declared.fault.TextFault.TheVariants.{BadLine, OutOfMemory};
 
 use crate::fault::TextFault;
-use crate::form::{Line, Statement, Tail, is_comma, line_of, name_of};
+use crate::form::{Line, Statement, Tail, is_mark, line_of, name_of};
 use crate::program::{Declaration, Instruction, Item, Literal, Operand, Operator, Scope};
-use crate::token::Token;
+use crate::token::{Mark, Token};
 use std::alloc::Global;
 use std::mem;
 
@@ -99,8 +99,8 @@ fn is_start(place: Stage) -> bool
     matches!(place, Stage::Start)
 }
 
-fn is_between(place: Stage) -> bool
-    ensures { result ≡ rules.is_between place }
+fn is_between_blocks(place: Stage) -> bool
+    ensures { result ≡ rules.is_between_blocks place }
 {
     matches!(place, Stage::Declarations)
 }
@@ -289,7 +289,7 @@ impl<'a> Draft<'a> {
         ensures bad { IfErr result (λ e. e ≡ BadLine line) }
         ensures none { IfErr result (λ e. step line (reached_of self.old) (opening scope) ≡ None) }
     {
-        if !is_between(self.place) {
+        if !is_between_blocks(self.place) {
             return Err(TextFault::BadLine { line });
         }
         self.place = Stage::Block(scope);
@@ -569,7 +569,7 @@ fn declare_token<'a>(
 {
     let line = declaring.line;
     if after_name {
-        if is_comma(token) {
+        if is_mark(token, Mark::Comma) {
             return Ok(false);
         }
         return Err(TextFault::BadLine { line });

@@ -3,7 +3,7 @@ ghost use Rattle.std.specs.Prelude.{◌≡◌, map, true};
 ghost use Rattle.il_text.specs.Grammar.{rises, item_lines};
 ghost use Rattle.il_text.specs.ItemViews.{entry_of};
 
-use bay_base::types::ElementaryType;
+use bay_base::types::{ElementaryType, TimerKind};
 
 /// A program: its name, what it declares, and its items in the order of the text. The lines of the
 /// items never fall.
@@ -44,15 +44,6 @@ pub enum DeclaredType {
     Timer(TimerKind),
 }
 
-/// A timer (IEC 61131-3:2003, 2.5.2.3.4).
-#[derive(Clone, Copy, Debug)]
-pub enum TimerKind {
-    /// `TON`
-    OnDelay,
-    /// `TOF`
-    OffDelay,
-}
-
 /// A literal: its type, where it has one, and its value (IEC 61131-3:2003, 2.2).
 #[derive(Clone, Copy, Debug)]
 pub enum Literal {
@@ -81,7 +72,7 @@ pub enum Output {
 
 /// What an instruction reads or writes by name, with the spelling of the text.
 #[derive(Clone, Copy, Debug)]
-pub enum Variable<'a> {
+pub enum SymbolicVariable<'a> {
     /// A name.
     Name(&'a str),
     /// A timer's name and one of its outputs.
@@ -92,7 +83,7 @@ pub enum Variable<'a> {
 #[derive(Clone, Copy, Debug)]
 pub enum Operand<'a> {
     Literal(Literal),
-    Variable(Variable<'a>),
+    Variable(SymbolicVariable<'a>),
 }
 
 /// An operator that combines the current result with an operand (IEC 61131-3:2003, table 52).
@@ -180,7 +171,7 @@ pub enum Instruction<'a> {
     /// `ST`, `STN`, `S`, `R`: the current result is stored.
     Store {
         kind: StoreKind,
-        target: Variable<'a>,
+        target: SymbolicVariable<'a>,
     },
     /// An operator: the current result is combined with the operand, which is negated first where it
     /// says so.
