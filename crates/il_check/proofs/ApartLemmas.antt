@@ -22,7 +22,7 @@ use Rattle.il_check.specs.declared.typed.External.{External}
 use Rattle.il_check.specs.declared.typed.Variable.{Variable}
 use Rattle.il_check.proofs.NameLemmas.{looked_up-more}
 use Rattle.il_check.proofs.NotedLemmas.{append-none}
-use Rattle.il_check.proofs.StandingLemmas.{meanings-more}
+use Rattle.il_check.proofs.DeclarationsViewLemmas.{meanings-more}
 
 or_false : (a b : Bool) → a || b ≡ false → (a ≡ false) × (b ≡ false)
 or_false true b none = absurd (cc)

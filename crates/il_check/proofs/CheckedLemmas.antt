@@ -17,7 +17,7 @@ use Rattle.il_check.specs.Given.{Names}
 use Rattle.il_check.specs.LabelsView.{StandsAs}
 use Rattle.il_check.specs.NamesView.{names_of}
 use Rattle.il_check.specs.Program.{Checked, Item}
-use Rattle.il_check.specs.Standing.{StandsFor}
+use Rattle.il_check.specs.DeclarationsView.{StandsFor}
 use Rattle.il_check.specs.WellTyped.{Standing, first, unreached, items_faults, items_left}
 use Rattle.il_check.specs.declared.declare.Declarations.{Declarations}
 use Rattle.il_check.specs.declared.labels.Labels.{Labels}

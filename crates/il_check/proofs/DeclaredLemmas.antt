@@ -25,7 +25,7 @@ use Rattle.il_image.specs.declared.value.Value.{Value}
 use Rattle.il_image.specs.declared.value.Value.TheVariants as value
 use Rattle.il_image.proofs.KindLemmas.{same_is}
 use Rattle.il_image.proofs.ValueLemmas.{value_is}
-use Rattle.il_check.specs.Declaring.{may_stand, is_name, point_of, of_type, value_in, default_value, initial_in, is_typed, is_external, is_writable, external_at, external_in, variable_at, variable_in, timer_in, externals_of, variables_of, timers_of, counts_of, meaning_at, meanings_of, looked_up, is_full, declaration_faults, declarations_faults}
+use Rattle.il_check.specs.Declaring.{may_stand, is_name, point_of, of_type, literal_value, default_value, initial_in, is_typed, is_external, is_writable, external_at, external_in, variable_at, variable_in, timer_in, externals_of, variables_of, timers_of, counts_of, meaning_at, meanings_of, looked_up, is_full, declaration_faults, declarations_faults}
 use Rattle.il_check.specs.Given.{typed_value}
 use Rattle.il_check.specs.Rules.{number_in}
 use Rattle.il_check.specs.TypedProgram.{HasName, BeginsRight}
@@ -37,7 +37,7 @@ use Rattle.il_check.specs.declared.typed.Timer.{Timer}
 use Rattle.il_check.specs.declared.typed.Slot.TheVariants as slot
 use Rattle.il_check.proofs.LabellingLemmas.{both_none, if_none, if_some, not_false, some_is}
 use Rattle.il_check.proofs.NameLemmas.{looked_up-more}
-use Rattle.il_check.proofs.StandingLemmas.{filter_map-more, meanings-more}
+use Rattle.il_check.proofs.DeclarationsViewLemmas.{filter_map-more, meanings-more}
 
 -- ---- values
 
@@ -75,13 +75,13 @@ of_type_is kind (Some w) v e =
 of_literal : (kind : ElementaryType) (l : Literal) (v : Value) → of_type kind (typed_value l) ≡ Some v → IsValue v × (type_of v ≡ kind)
 of_literal kind l v e = let h = of_type_is kind (typed_value l) v e in (typed_is l v h.0, h.1)
 
-value_in_is : (kind : ElementaryType) (l : Literal) (v : Value) → value_in kind l ≡ Some v → IsValue v × (type_of v ≡ kind)
-value_in_is kind (literal.Truth b) v e = of_literal kind (literal.Truth b) v e
-value_in_is kind (literal.Number z) v e = is_value kind z v (number_is kind z v e)
-value_in_is kind (literal.Int z) v e = of_literal kind (literal.Int z) v e
-value_in_is kind (literal.Dint z) v e = of_literal kind (literal.Dint z) v e
-value_in_is kind (literal.Lint z) v e = of_literal kind (literal.Lint z) v e
-value_in_is kind (literal.Time n) v e = of_literal kind (literal.Time n) v e
+literal_value_is : (kind : ElementaryType) (l : Literal) (v : Value) → literal_value kind l ≡ Some v → IsValue v × (type_of v ≡ kind)
+literal_value_is kind (literal.Truth b) v e = of_literal kind (literal.Truth b) v e
+literal_value_is kind (literal.Number z) v e = is_value kind z v (number_is kind z v e)
+literal_value_is kind (literal.Int z) v e = of_literal kind (literal.Int z) v e
+literal_value_is kind (literal.Dint z) v e = of_literal kind (literal.Dint z) v e
+literal_value_is kind (literal.Lint z) v e = of_literal kind (literal.Lint z) v e
+literal_value_is kind (literal.Time n) v e = of_literal kind (literal.Time n) v e
 
 default_is : (kind : ElementaryType) → IsValue (default_value kind) × (type_of (default_value kind) ≡ kind)
 default_is elementary.Bool = (refl, refl)
@@ -92,7 +92,7 @@ default_is elementary.Time = (refl, refl)
 
 pub initial_is : (kind : ElementaryType) (o : Option Literal) (v : Value) → initial_in kind o ≡ Some v → IsValue v × (type_of v ≡ kind)
 initial_is kind None v e = subst (λ (x : Value). IsValue x × (type_of x ≡ kind)) (some_is (default_value kind) v e) (default_is kind)
-initial_is kind (Some l) v e = value_in_is kind l v e
+initial_is kind (Some l) v e = literal_value_is kind l v e
 
 -- ---- names of points
 

@@ -32,7 +32,7 @@ use Rattle.il_check.specs.declared.given.Meaning.{Meaning}
 use Rattle.il_check.specs.declared.given.Meaning.TheVariants as meaning
 use Rattle.il_check.specs.declared.given.Given.{Given}
 use Rattle.il_check.specs.declared.given.Given.TheVariants.{Missing, Misused, Known, Number}
-use Rattle.il_check.specs.declared.given.Source.{Source}
+use Rattle.il_check.specs.declared.given.KnownOperand.{KnownOperand}
 use Rattle.il_check.specs.declared.given.Called.{Called}
 use Rattle.il_check.specs.declared.given.Called.TheVariants as called
 use Rattle.il_check.specs.declared.given.GivenArgument.{GivenArgument}
@@ -48,8 +48,8 @@ use Rattle.il_check.specs.declared.typed.TypedOperand.TheVariants as operand
 use Rattle.il_check.specs.declared.typed.TypedArgument.{TypedArgument}
 use Rattle.il_check.specs.declared.typed.TypedArguments.{TypedArguments}
 use Rattle.il_check.specs.declared.typed.TypedArguments.TheVariants as typed
-use Rattle.il_check.specs.declared.typed.Operation.{Operation}
-use Rattle.il_check.specs.declared.typed.Operation.TheVariants as op
+use Rattle.il_check.specs.declared.typed.SimpleOperation.{SimpleOperation}
+use Rattle.il_check.specs.declared.typed.SimpleOperation.TheVariants as op
 use Rattle.il_check.specs.declared.typed.Transfer.{Transfer}
 use Rattle.il_check.specs.declared.typed.Transfer.TheVariants as go
 use Rattle.il_check.proofs.DeclaredLemmas.{is_value, typed_is, number_is, IsMeant}
@@ -264,13 +264,13 @@ none_some (Some x) e f = absurd (cc)
 
 -- ---- operations
 
-load_kind : (c : Checked) (negated : Bool) (g : Given) (t : Option ElementaryType) (kind : ElementaryType) (x : Option TypedOperand) (o : Operation) → IsGiven c g → may_negate negated kind ≡ true → operand_in kind g ≡ x
+load_kind : (c : Checked) (negated : Bool) (g : Given) (t : Option ElementaryType) (kind : ElementaryType) (x : Option TypedOperand) (o : SimpleOperation) → IsGiven c g → may_negate negated kind ≡ true → operand_in kind g ≡ x
     → loaded negated x ≡ Some o → IsOperation c o t (Some kind)
 load_kind c negated g t kind None o given may is e = absurd (cc)
 load_kind c negated g t kind (Some x) o given may is e =
-    subst (λ (y : Operation). IsOperation c y t (Some kind)) (some_is (op.Load negated x) o e) (kind, operand_typed c kind g x given is, may, refl)
+    subst (λ (y : SimpleOperation). IsOperation c y t (Some kind)) (some_is (op.Load negated x) o e) (kind, operand_typed c kind g x given is, may, refl)
 
-load_case : (c : Checked) (negated : Bool) (g : Given) (t k : Option ElementaryType) (o : Operation) → IsGiven c g → rules.may_load negated k ≡ true → load_type g ≡ k
+load_case : (c : Checked) (negated : Bool) (g : Given) (t k : Option ElementaryType) (o : SimpleOperation) → IsGiven c g → rules.may_load negated k ≡ true → load_type g ≡ k
     → load_in negated g k ≡ Some o → IsOperation c o t k
 load_case c negated g t None o given may is e = absurd (cc)
 load_case c negated g t (Some kind) o given may is e = load_kind c negated g t kind (operand_in kind g) o given may refl e
@@ -280,26 +280,26 @@ divisor_right true true is e h = ap not (h refl)
 divisor_right true false is e h = absurd (cc)
 divisor_right false nonzero is e h = refl
 
-combine_kind : (c : Checked) (operator : Operator) (negated : Bool) (g : Given) (nonzero : Bool) (kind : ElementaryType) (x : Option TypedOperand) (o : Operation) → IsGiven c g → (nonzero ≡ true → IsNonzero g)
+combine_kind : (c : Checked) (operator : Operator) (negated : Bool) (g : Given) (nonzero : Bool) (kind : ElementaryType) (x : Option TypedOperand) (o : SimpleOperation) → IsGiven c g → (nonzero ≡ true → IsNonzero g)
     → works operator negated kind ≡ true → divides operator && not nonzero ≡ false → operand_in kind g ≡ x → combined operator kind negated x ≡ Some o
     → IsOperation c o (Some kind) (Some (gives operator kind))
 combine_kind c operator negated g nonzero kind None o given other works_on divisor is e = absurd (cc)
 combine_kind c operator negated g nonzero kind (Some x) o given other works_on divisor is e =
-    subst (λ (y : Operation). IsOperation c y (Some kind) (Some (gives operator kind))) (some_is (op.Combine operator kind negated x) o e)
+    subst (λ (y : SimpleOperation). IsOperation c y (Some kind) (Some (gives operator kind))) (some_is (op.Combine operator kind negated x) o e)
     (operand_typed c kind g x given is, works_on, divisor_right (divides operator) nonzero (is_divisor x) divisor (λ yes. other yes kind x is), refl, refl)
 
-store_slot : (c : Checked) (how : StoreKind) (kind : ElementaryType) (place : TypedOperand) (of : ElementaryType) (o : Operation) → IsOperand c place of → of ≡ kind → CanWrite c place
+store_slot : (c : Checked) (how : StoreKind) (kind : ElementaryType) (place : TypedOperand) (of : ElementaryType) (o : SimpleOperation) → IsOperand c place of → of ≡ kind → CanWrite c place
     → may_negate (not (is_plain how)) kind ≡ true → stored how (slot_in place) ≡ Some o → IsOperation c o (Some kind) (Some kind)
 store_slot c how kind (operand.Literal v) of o is same may how_may e = absurd (cc)
 store_slot c how kind (operand.Slot s) of o is same may how_may e =
-    subst (λ (y : Operation). IsOperation c y (Some kind) (Some kind)) (some_is (op.Store how s) o e) (kind, is ∙ ap Some same, may, how_may, refl, refl)
+    subst (λ (y : SimpleOperation). IsOperation c y (Some kind) (Some kind)) (some_is (op.Store how s) o e) (kind, is ∙ ap Some same, may, how_may, refl, refl)
 store_slot c how kind (operand.Output timer what) of o is same may how_may e = absurd (cc)
 
-fits_same : (source : Source) (kind : ElementaryType) (b : Bool) → same_type source.kind kind ≡ b → is_some (cond b (Some source.operand) None) ≡ true → b ≡ true
+fits_same : (source : KnownOperand) (kind : ElementaryType) (b : Bool) → same_type source.kind kind ≡ b → is_some (cond b (Some source.operand) None) ≡ true → b ≡ true
 fits_same source kind true e f = refl
 fits_same source kind false e f = absurd (cc)
 
-store_kind : (c : Checked) (how : StoreKind) (g : Given) (kind : ElementaryType) (o : Operation) → IsGiven c g → fits kind g && may_negate (not (is_plain how)) kind ≡ true → rules.is_fixed g ≡ false
+store_kind : (c : Checked) (how : StoreKind) (g : Given) (kind : ElementaryType) (o : SimpleOperation) → IsGiven c g → fits kind g && may_negate (not (is_plain how)) kind ≡ true → rules.is_fixed g ≡ false
     → stored how (target_slot g) ≡ Some o → IsOperation c o (Some kind) (Some kind)
 store_kind c how Missing kind o given ok writes e = absurd (cc)
 store_kind c how Misused kind o given ok writes e = absurd (cc)
@@ -308,7 +308,7 @@ store_kind c how (Known source) kind o given ok writes e =
     store_slot c how kind source.operand source.kind o given.0 (same_is source.kind kind (fits_same source kind (same_type source.kind kind) refl both.0)) (given.1 (not_false source.writable writes)) both.1 e
 store_kind c how (Number z) kind o given ok writes e = absurd (cc)
 
-pub operation_typed : (c : Checked) (passed : ℕ) (r : Resolved) (t : Option ElementaryType) (o : Operation) → IsFound c r → IsRight passed r t → operation_in r t ≡ Some o → IsOperation c o t (type_after r t)
+pub operation_typed : (c : Checked) (passed : ℕ) (r : Resolved) (t : Option ElementaryType) (o : SimpleOperation) → IsFound c r → IsRight passed r t → operation_in r t ≡ Some o → IsOperation c o t (type_after r t)
 operation_typed c passed (Load negated g) t o is ok e =
     load_case c negated g t (load_type g) o is (allows_any (Load negated g) t refl ok.allowed) refl e
 operation_typed c passed (Store how g) None o is ok e = absurd (let k = ok.set in cc)
@@ -319,10 +319,10 @@ operation_typed c passed (Combine operator negated g nonzero) (Some kind) o is o
     combine_kind c operator negated g nonzero kind (operand_in kind g) o is.0 is.1 both.0 ok.nonzero refl e
 operation_typed c passed Not None o is ok e = absurd (let k = ok.set in cc)
 operation_typed c passed Not (Some kind) o is ok e =
-    subst (λ (y : Operation). IsOperation c y (Some kind) (Some kind)) (some_is op.Not o e) (ap Some (sym (same_is elementary.Bool kind (not_false _ ok.allowed))), refl)
+    subst (λ (y : SimpleOperation). IsOperation c y (Some kind) (Some kind)) (some_is op.Not o e) (ap Some (sym (same_is elementary.Bool kind (not_false _ ok.allowed))), refl)
 operation_typed c passed (Convert conversion) None o is ok e = absurd (let k = ok.set in cc)
 operation_typed c passed (Convert conversion) (Some kind) o is ok e =
-    subst (λ (y : Operation). IsOperation c y (Some kind) (Some (rules.converted_to conversion))) (some_is (op.Convert conversion) o e)
+    subst (λ (y : SimpleOperation). IsOperation c y (Some kind) (Some (rules.converted_to conversion))) (some_is (op.Convert conversion) o e)
     (ap Some (same_is kind (converted_from conversion) (not_false _ ok.allowed)), refl)
 operation_typed c passed (Jump condition label) t o is ok e = absurd (cc)
 operation_typed c passed (Return condition) t o is ok e = absurd (cc)
@@ -342,7 +342,7 @@ left_same c passed (Return condition) t is ok e = inl refl
 left_same c passed (Call what args) t is ok e = inr refl
 
 -- an operation goes on to what is below, and jumps nowhere
-pub operation_goes_on : (r : Resolved) (t : Option ElementaryType) (o : Operation) → operation_in r t ≡ Some o → (rules.target_of r ≡ None) × (goes_on r ≡ true)
+pub operation_goes_on : (r : Resolved) (t : Option ElementaryType) (o : SimpleOperation) → operation_in r t ≡ Some o → (rules.target_of r ≡ None) × (goes_on r ≡ true)
 operation_goes_on (Load negated g) t o e = (refl, refl)
 operation_goes_on (Store how g) t o e = (refl, refl)
 operation_goes_on (Combine operator negated g nonzero) t o e = (refl, refl)

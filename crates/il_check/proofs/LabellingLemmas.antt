@@ -12,13 +12,13 @@ use Rattle.il_text.specs.Listing as text
 use Rattle.il_text.specs.declared.program.Operator.{Operator}
 use Rattle.il_text.specs.declared.program.Condition.TheVariants.{Always, IfTrue, IfFalse}
 use Rattle.il_image.proofs.KindLemmas.{same_is, same_self}
-use Rattle.il_check.specs.Checking.{start}
+use Rattle.il_check.specs.Checking.{initial_standing}
 use Rattle.il_check.specs.Declaring.{labels_from, names_in, looked_up}
 use Rattle.il_check.specs.Faults.{fault_if}
 use Rattle.il_check.specs.Given.{Names, resolved}
-use Rattle.il_check.specs.Labelling.{Labelling, Becomes, IsRight, IsJoined, IsRightEntry, AreRightEntries, Coming, Falls, Jumps, is_named, with_target, carried, beginning, coming_behind_label, coming_behind_action, with_result, Flows, IsWellTyped, behind_all, coming_behind}
-use Rattle.il_check.specs.Rules.{is_wrong, is_unset, type_after, allows, uses_result, any_type, joins_unset, jumps_back, gives, goes_on, target_of}
-use Rattle.il_check.specs.WellTyped.{Standing, is_first, type_behind, type_behind_all, instruction_faults, entry_faults, entries_faults, items_faults, same_result, met_type, met, unreached, arrival, arrived, moved, behind}
+use Rattle.il_check.specs.Labelling.{Labelling, Becomes, IsRight, IsCombined, IsRightEntry, AreRightEntries, Coming, Falls, Jumps, is_named, with_target, carried, beginning, coming_behind_label, coming_behind_action, with_result, Flows, IsWellTyped, behind_all, coming_behind}
+use Rattle.il_check.specs.Rules.{is_wrong, is_unset, type_after, allows, uses_result, any_type, combines_unset, jumps_back, gives, goes_on, target_of}
+use Rattle.il_check.specs.WellTyped.{Standing, is_first, type_behind, type_behind_all, instruction_faults, entry_faults, entries_faults, items_faults, same_result, join_types, join, unreached, arrival, arrived, moved, behind}
 use Rattle.il_check.specs.declared.reach.Reach.{Reach}
 use Rattle.il_check.specs.declared.given.Resolved.{Resolved}
 use Rattle.il_check.specs.declared.given.Resolved.TheVariants.{Load, Store, Combine, Not, Convert, Jump, Return, Call}
@@ -223,35 +223,35 @@ pub or_true : (b : Bool) → b || true ≡ true
 or_true true = refl
 or_true false = refl
 
-joined_under : (operator : Operator) (negated : Bool) (inner t u : Option ElementaryType) → Becomes t u → IsJoined operator negated inner u → IsJoined operator negated inner t
-joined_under operator negated inner t u (inl e) ok = subst (IsJoined operator negated inner) e ok
-joined_under operator negated inner t u (inr e) ok =
-    let set : joins_unset inner None ≡ false = subst (λ (v : Option ElementaryType). joins_unset inner v ≡ false) e ok.set in
+combined_under : (operator : Operator) (negated : Bool) (inner t u : Option ElementaryType) → Becomes t u → IsCombined operator negated inner u → IsCombined operator negated inner t
+combined_under operator negated inner t u (inl e) ok = subst (IsCombined operator negated inner) e ok
+combined_under operator negated inner t u (inr e) ok =
+    let set : combines_unset inner None ≡ false = subst (λ (v : Option ElementaryType). combines_unset inner v ≡ false) e ok.set in
     absurd (let k : true ≡ false = sym (or_true (is_none inner)) ∙ set in cc)
 
 entry_under : (names : Names) (room passed : ℕ) (e : text.Entry) (t u : Option ElementaryType) → Becomes t u → IsRightEntry names room passed e u → IsRightEntry names room passed e t
 entry_under names room passed (text.label line name) t u b ok = tt
 entry_under names room passed (text.action line a) t u b ok = right_under passed (resolved names a) t u b ok
 entry_under names room passed (text.block line operator negated items end) t u b ok =
-    (ok.0, ok.1, joined_under operator negated (type_behind_all names items None) t u b ok.2)
+    (ok.0, ok.1, combined_under operator negated (type_behind_all names items None) t u b ok.2)
 
 -- ---- where ways meet
 
-met_none : (a b : Reach) → a.is_reached ≡ false → met a b ≡ b
-met_none a b e = rw e refl
+join_none : (a b : Reach) → a.is_reached ≡ false → join a b ≡ b
+join_none a b e = rw e refl
 
-met_first : (a b : Reach) → a.is_reached ≡ true → b.is_reached ≡ false → met a b ≡ a
-met_first a b e f = rw (e, f) refl
+join_first : (a b : Reach) → a.is_reached ≡ true → b.is_reached ≡ false → join a b ≡ a
+join_first a b e f = rw (e, f) refl
 
-met_both : (a b : Reach) → a.is_reached ≡ true → b.is_reached ≡ true → met a b ≡ record { is_reached = true; kind = met_type a.kind b.kind }
-met_both a b e f = rw (e, f) refl
+join_both : (a b : Reach) → a.is_reached ≡ true → b.is_reached ≡ true → join a b ≡ record { is_reached = true; kind = join_types a.kind b.kind }
+join_both a b e f = rw (e, f) refl
 
-met_reached : (a b : Reach) → (met a b).is_reached ≡ a.is_reached || b.is_reached
-met_reached a b = elim (two a.is_reached) [
-  | inr e ↦ ap (λ (r : Reach). r.is_reached) (met_none a b e) ∙ sym (ap (λ (x : Bool). x || b.is_reached) e)
+join_reached : (a b : Reach) → (join a b).is_reached ≡ a.is_reached || b.is_reached
+join_reached a b = elim (two a.is_reached) [
+  | inr e ↦ ap (λ (r : Reach). r.is_reached) (join_none a b e) ∙ sym (ap (λ (x : Bool). x || b.is_reached) e)
   | inl e ↦ elim (two b.is_reached) [
-    | inr f ↦ ap (λ (r : Reach). r.is_reached) (met_first a b e f) ∙ e ∙ sym (ap (λ (x : Bool). x || b.is_reached) e)
-    | inl f ↦ ap (λ (r : Reach). r.is_reached) (met_both a b e f) ∙ sym (ap (λ (x : Bool). x || b.is_reached) e)
+    | inr f ↦ ap (λ (r : Reach). r.is_reached) (join_first a b e f) ∙ e ∙ sym (ap (λ (x : Bool). x || b.is_reached) e)
+    | inl f ↦ ap (λ (r : Reach). r.is_reached) (join_both a b e f) ∙ sym (ap (λ (x : Bool). x || b.is_reached) e)
   ]
 ]
 
@@ -261,14 +261,14 @@ same_results None (Some k) e = absurd (cc)
 same_results (Some j) None e = absurd (cc)
 same_results (Some j) (Some k) e = ap (λ (x : ElementaryType). Some x) (same_is j k e)
 
-meets_left : (t u : Option ElementaryType) → Becomes t (met_type t u)
-meets_left t u = elim (two (same_result t u)) [
+join_types_left : (t u : Option ElementaryType) → Becomes t (join_types t u)
+join_types_left t u = elim (two (same_result t u)) [
   | inl e ↦ inl (ap (λ (b : Bool). cond b t None) e)
   | inr e ↦ inr (ap (λ (b : Bool). cond b t None) e)
 ]
 
-meets_right : (t u : Option ElementaryType) → Becomes u (met_type t u)
-meets_right t u = elim (two (same_result t u)) [
+join_types_right : (t u : Option ElementaryType) → Becomes u (join_types t u)
+join_types_right t u = elim (two (same_result t u)) [
   | inl e ↦ inl (ap (λ (b : Bool). cond b t None) e ∙ same_results t u e)
   | inr e ↦ inr (ap (λ (b : Bool). cond b t None) e)
 ]
@@ -278,10 +278,10 @@ self_same None e = refl
 self_same (Some k) e = absurd (let h = same_self k in cc)
 
 -- the type that two ways have where they meet is above no other that both become
-meets_least : (t u w : Option ElementaryType) → Becomes t w → Becomes u w → Becomes (met_type t u) w
-meets_least t u w (inr e) h = inr e
-meets_least t u w (inl e) (inr f) = inr f
-meets_least t u w (inl e) (inl f) = elim (two (same_result t u)) [
+join_types_least : (t u w : Option ElementaryType) → Becomes t w → Becomes u w → Becomes (join_types t u) w
+join_types_least t u w (inr e) h = inr e
+join_types_least t u w (inl e) (inr f) = inr f
+join_types_least t u w (inl e) (inl f) = elim (two (same_result t u)) [
   | inl s ↦ inl (e ∙ sym (ap (λ (b : Bool). cond b t None) s))
   | inr s ↦ (
       let same : t ≡ u = sym e ∙ f in
@@ -289,26 +289,26 @@ meets_least t u w (inl e) (inl f) = elim (two (same_result t u)) [
       inr (e ∙ none))
 ]
 
-met_left : (a b : Reach) → a.is_reached ≡ true → Becomes a.kind (met a b).kind
-met_left a b e = elim (two b.is_reached) [
-  | inl f ↦ subst (λ (r : Reach). Becomes a.kind r.kind) (sym (met_both a b e f)) (meets_left a.kind b.kind)
-  | inr f ↦ inl (ap (λ (r : Reach). r.kind) (met_first a b e f))
+join_left : (a b : Reach) → a.is_reached ≡ true → Becomes a.kind (join a b).kind
+join_left a b e = elim (two b.is_reached) [
+  | inl f ↦ subst (λ (r : Reach). Becomes a.kind r.kind) (sym (join_both a b e f)) (join_types_left a.kind b.kind)
+  | inr f ↦ inl (ap (λ (r : Reach). r.kind) (join_first a b e f))
 ]
 
-met_right : (a b : Reach) → b.is_reached ≡ true → Becomes b.kind (met a b).kind
-met_right a b f = elim (two a.is_reached) [
-  | inl e ↦ subst (λ (r : Reach). Becomes b.kind r.kind) (sym (met_both a b e f)) (meets_right a.kind b.kind)
-  | inr e ↦ inl (ap (λ (r : Reach). r.kind) (met_none a b e))
+join_right : (a b : Reach) → b.is_reached ≡ true → Becomes b.kind (join a b).kind
+join_right a b f = elim (two a.is_reached) [
+  | inl e ↦ subst (λ (r : Reach). Becomes b.kind r.kind) (sym (join_both a b e f)) (join_types_right a.kind b.kind)
+  | inr e ↦ inl (ap (λ (r : Reach). r.kind) (join_none a b e))
 ]
 
-met_under : (a b : Reach) (w : Option ElementaryType) → (a.is_reached ≡ true → Becomes a.kind w) → (b.is_reached ≡ true → Becomes b.kind w) → (met a b).is_reached ≡ true → Becomes (met a b).kind w
-met_under a b w left right reached = elim (two a.is_reached) [
+join_under : (a b : Reach) (w : Option ElementaryType) → (a.is_reached ≡ true → Becomes a.kind w) → (b.is_reached ≡ true → Becomes b.kind w) → (join a b).is_reached ≡ true → Becomes (join a b).kind w
+join_under a b w left right reached = elim (two a.is_reached) [
   | inr e ↦ (
-      let same = met_none a b e in
+      let same = join_none a b e in
       subst (λ (r : Reach). Becomes r.kind w) (sym same) (right (ap (λ (r : Reach). r.is_reached) (sym same) ∙ reached)))
   | inl e ↦ elim (two b.is_reached) [
-    | inr f ↦ subst (λ (r : Reach). Becomes r.kind w) (sym (met_first a b e f)) (left e)
-    | inl f ↦ subst (λ (r : Reach). Becomes r.kind w) (sym (met_both a b e f)) (meets_least a.kind b.kind w (left e) (right f))
+    | inr f ↦ subst (λ (r : Reach). Becomes r.kind w) (sym (join_first a b e f)) (left e)
+    | inl f ↦ subst (λ (r : Reach). Becomes r.kind w) (sym (join_both a b e f)) (join_types_least a.kind b.kind w (left e) (right f))
   ]
 ]
 
@@ -418,13 +418,13 @@ brings : (target : Option ℕ) (now : Reach) (named : List ℕ) (arrivals : List
     → Brought named arrivals count → Brought (with_target target named) (arrived target now arrivals) count
 brings None now named arrivals count reached range b = b
 brings (Some m) now named arrivals count reached range b =
-    let here = met (arrival (slice_get arrivals m)) now in
+    let here = join (arrival (slice_get arrivals m)) now in
     record {
       arrived = λ n. elim (cases_eq n m) [
         | inl e ↦ (
             let there : slice_get (slice_set arrivals m here) n ≡ Some here = subst (λ (q : ℕ). slice_get (slice_set arrivals m here) q ≡ Some here) (sym e) (set_here arrivals m here (let h = range m refl in let k = b.size in omega arith)) in
-            let met_here : here.is_reached ≡ true = met_reached (arrival (slice_get arrivals m)) now ∙ ap (λ (x : Bool). (arrival (slice_get arrivals m)).is_reached || x) reached ∙ or_true (arrival (slice_get arrivals m)).is_reached in
-            ap (λ (o : Option Reach). (arrival o).is_reached) there ∙ met_here ∙ sym (ap (λ (x : Bool). x || is_named named n) (same_number m n (sym e))))
+            let join_here : here.is_reached ≡ true = join_reached (arrival (slice_get arrivals m)) now ∙ ap (λ (x : Bool). (arrival (slice_get arrivals m)).is_reached || x) reached ∙ or_true (arrival (slice_get arrivals m)).is_reached in
+            ap (λ (o : Option Reach). (arrival o).is_reached) there ∙ join_here ∙ sym (ap (λ (x : Bool). x || is_named named n) (same_number m n (sym e))))
         | inr ne ↦ (
             ap (λ (o : Option Reach). (arrival o).is_reached) (set_elsewhere arrivals m n here ne) ∙ b.arrived n ∙ sym (ap (λ (x : Bool). x || is_named named n) (other_number m n (λ e. ne (sym e)))))
       ];
@@ -438,12 +438,12 @@ brings_under : (labels : Labelling) (target : Option ℕ) (now : Reach) (t : Opt
 brings_under labels None now t named arrivals count reached under jumps range b brought n is = brought n is
 brings_under labels (Some m) now t named arrivals count reached under jumps range b brought n is =
     let old = arrival (slice_get arrivals m) in
-    let here = met old now in
+    let here = join old now in
     elim (cases_eq n m) [
       | inl e ↦ (
           let there : slice_get (slice_set arrivals m here) n ≡ Some here = subst (λ (q : ℕ). slice_get (slice_set arrivals m here) q ≡ Some here) (sym e) (set_here arrivals m here (let h = range m refl in let k = b.size in omega arith)) in
-          let met_here : here.is_reached ≡ true = met_reached old now ∙ ap (λ (x : Bool). old.is_reached || x) reached ∙ or_true old.is_reached in
-          let is_so = met_under old now (labels m) (λ r. brought m (sym (b.arrived m) ∙ r)) (λ r. becomes_along now.kind t (labels m) under jumps) met_here in
+          let join_here : here.is_reached ≡ true = join_reached old now ∙ ap (λ (x : Bool). old.is_reached || x) reached ∙ or_true old.is_reached in
+          let is_so = join_under old now (labels m) (λ r. brought m (sym (b.arrived m) ∙ r)) (λ r. becomes_along now.kind t (labels m) under jumps) join_here in
           subst (λ (o : Option Reach). Becomes (arrival o).kind (labels n)) (sym there) (subst (λ (q : ℕ). Becomes here.kind (labels q)) (sym e) is_so))
       | inr ne ↦ (
           let before : is_named named n ≡ true = sym (ap (λ (x : Bool). x || is_named named n) (other_number m n (λ e. ne (sym e)))) ∙ is in
@@ -467,15 +467,15 @@ stands_behind_label : (labels : Labelling) (count line : ℕ) (names : Names) (n
     → Stands labels count named (behind names (text.label line name) s) (coming_behind_label labels (carried s.passed named now))
 stands_behind_label labels count line names name named s now falls st =
     let come = arrival (slice_get s.arrivals s.passed) in
-    let either : (met s.now come).is_reached ≡ is_some now || is_named named s.passed =
-    met_reached s.now come ∙ ap (λ (x : Bool). x || come.is_reached) st.reached ∙ ap (λ (x : Bool). is_some now || x) (st.brought.arrived s.passed) in
+    let either : (join s.now come).is_reached ≡ is_some now || is_named named s.passed =
+    join_reached s.now come ∙ ap (λ (x : Bool). x || come.is_reached) st.reached ∙ ap (λ (x : Bool). is_some now || x) (st.brought.arrived s.passed) in
     record {
       reached = either ∙ sym (some_if (is_some now || is_named named s.passed) (labels s.passed));
       typed = λ t e.
           let c = if_some (is_some now || is_named named s.passed) (labels s.passed) t e in
           let left = λ (r : s.now.is_reached ≡ true). falls_in labels s.passed s.now.kind now falls (sym st.reached ∙ r) st.typed in
           let right = λ (r : come.is_reached ≡ true). st.under s.passed (sym (st.brought.arrived s.passed) ∙ r) in
-          subst (λ (u : Option ElementaryType). Becomes (met s.now come).kind u) c.1 (met_under s.now come (labels s.passed) left right (either ∙ c.0));
+          subst (λ (u : Option ElementaryType). Becomes (join s.now come).kind u) c.1 (join_under s.now come (labels s.passed) left right (either ∙ c.0));
       brought = st.brought;
       under = st.under;
     }
@@ -544,7 +544,7 @@ stands_behind_all names labels count range (text.block line operator negated ite
 abbrev pub least : Names → List text.Entry → Standing → ℕ → Option ElementaryType
 least names [] s n = None
 least names (text.label line name ∷ es) s n =
-    cond (n == s.passed) (met s.now (arrival (slice_get s.arrivals s.passed))).kind (least names es (behind names (text.label line name) s) n)
+    cond (n == s.passed) (join s.now (arrival (slice_get s.arrivals s.passed))).kind (least names es (behind names (text.label line name) s) n)
 least names (text.action line a ∷ es) s n = least names es (moved (resolved names a) s) n
 least names (text.block line operator negated items end ∷ es) s n = least names es (behind names (text.block line operator negated items end) s) n
 
@@ -554,13 +554,13 @@ brought_by : (names : Names) (es : List text.Entry) (r : Resolved) (s : Standing
 brought_by names es r s n v None t is reached more = more v (ap (λ (o : Option ℕ). slice_get (arrived o s.now s.arrivals) n) t ∙ is) reached
 brought_by names es r s n v (Some m) t is reached more =
     let old = arrival (slice_get s.arrivals m) in
-    let here = met old s.now in
+    let here = join old s.now in
     elim (cases_eq n m) [
       | inl e ↦ (
           let was : old ≡ v = ap (λ (q : ℕ). arrival (slice_get s.arrivals q)) (sym e) ∙ ap arrival is in
           let there : slice_get (slice_set s.arrivals m here) n ≡ Some here = subst (λ (q : ℕ). slice_get (slice_set s.arrivals m here) q ≡ Some here) (sym e) (set_here s.arrivals m here (subst (λ (q : ℕ). q < length s.arrivals) e (there_within s.arrivals n v is))) in
-          let is_met : here.is_reached ≡ true = met_reached old s.now ∙ ap (λ (x : Bool). x || s.now.is_reached) (ap (λ (x : Reach). x.is_reached) was ∙ reached) in
-          let left : Becomes old.kind here.kind = met_left old s.now (ap (λ (x : Reach). x.is_reached) was ∙ reached) in
+          let is_met : here.is_reached ≡ true = join_reached old s.now ∙ ap (λ (x : Bool). x || s.now.is_reached) (ap (λ (x : Reach). x.is_reached) was ∙ reached) in
+          let left : Becomes old.kind here.kind = join_left old s.now (ap (λ (x : Reach). x.is_reached) was ∙ reached) in
           becomes_along v.kind here.kind _ (subst (λ (x : Reach). Becomes x.kind here.kind) was left)
           (more here (ap (λ (o : Option ℕ). slice_get (arrived o s.now s.arrivals) n) t ∙ there) is_met))
       | inr ne ↦ more v (ap (λ (o : Option ℕ). slice_get (arrived o s.now s.arrivals) n) t ∙ set_elsewhere s.arrivals m n here ne ∙ is) reached
@@ -572,10 +572,10 @@ brought_becomes names [] s n v is reached = inr refl
 brought_becomes names (text.label line name ∷ es) s n v is reached = elim (cases_eq n s.passed) [
   | inl e ↦ (
       let come : arrival (slice_get s.arrivals s.passed) ≡ v = ap (λ (q : ℕ). arrival (slice_get s.arrivals q)) (sym e) ∙ ap arrival is in
-      let here : Becomes v.kind (met s.now (arrival (slice_get s.arrivals s.passed))).kind = subst (λ (b : Reach). Becomes v.kind (met s.now b).kind) (sym come) (met_right s.now v reached) in
-      subst (λ (b : Bool). Becomes v.kind (cond b (met s.now (arrival (slice_get s.arrivals s.passed))).kind (least names es (behind names (text.label line name) s) n))) (sym (same_number n s.passed e)) here)
+      let here : Becomes v.kind (join s.now (arrival (slice_get s.arrivals s.passed))).kind = subst (λ (b : Reach). Becomes v.kind (join s.now b).kind) (sym come) (join_right s.now v reached) in
+      subst (λ (b : Bool). Becomes v.kind (cond b (join s.now (arrival (slice_get s.arrivals s.passed))).kind (least names es (behind names (text.label line name) s) n))) (sym (same_number n s.passed e)) here)
   | inr ne ↦
-      subst (λ (b : Bool). Becomes v.kind (cond b (met s.now (arrival (slice_get s.arrivals s.passed))).kind (least names es (behind names (text.label line name) s) n))) (sym (other_number n s.passed ne))
+      subst (λ (b : Bool). Becomes v.kind (cond b (join s.now (arrival (slice_get s.arrivals s.passed))).kind (least names es (behind names (text.label line name) s) n))) (sym (other_number n s.passed ne))
       (brought_becomes names es (behind names (text.label line name) s) n v is reached)
 ]
 brought_becomes names (text.action line a ∷ es) s n v is reached = brought_by names es (resolved names a) s n v (target_of (resolved names a)) refl is reached (λ w. brought_becomes names es (moved (resolved names a) s) n w)
@@ -601,40 +601,40 @@ pub jumps_out : (labels : Labelling) (names : Names) (es : List text.Entry) (cou
 jumps_out labels names es count r s named None t reached ok range b same = tt
 jumps_out labels names es count r s named (Some m) t reached ok range b same =
     let old = arrival (slice_get s.arrivals m) in
-    let here = met old s.now in
+    let here = join old s.now in
     let there : slice_get (slice_set s.arrivals m here) m ≡ Some here = set_here s.arrivals m here (let h = range m t in let k = b.size in omega arith) in
-    let is_met : here.is_reached ≡ true = met_reached old s.now ∙ ap (λ (x : Bool). old.is_reached || x) reached ∙ or_true old.is_reached in
+    let is_met : here.is_reached ≡ true = join_reached old s.now ∙ ap (λ (x : Bool). old.is_reached || x) reached ∙ or_true old.is_reached in
     let more = brought_becomes names es (moved r s) m here (ap (λ (o : Option ℕ). slice_get (arrived o s.now s.arrivals) m) t ∙ there) is_met in
     subst (λ (u : Option ElementaryType). Becomes s.now.kind u) (sym (same m (target_ahead s.passed r m t ok.forward)))
-    (becomes_along s.now.kind here.kind (least names es (moved r s) m) (met_right old s.now reached) more)
+    (becomes_along s.now.kind here.kind (least names es (moved r s) m) (join_right old s.now reached) more)
 
 -- the labels have the least types
 abbrev pub AreLeast : Labelling → Names → List text.Entry → Standing → Type 0
 AreLeast labels names es s = (n : ℕ) → s.passed ≤ n → labels n ≡ least names es s n
 
 label_least : (names : Names) (labels : Labelling) (line : ℕ) (name : List ℕ) (es : List text.Entry) (s : Standing) → AreLeast labels names (text.label line name ∷ es) s
-    → labels s.passed ≡ (met s.now (arrival (slice_get s.arrivals s.passed))).kind
+    → labels s.passed ≡ (join s.now (arrival (slice_get s.arrivals s.passed))).kind
 label_least names labels line name es s same =
     let come = arrival (slice_get s.arrivals s.passed) in
     let after = behind names (text.label line name) s in
-    same s.passed (no_less s.passed) ∙ ap (λ (b : Bool). cond b (met s.now come).kind (least names es after s.passed)) (same_number s.passed s.passed refl)
+    same s.passed (no_less s.passed) ∙ ap (λ (b : Bool). cond b (join s.now come).kind (least names es after s.passed)) (same_number s.passed s.passed refl)
 
 pub least_behind_label : (names : Names) (labels : Labelling) (line : ℕ) (name : List ℕ) (es : List text.Entry) (s : Standing) → AreLeast labels names (text.label line name ∷ es) s
     → AreLeast labels names es (behind names (text.label line name) s)
 least_behind_label names labels line name es s same n le =
     let come = arrival (slice_get s.arrivals s.passed) in
     let after = behind names (text.label line name) s in
-    same n (less_one s.passed n le) ∙ ap (λ (b : Bool). cond b (met s.now come).kind (least names es after n)) (other_number n s.passed (not_before s.passed n le))
+    same n (less_one s.passed n le) ∙ ap (λ (b : Bool). cond b (join s.now come).kind (least names es after n)) (other_number n s.passed (not_before s.passed n le))
 
 pub exact_behind_label : (names : Names) (labels : Labelling) (count : ℕ) (line : ℕ) (name : List ℕ) (es : List text.Entry) (s : Standing) (named : List ℕ) (now : Coming)
     → AreLeast labels names (text.label line name ∷ es) s → Exact count named s now → Exact count named (behind names (text.label line name) s) (coming_behind_label labels (carried s.passed named now))
 exact_behind_label names labels count line name es s named now same x =
     let come = arrival (slice_get s.arrivals s.passed) in
     let here = label_least names labels line name es s same in
-    let either : is_some now || is_named named s.passed ≡ (met s.now come).is_reached =
-    ap (λ (b : Bool). b || is_named named s.passed) (exact_some count named s now x) ∙ ap (λ (b : Bool). s.now.is_reached || b) (sym (x.brought.arrived s.passed)) ∙ sym (met_reached s.now come) in
+    let either : is_some now || is_named named s.passed ≡ (join s.now come).is_reached =
+    ap (λ (b : Bool). b || is_named named s.passed) (exact_some count named s now x) ∙ ap (λ (b : Bool). s.now.is_reached || b) (sym (x.brought.arrived s.passed)) ∙ sym (join_reached s.now come) in
     record {
-      is = ap (λ (b : Bool). cond b (Some (labels s.passed)) None) either ∙ ap (λ (u : Option ElementaryType). cond (met s.now come).is_reached (Some u) None) here;
+      is = ap (λ (b : Bool). cond b (Some (labels s.passed)) None) either ∙ ap (λ (u : Option ElementaryType). cond (join s.now come).is_reached (Some u) None) here;
       brought = x.brought;
     }
 
@@ -661,7 +661,7 @@ flows_from names labels count range (text.label line name ∷ es) s named now sa
     let h = both_none _ _ none in
     let own = both_none _ _ h.0 in
     let here = label_least names labels line name es s same in
-    let fall = λ (r : s.now.is_reached ≡ true). subst (λ (u : Option ElementaryType). Becomes s.now.kind u) (sym here) (met_left s.now (arrival (slice_get s.arrivals s.passed)) r) in
+    let fall = λ (r : s.now.is_reached ≡ true). subst (λ (u : Option ElementaryType). Becomes s.now.kind u) (sym here) (join_left s.now (arrival (slice_get s.arrivals s.passed)) r) in
     let falls : Falls labels s.passed now = subst (Falls labels s.passed) (sym x.is) (falls_out labels s.passed s.now s.now.is_reached refl fall) in (
       (not_false (is_first s.passed (names.label name)) (if_none _ _ own.0), few_back s.passed (if_none _ _ own.1), falls),
       flows_from names labels count range es (behind names (text.label line name) s) named (coming_behind_label labels (carried s.passed named now)) (least_behind_label names labels line name es s same) h.1
@@ -701,8 +701,8 @@ labels_within from (text.block line operator negated items end ∷ es) name n e 
 pub first_labels : (es : List text.Entry) (name : List ℕ) (n : ℕ) → looked_up (labels_from 0 es) name ≡ Some n → n < length (labels_from 0 es)
 first_labels es name n e = let h = labels_within 0 es name n e in omega arith
 
--- the start of a program is what the checks and any labelling begin with
-begins : (points : List Point) (program : text.PlainProgram) (labels : Labelling) → Stands labels (length (labels_from 0 program.items)) [] (start program) (Some None)
+-- the initial standing of a program is what the checks and any labelling begin with
+begins : (points : List Point) (program : text.PlainProgram) (labels : Labelling) → Stands labels (length (labels_from 0 program.items)) [] (initial_standing program) (Some None)
 begins points program labels = record {
   reached = refl;
   typed = λ t e. inl (sym (some_is None t e));
@@ -712,20 +712,20 @@ begins points program labels = record {
 
 pub least_types : (points : List Point) (program : text.PlainProgram) (front more : List text.Entry) (labels : Labelling) (t : Option ElementaryType)
     → program.items ≡ front ++ more → Flows (names_in points program) labels front beginning → coming_behind (names_in points program) labels front beginning ≡ Some t
-    → Becomes (behind_all (names_in points program) front (start program)).now.kind t
+    → Becomes (behind_all (names_in points program) front (initial_standing program)).now.kind t
 least_types points program front more labels t parts f is =
-    stands_behind_all (names_in points program) labels (length (labels_from 0 program.items)) (λ name n e. first_labels program.items (upper name) n e) front (start program) [] (Some None) t f (begins points program labels) is
+    stands_behind_all (names_in points program) labels (length (labels_from 0 program.items)) (λ name n e. first_labels program.items (upper name) n e) front (initial_standing program) [] (Some None) t f (begins points program labels) is
 
 pub some_labelling : (points : List Point) (program : text.PlainProgram)
-    → (items_faults (names_in points program) program.items (start program) ≡ []) ↔ IsWellTyped (names_in points program) program.items
+    → (items_faults (names_in points program) program.items (initial_standing program) ≡ []) ↔ IsWellTyped (names_in points program) program.items
 some_labelling points program =
     let names = names_in points program in
     let labels = labels_from 0 program.items in
     let count = length labels in
     let range = λ (name : List ℕ) (n : ℕ) (e : names.label name ≡ Some n). first_labels program.items (upper name) n e in
-    let brought : Brought [] (start program).arrivals count = record { arrived = none_arrived labels; size = mapped_length labels } in (
+    let brought : Brought [] (initial_standing program).arrivals count = record { arrived = none_arrived labels; size = mapped_length labels } in (
       (λ none.
-          let found = least names program.items (start program) in
-          (found, flows_from names found count range program.items (start program) [] (Some None) (λ n le. refl) none (record { is = refl; brought = brought }))),
-      (λ h. flows_to names h.0 count range program.items (start program) [] (Some None) h.1 (begins points program h.0)),
+          let found = least names program.items (initial_standing program) in
+          (found, flows_from names found count range program.items (initial_standing program) [] (Some None) (λ n le. refl) none (record { is = refl; brought = brought }))),
+      (λ h. flows_to names h.0 count range program.items (initial_standing program) [] (Some None) h.1 (begins points program h.0)),
     )

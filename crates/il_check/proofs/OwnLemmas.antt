@@ -32,7 +32,7 @@ use Rattle.il_check.proofs.DeclaredLemmas.{get_last, get_more, initial_is}
 use Rattle.il_check.proofs.LabellingLemmas.{both_none, if_none, not_false, some_is}
 use Rattle.il_check.proofs.NameLemmas.{looked_up-more}
 use Rattle.il_check.proofs.NotedLemmas.{least_fault-none}
-use Rattle.il_check.proofs.StandingLemmas.{filter_map-more, meanings-more}
+use Rattle.il_check.proofs.DeclarationsViewLemmas.{filter_map-more, meanings-more}
 
 -- ---- lists
 

@@ -7,7 +7,7 @@ use Rattle.bay_base.specs.Exact.{judged}
 use Rattle.bay_base.specs.Names.{same_name, upper}
 use Rattle.bay_config.specs.declared.bay.Point.{Point}
 use Rattle.il_text.specs.Listing as text
-use Rattle.il_check.specs.Checking.{checked_of, checked_program, faults_of, start}
+use Rattle.il_check.specs.Checking.{checked_of, checked_program, faults_of, initial_standing}
 use Rattle.il_check.specs.Declaring.{counts_of, declaration_faults, declarations_faults, is_external, looked_up, meaning_at, meanings_from, names_in, point_of}
 use Rattle.il_check.specs.Faults.{IsLeast, fault_if, least_fault}
 use Rattle.il_check.specs.Program.{Checked}
@@ -109,12 +109,12 @@ all_right points acc (x ∷ ds) h =
 
 pub right_program : (points : List Point) (program : text.PlainProgram) → faults_of points program ≡ [] → IsRightProgram points program
 right_program points program none =
-    let two = both_none (declarations_faults points [] program.declarations) (items_faults (names_in points program) program.items (start program)) none in
+    let two = both_none (declarations_faults points [] program.declarations) (items_faults (names_in points program) program.items (initial_standing program)) none in
     record { declarations = right_all points [] program.declarations two.0; instructions = (some_labelling points program).0 two.1 }
 
 pub program_right : (points : List Point) (program : text.PlainProgram) → IsRightProgram points program → faults_of points program ≡ []
 program_right points program h =
-    none_of (declarations_faults points [] program.declarations) (items_faults (names_in points program) program.items (start program)) (all_right points [] program.declarations h.declarations) ((some_labelling points program).1 h.instructions)
+    none_of (declarations_faults points [] program.declarations) (items_faults (names_in points program) program.items (initial_standing program)) (all_right points [] program.declarations h.declarations) ((some_labelling points program).1 h.instructions)
 
 judged_ok : (o : Option CheckFault) (x c : Checked) → judged o x ≡ Ok c → o ≡ None
 judged_ok None x c e = refl

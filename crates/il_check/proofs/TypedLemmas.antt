@@ -11,21 +11,21 @@ use Rattle.bay_config.specs.declared.bay.Point.{Point}
 use Rattle.il_text.specs.Listing as text
 use Rattle.il_text.specs.declared.program.Operator.{Operator}
 use Rattle.il_image.proofs.KindLemmas.{same_is}
-use Rattle.il_check.specs.Checking.{start, faults_of, checked_program, checked_of}
+use Rattle.il_check.specs.Checking.{initial_standing, faults_of, checked_program, checked_of}
 use Rattle.il_check.specs.Declaring.{labels_from, names_in, declarations_faults}
 use Rattle.il_check.specs.Faults.{least_fault}
 use Rattle.il_check.specs.Given.{Names, resolved}
-use Rattle.il_check.specs.Labelling.{Labelling, IsRight, IsJoined, IsRightEntry, AreRightEntries, Coming, Jumps, with_target, carried, coming_behind_label, coming_behind_action}
+use Rattle.il_check.specs.Labelling.{Labelling, IsRight, IsCombined, IsRightEntry, AreRightEntries, Coming, Jumps, with_target, carried, coming_behind_label, coming_behind_action}
 use Rattle.il_check.specs.Program.{Entry, operation, block, Entries, no_entries, entry, Item, label, transfer, plain, Checked, entry_before}
 use Rattle.il_check.specs.Rules as rules
-use Rattle.il_check.specs.Rules.{gives, works, may_be, joins_wrong, joins_unset, type_after, goes_on}
+use Rattle.il_check.specs.Rules.{gives, works, may_be, combines_wrong, combines_unset, type_after, goes_on}
 use Rattle.il_check.specs.TypedProgram.{IsEntry, AreEntries, entry_depth, entries_depth, has_label, coming_behind_transfer, AreItems, IsTyped}
 use Rattle.il_check.specs.Typing.{operation_in, transfer_in, or_entry, block_in}
 use Rattle.il_check.specs.WellTyped.{Standing, type_behind, type_behind_all, items_faults, entry_left, entries_left, item_left, items_left, behind, moved}
 use Rattle.il_check.specs.declared.fault.CheckFault.{CheckFault}
 use Rattle.il_check.specs.declared.given.Resolved.{Resolved}
-use Rattle.il_check.specs.declared.typed.Operation.{Operation}
-use Rattle.il_check.specs.declared.typed.Operation.TheVariants as op
+use Rattle.il_check.specs.declared.typed.SimpleOperation.{SimpleOperation}
+use Rattle.il_check.specs.declared.typed.SimpleOperation.TheVariants as op
 use Rattle.il_check.specs.declared.typed.Transfer.{Transfer}
 use Rattle.il_check.proofs.DeclaredLemmas.{declares}
 use Rattle.il_check.proofs.GivenLemmas.{AreNamed, IsFound, found, named_from, operation_typed, operation_goes_on, left_same, transfer_typed, nothing_left}
@@ -48,7 +48,7 @@ entries_on_any c no_entries t k h = absurd (cc)
 entries_on_any c (entry e es) t k h = (h.0, entry_on_any c e t h.0 h.1, h.2)
 
 -- what is left of one instruction, before what is left of others
-action_case : (c : Checked) (passed : ℕ) (r : Resolved) (t : Option ElementaryType) (k : ElementaryType) (rest : Entries) (o : Option Operation) → IsFound c r → IsRight passed r t
+action_case : (c : Checked) (passed : ℕ) (r : Resolved) (t : Option ElementaryType) (k : ElementaryType) (rest : Entries) (o : Option SimpleOperation) → IsFound c r → IsRight passed r t
     → AreEntries c rest (type_after r t) (Some k) → operation_in r t ≡ o → AreEntries c (entry_before (option_map operation o) rest) t (Some k)
 action_case c passed r t k rest (Some o) is ok more e = (type_after r t, operation_typed c passed r t o is ok e, more)
 action_case c passed r t k rest None is ok more e = elim (left_same c passed r t is ok e) [
@@ -62,7 +62,7 @@ record IsBlock (c : Checked) (o : Option Entry) (t u : Option ElementaryType) : 
   is : o ≡ Some what
   right : IsEntry c what t u
 
-block_typed : (c : Checked) (operator : Operator) (negated : Bool) (inner t : Option ElementaryType) (es : Entries) → IsJoined operator negated inner t
+block_typed : (c : Checked) (operator : Operator) (negated : Bool) (inner t : Option ElementaryType) (es : Entries) → IsCombined operator negated inner t
     → ((k : ElementaryType) → inner ≡ Some k → AreEntries c es None (Some k)) → IsBlock c (block_in operator negated es t) t (option_map (gives operator) t)
 block_typed c operator negated None t es ok are = absurd (let e = ok.set in cc)
 block_typed c operator negated (Some k) None es ok are = absurd (let e = ok.set in cc)
@@ -114,7 +114,7 @@ before_depth : (o : Option Entry) (es : Entries) (room : ℕ) → option_depth o
 before_depth None es room h k = k
 before_depth (Some e) es room h k = not_deeper (entry_depth e) (entries_depth es) room h k
 
-operation_depth : (o : Option Operation) (room : ℕ) → option_depth (option_map operation o) ≤ room
+operation_depth : (o : Option SimpleOperation) (room : ℕ) → option_depth (option_map operation o) ≤ room
 operation_depth None room = omega arith
 operation_depth (Some o) room = omega arith
 
@@ -159,7 +159,7 @@ labels_below names (text.block line operator negated items end ∷ es) s n le lt
 -- ---- the items
 
 -- what is left of an instruction, before what is left below
-item_case : (c : Checked) (labels : Labelling) (passed : ℕ) (named : List ℕ) (now : Coming) (r : Resolved) (t : Option ElementaryType) (is : List Item) (x : Option Transfer) (o : Option Operation)
+item_case : (c : Checked) (labels : Labelling) (passed : ℕ) (named : List ℕ) (now : Coming) (r : Resolved) (t : Option ElementaryType) (is : List Item) (x : Option Transfer) (o : Option SimpleOperation)
     → IsFound c r → IsRight passed r t → now ≡ Some t → Jumps labels (rules.target_of r) t → ((n : ℕ) → rules.target_of r ≡ Some n → has_label is n ≡ true)
     → transfer_in r ≡ x → operation_in r t ≡ o → AreItems c labels is (carried passed (with_target (rules.target_of r) named) (coming_behind_action r t))
     → AreItems c labels (cons_option (or_entry x (option_map operation o)) is) (carried passed named now)
@@ -225,11 +225,11 @@ program_typed : (points : List Point) (program : text.PlainProgram) → faults_o
 program_typed points program none =
     let c = checked_program points program in
     let names = names_in points program in
-    let parts = both_none (declarations_faults points [] program.declarations) (items_faults names program.items (start program)) none in
+    let parts = both_none (declarations_faults points [] program.declarations) (items_faults names program.items (initial_standing program)) none in
     let are = declares points program.declarations parts.0 in
     let count = length (labels_from 0 program.items) in
-    let labels = least names program.items (start program) in
-    let brought : Brought [] (start program).arrivals count = record { arrived = none_arrived (labels_from 0 program.items); size = mapped_length (labels_from 0 program.items) } in
+    let labels = least names program.items (initial_standing program) in
+    let brought : Brought [] (initial_standing program).arrivals count = record { arrived = none_arrived (labels_from 0 program.items); size = mapped_length (labels_from 0 program.items) } in
     record {
       slots = are.slots;
       timers = are.timers;
@@ -238,7 +238,7 @@ program_typed points program none =
       labels = labels;
       items =
           items_typed c names (λ name m e. named_from c m (are.meant (upper name) m e)) labels count (λ name n e. first_labels program.items (upper name) n e)
-          program.items (start program) [] (Some None) (λ n le. refl) parts.1 (record { is = refl; brought = brought }) (omega arith);
+          program.items (initial_standing program) [] (Some None) (λ n le. refl) parts.1 (record { is = refl; brought = brought }) (omega arith);
     }
 
 judged_ok : (o : Option CheckFault) (c d : Checked) → judged o c ≡ Ok d → (o ≡ None) × (c ≡ d)

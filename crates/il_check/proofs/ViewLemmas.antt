@@ -5,11 +5,11 @@ use Rattle.bay_base.specs.declared.types.ElementaryType.{ElementaryType}
 use Rattle.il_text.specs.declared.program.Operator.{Operator}
 use Rattle.il_check.specs.Program as plain
 use Rattle.il_check.specs.ProgramViews.{entry_view, item_view}
-use Rattle.il_check.specs.declared.typed.Operation as code
+use Rattle.il_check.specs.declared.typed.SimpleOperation as code
 use Rattle.il_check.specs.declared.typed.TypedEntry.{TypedEntry, Operation, Block, the_lemmas}
 use Rattle.il_check.specs.declared.typed.TypedItem.{TypedItem}
 
-pub view_operation : (o : code.Operation) → entry_view (Operation o) ≡ plain.operation o
+pub view_operation : (o : code.SimpleOperation) → entry_view (Operation o) ≡ plain.operation o
 view_operation o = search (rules, the_lemmas)
 
 pub view_block : (operator : Operator) (kind : ElementaryType) (negated : Bool) (entries : Vec TypedEntry Global)

@@ -15,9 +15,11 @@ is_lower first second = nat_lt (unwrap_or first 0) (unwrap_or second 0)
 abbrev pub is_before : CheckFault → CheckFault → Bool
 is_before f g = nat_lt (line_of f) (line_of g) || (line_of f == line_of g && is_lower (code_of f) (code_of g))
 
+-- the one that comes first
 abbrev pub lesser : CheckFault → CheckFault → CheckFault
 lesser f g = if is_before g f then g else f
 
+-- the first of a fault and of others
 abbrev pub least_of : CheckFault → List CheckFault → CheckFault
 least_of f [] = f
 least_of f (g ∷ gs) = least_of (lesser f g) gs

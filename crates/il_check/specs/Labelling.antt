@@ -4,7 +4,7 @@ use Rattle.bay_base.specs.declared.types.ElementaryType.{ElementaryType}
 use Rattle.il_text.specs.Listing as text
 use Rattle.il_text.specs.declared.program.Operator.{Operator}
 use Rattle.il_check.specs.Given.{Names, resolved}
-use Rattle.il_check.specs.Rules.{is_wrong, is_unset, type_after, joins_wrong, joins_unset, misses_name, jumps_back, misses_label, writes_fixed, may_divide_by_zero, divides, gives, goes_on, target_of}
+use Rattle.il_check.specs.Rules.{is_wrong, is_unset, type_after, combines_wrong, combines_unset, misses_name, jumps_back, misses_label, writes_fixed, may_divide_by_zero, divides, gives, goes_on, target_of}
 use Rattle.il_check.specs.WellTyped.{Standing, behind, is_first, type_behind, type_behind_all}
 use Rattle.il_check.specs.declared.given.Resolved.{Resolved}
 
@@ -29,10 +29,10 @@ pub record IsRight (passed : ℕ) (r : Resolved) (result : Option ElementaryType
   pub nonzero : may_divide_by_zero r ≡ false
 
 -- The operator of a parenthesis is right, which gives a result of this type, on a result of that type.
-pub record IsJoined (operator : Operator) (negated : Bool) (inner result : Option ElementaryType) : Type 0 where
+pub record IsCombined (operator : Operator) (negated : Bool) (inner result : Option ElementaryType) : Type 0 where
   pub nonzero : divides operator ≡ false
-  pub allowed : joins_wrong operator negated inner result ≡ false
-  pub set : joins_unset inner result ≡ false
+  pub allowed : combines_wrong operator negated inner result ≡ false
+  pub set : combines_unset inner result ≡ false
 
 abbrev mutual
   -- An entry is right, in which so many parentheses may stand within one another. A parenthesis begins with a result that is
@@ -41,7 +41,7 @@ abbrev mutual
   IsRightEntry names room passed (text.label line name) result = Unit {0}
   IsRightEntry names room passed (text.action line a) result = IsRight passed (resolved names a) result
   IsRightEntry names room passed (text.block line operator negated items end) result =
-      (0 < room) × AreRightEntries names (room - 1) passed items None × IsJoined operator negated (type_behind_all names items None) result
+      (0 < room) × AreRightEntries names (room - 1) passed items None × IsCombined operator negated (type_behind_all names items None) result
 
   pub AreRightEntries : Names → ℕ → ℕ → text.Entries → Option ElementaryType → Type 0
   AreRightEntries names room passed text.no_entries result = Unit {0}
@@ -59,6 +59,7 @@ pub record Carried : Type 0 where
   pub named : List ℕ
   pub now : Coming
 
+-- a record of these
 abbrev pub carried : ℕ → List ℕ → Coming → Carried
 carried passed named now = record { passed = passed; named = named; now = now }
 
@@ -71,6 +72,7 @@ abbrev pub Falls : Labelling → ℕ → Coming → Type 0
 Falls labels number None = Unit {0}
 Falls labels number (Some t) = Becomes t (labels number)
 
+-- A jump to this label brings its type, or the label is unset.
 abbrev pub Jumps : Labelling → Option ℕ → Option ElementaryType → Type 0
 Jumps labels None t = Unit {0}
 Jumps labels (Some number) t = Becomes t (labels number)
@@ -89,6 +91,7 @@ with_target (Some number) named = number ∷ named
 abbrev pub coming_behind_label : Labelling → Carried → Coming
 coming_behind_label labels c = if is_some c.now || is_named c.named c.passed then Some (labels c.passed) else None
 
+-- behind a label
 abbrev pub behind_label : Labelling → Carried → Carried
 behind_label labels c = carried (c.passed + 1) c.named (coming_behind_label labels c)
 
@@ -96,6 +99,7 @@ behind_label labels c = carried (c.passed + 1) c.named (coming_behind_label labe
 abbrev pub coming_behind_action : Resolved → Option ElementaryType → Coming
 coming_behind_action r t = if goes_on r then Some (type_after r t) else None
 
+-- behind an instruction on a result of this type
 abbrev pub behind_action : Resolved → Option ElementaryType → Carried → Carried
 behind_action r t c = carried c.passed (with_target (target_of r) c.named) (coming_behind_action r t)
 
@@ -131,10 +135,12 @@ IsWellTyped names items = (labels : Labelling) × Flows names labels items begin
 
 -- ---- what comes behind items
 
+-- what comes of a result, if one comes
 abbrev pub with_result : (Option ElementaryType → Coming) → Coming → Coming
 with_result f None = None
 with_result f (Some t) = f t
 
+-- what comes behind these items, with this labelling
 abbrev pub coming_behind : Names → Labelling → List text.Entry → Carried → Coming
 coming_behind names labels [] c = c.now
 coming_behind names labels (text.label line name ∷ es) c = coming_behind names labels es (behind_label labels c)

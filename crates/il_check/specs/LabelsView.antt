@@ -14,6 +14,7 @@ label_in number (text.label line name) = (upper name, number) ∷ []
 label_in number (text.action line a) = []
 label_in number (text.block line operator negated items end) = []
 
+-- the numbers of labels, and of one more, if there is one
 abbrev pub with_labels : (List ℕ → Option ℕ) → List (List ℕ × ℕ) → List ℕ → Option ℕ
 with_labels numbers [] other = numbers other
 with_labels numbers (l ∷ ls) other = with_value numbers l.0 l.1 other

@@ -6,6 +6,7 @@ use Rattle.bay_base.specs.Names.{upper}
 use Rattle.il_check.specs.Given as spec
 use Rattle.il_check.specs.declared.names.Names.{Names}
 
+-- names are looked up in upper case
 abbrev pub names_of : Names → spec.Names
 names_of n = record { meaning = λ name. get_by_text n.meanings (upper name); label = λ name. get_by_text n.labels (upper name) }
 

@@ -15,6 +15,7 @@ pub record IsRightDeclaration (points : List Point) (before : List text.Declared
   pub typed : is_typed d.scope d.kind (point_of points d.name) d.initial ≡ true
   pub few : is_full (counts_of points before) d.kind ≡ false
 
+-- Each declaration is right behind those before it.
 abbrev pub AreRightDeclarations : List Point → List text.Declared → Type 0
 AreRightDeclarations points declared =
     (before : List text.Declared) (d : text.Declared) (after : List text.Declared) → declared ≡ before ++ d ∷ after → IsRightDeclaration points before d

@@ -12,6 +12,7 @@ use Rattle.il_check.specs.TypedProgram.{IsTyped}
 abbrev pub slot_names : Checked → List (List ℕ)
 slot_names c = map (λ e. e.name) c.externals ++ map (λ v. v.name) c.variables
 
+-- the name of a slot
 abbrev pub name_at : List (List ℕ) → ℕ → List ℕ
 name_at names slot = slice_index_or names slot []
 
@@ -23,6 +24,7 @@ AreApart names = (i j : ℕ) → i < j → j < length names → same_name (name_
 abbrev pub WasChecked : Checked → Type 0
 WasChecked c = (points : List Point) × (program : text.PlainProgram) × (checked_of points program ≡ Ok c)
 
+-- A checked program comes from the checks, its names differ, and it is well typed.
 pub record IsSound (c : Checked) : Type 0 where
   pub checked : WasChecked c
   pub apart : AreApart (slot_names c)

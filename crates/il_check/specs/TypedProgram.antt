@@ -21,8 +21,8 @@ use Rattle.il_check.specs.declared.typed.TypedOperand.TheVariants as operand
 use Rattle.il_check.specs.declared.typed.TypedArgument.{TypedArgument}
 use Rattle.il_check.specs.declared.typed.TypedArguments.{TypedArguments}
 use Rattle.il_check.specs.declared.typed.TypedArguments.TheVariants as arguments
-use Rattle.il_check.specs.declared.typed.Operation.{Operation}
-use Rattle.il_check.specs.declared.typed.Operation.TheVariants as op
+use Rattle.il_check.specs.declared.typed.SimpleOperation.{SimpleOperation}
+use Rattle.il_check.specs.declared.typed.SimpleOperation.TheVariants as op
 use Rattle.il_check.specs.declared.typed.Transfer.{Transfer}
 use Rattle.il_check.specs.declared.typed.Transfer.TheVariants as go
 
@@ -33,14 +33,17 @@ abbrev pub slot_type : Checked → Slot → Option ElementaryType
 slot_type c (slot.External n) = option_map (λ e. e.kind) (slice_get c.externals n)
 slot_type c (slot.Variable n) = option_map (λ v. type_of v.initial) (slice_get c.variables n)
 
+-- the external, if it is there, may be written
 abbrev pub is_writable : Option External → Bool
 is_writable None = false
 is_writable (Some e) = e.writable
 
+-- what is in the slot may be written
 abbrev pub may_write : Checked → Slot → Bool
 may_write c (slot.External n) = is_writable (slice_get c.externals n)
 may_write c (slot.Variable n) = true
 
+-- The operand is there and has this type.
 abbrev pub IsOperand : Checked → TypedOperand → ElementaryType → Type 0
 IsOperand c (operand.Literal v) kind = IsValue v × (type_of v ≡ kind)
 IsOperand c (operand.Slot s) kind = slot_type c s ≡ Some kind
@@ -54,7 +57,7 @@ is_divisor (operand.Output timer gives_what) = false
 
 -- ---- operations, on a result of the first type, which leave one of the second; none is a result that is not set
 
-abbrev pub IsOperation : Checked → Operation → Option ElementaryType → Option ElementaryType → Type 0
+abbrev pub IsOperation : Checked → SimpleOperation → Option ElementaryType → Option ElementaryType → Type 0
 IsOperation c (op.Load negated x) t u =
     (kind : ElementaryType) × IsOperand c x kind × (may_negate negated kind ≡ true) × (u ≡ Some kind)
 IsOperation c (op.Store how s) t u =
@@ -87,9 +90,11 @@ abbrev mutual
 
 -- ---- jumps, returns and calls
 
+-- The argument has its input's type.
 abbrev pub IsArgument : Checked → TypedArgument → Type 0
 IsArgument c a = IsOperand c a.operand (input_type a.input)
 
+-- Each argument is right.
 abbrev pub AreArguments : Checked → TypedArguments → Type 0
 AreArguments c arguments.None = Unit {0}
 AreArguments c (arguments.One a) = IsArgument c a
@@ -101,6 +106,7 @@ Decides Always t = Unit {0}
 Decides IfTrue t = t ≡ Some elementary.Bool
 Decides IfFalse t = t ≡ Some elementary.Bool
 
+-- one of the items is the label with this number
 abbrev pub has_label : List Item → ℕ → Bool
 has_label [] number = false
 has_label (label n ∷ is) number = (n == number) || has_label is number
@@ -113,6 +119,7 @@ IsTransfer c below (go.Jump condition number) t = Decides condition t × (has_la
 IsTransfer c below (go.Return condition) t = Decides condition t
 IsTransfer c below (go.Call timer args) t = (timer < length c.timers) × AreArguments c args
 
+-- the label that a jump goes to
 abbrev pub target_of : Transfer → Option ℕ
 target_of (go.Jump condition number) = Some number
 target_of (go.Return condition) = None
@@ -124,6 +131,7 @@ coming_behind_condition Always t = None
 coming_behind_condition IfTrue t = Some t
 coming_behind_condition IfFalse t = Some t
 
+-- what comes behind a jump, a return or a call
 abbrev pub coming_behind_transfer : Transfer → Option ElementaryType → Coming
 coming_behind_transfer (go.Jump condition number) t = coming_behind_condition condition t
 coming_behind_transfer (go.Return condition) t = coming_behind_condition condition t
@@ -131,6 +139,7 @@ coming_behind_transfer (go.Call timer args) t = Some None
 
 -- ---- the items
 
+-- behind a jump, a return or a call on a result of this type
 abbrev pub behind_transfer : Transfer → Option ElementaryType → Carried → Carried
 behind_transfer x t k = carried k.passed (with_target (target_of x) k.named) (coming_behind_transfer x t)
 
@@ -159,9 +168,11 @@ AreItems c labels (transfer x ∷ is) k =
 AreItems c labels (plain e ∷ is) k =
     (t : Option ElementaryType) × (u : Option ElementaryType) × EntryFlows c e t u k × AreItems c labels is (behind_entry u k)
 
+-- The name of an external is one that an image may have.
 abbrev pub HasName : External → Type 0
 HasName e = IsName e.name
 
+-- The value of a variable is one of its type.
 abbrev pub BeginsRight : Variable → Type 0
 BeginsRight v = IsValue v.initial
 

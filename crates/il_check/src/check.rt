@@ -51,6 +51,7 @@ pub fn check(alloc: Global, program: &Program<'_>, points: &[Point]) -> Result<T
     Ok(typed)
 }
 
+/// The typed program, or the fault that is answered; what holds of either is said at `check`.
 fn checked(alloc: Global, program: &Program<'_>, points: &[Point]) -> Result<Typed, CheckFault>
     ensures checked { Gives OutOfMemory checked_view result (checked_of points.now (plain_program program.now)) }
     ensures memory { IsErrOf result OutOfMemory → TakesMemory (plain_program program.now) }

@@ -7,7 +7,7 @@ ghost use Rattle.bay_base.specs.Names as names;
 ghost use Rattle.il_text.specs.Views.{declared_of};
 ghost use Rattle.il_check.specs.Faults.{noted, least_fault};
 ghost use Rattle.il_check.specs.NamesView.{with_value};
-ghost use Rattle.il_check.specs.Standing.{StandsFor, Takes, Adds, SameButExternals, SameButVariables, SameButTimers, external_named, variable_named, counts_in};
+ghost use Rattle.il_check.specs.DeclarationsView.{StandsFor, Takes, Adds, SameButExternals, SameButVariables, SameButTimers, external_named, variable_named, counts_in};
 ghost use Rattle.il_check.specs.Declaring as spec;
 
 use crate::fault::CheckFault;
@@ -53,6 +53,7 @@ fn may_stand(octet: u8) -> bool
     matches!(octet.to_ascii_uppercase(), b'A'..=b'Z' | b'0'..=b'9' | b'_')
 }
 
+/// Whether each of the octets may stand in a name.
 fn all_may_stand(octets: &[u8]) -> bool
     ensures { result ≡ list_all spec.may_stand octets.now }
 {
@@ -67,6 +68,7 @@ fn is_name(name: &str) -> bool
     0 < octets.len() && octets.len() <= MAX_NAME && all_may_stand(octets)
 }
 
+/// The first point with this name, letters in either case.
 fn named_point<'a>(points: &'a [Point], name: &str) -> Option<&'a Point>
     ensures { option_copied result ≡ spec.named_point points.now name.now }
 {
@@ -86,6 +88,7 @@ fn point_of<'a>(points: &'a [Point], name: &str) -> Option<&'a Point>
     }
 }
 
+/// Whether a declaration stands in a VAR_EXTERNAL block.
 fn is_external(scope: Scope) -> bool
     ensures { result ≡ spec.is_external scope }
 {
@@ -95,6 +98,7 @@ fn is_external(scope: Scope) -> bool
     }
 }
 
+/// The value, if it is one of this type.
 fn of_type(kind: ElementaryType, value: Option<Value>) -> Option<Value>
     ensures { result ≡ spec.of_type kind value }
 {
@@ -105,8 +109,8 @@ fn of_type(kind: ElementaryType, value: Option<Value>) -> Option<Value>
 }
 
 /// The value of a type that a literal is, if it is one.
-fn value_in(kind: ElementaryType, literal: Literal) -> Option<Value>
-    ensures { result ≡ spec.value_in kind literal }
+fn literal_value(kind: ElementaryType, literal: Literal) -> Option<Value>
+    ensures { result ≡ spec.literal_value kind literal }
 {
     match literal {
         Literal::Number(number) => number_in(kind, number),
@@ -114,6 +118,7 @@ fn value_in(kind: ElementaryType, literal: Literal) -> Option<Value>
     }
 }
 
+/// The value of a variable that is declared without one: FALSE, 0, or T#0ms.
 fn default_value(kind: ElementaryType) -> Value
     ensures { result ≡ spec.default_value kind }
 {
@@ -131,11 +136,12 @@ fn initial_in(kind: ElementaryType, literal: Option<Literal>) -> Option<Value>
     ensures { result ≡ spec.initial_in kind literal }
 {
     match literal {
-        Some(literal) => value_in(kind, literal),
+        Some(literal) => literal_value(kind, literal),
         None => Some(default_value(kind)),
     }
 }
 
+/// Whether the point has this type; where there is none, nothing is wrong with its type.
 fn is_kind_of(point: Option<&Point>, kind: ElementaryType) -> bool
     ensures { result ≡ spec.is_kind_of (option_copied point.entry) kind }
 {
@@ -159,6 +165,7 @@ fn is_typed(declaration: Declaration<'_>, point: Option<&Point>) -> bool
     }
 }
 
+/// Whether the program may write the point, if it is there.
 fn is_writable(point: Option<&Point>) -> bool
     ensures { result ≡ spec.is_writable (option_copied point.entry) }
 {
@@ -189,6 +196,7 @@ fn declaration_fault(
 }
 
 impl Declarations {
+    /// Nothing is declared.
     fn new(alloc: Global) -> Self
         ensures nothing { (points : List Point) → StandsFor points [] result }
         ensures no_fault { result.found ≡ None }
@@ -267,6 +275,7 @@ impl Declarations {
         Ok(())
     }
 
+    /// Adds a timer.
     fn add_timer(&mut self, name: Text, kind: TimerKind) -> Result<(), AllocError>
         ensures timers { OnOk result (self.new.timers.items ≡ self.old.timers.items ++ record { name = name; kind = kind } ∷ []) }
         ensures others { OnOk result (SameButTimers self.old self.new) }

@@ -7,7 +7,7 @@ use crate::fault::CheckFault;
 use crate::given::Resolved;
 use crate::note::note_if;
 use crate::rules::{
-    divides, is_unset, is_wrong, joins_wrong, jumps_back, may_divide_by_zero, misses_label,
+    divides, is_unset, is_wrong, combines_wrong, jumps_back, may_divide_by_zero, misses_label,
     misses_name, writes_fixed,
 };
 use bay_base::types::ElementaryType;
@@ -35,6 +35,7 @@ pub(crate) struct Place {
     pub(crate) room: usize,
 }
 
+/// The fault that is answered after what an instruction names and what types it works on.
 fn note_typing(
     found: Option<CheckFault>,
     place: Place,
@@ -57,6 +58,7 @@ fn note_typing(
     note_if(found, is_back, CheckFault::BackwardJump { line })
 }
 
+/// The fault that is answered after where an instruction stands, and what it jumps to, writes and divides by.
 fn note_others(
     found: Option<CheckFault>,
     is_reached: bool,
@@ -128,7 +130,7 @@ pub(crate) fn note_closing(
         negated,
         inner,
     } = closing;
-    let is_wrong = is_reached && joins_wrong(operator, negated, inner, kind);
+    let is_wrong = is_reached && combines_wrong(operator, negated, inner, kind);
     let is_unset = is_reached && (inner.is_none() || kind.is_none());
     let found = note_if(found, is_wrong, CheckFault::TypeMismatch { line });
     let found = note_if(found, is_unset, CheckFault::UnsetResult { line });

@@ -20,6 +20,7 @@ pub(crate) struct Labels {
 }
 
 impl Labels {
+    /// Adds a label of this name, which has the next number.
     fn add(&mut self, alloc: Global, name: &str) -> Result<(), AllocError>
         ensures { OnOk result (AddsLabels ((names.upper name.now, vec_len self.old.arrivals) ∷ []) self.old self.new) }
     {

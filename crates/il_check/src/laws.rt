@@ -3,7 +3,7 @@ ghost use Rattle.std.specs.Prelude.{◌≡◌, ◌↔◌, ◌++◌, [], List, Ok
 ghost use Rattle.bay_base.specs.declared.types.ElementaryType.{ElementaryType};
 ghost use Rattle.bay_config.specs.declared.bay.Point.{Point};
 ghost use Rattle.il_text.specs.Listing as text;
-ghost use Rattle.il_check.specs.Checking.{checked_of, start};
+ghost use Rattle.il_check.specs.Checking.{checked_of, initial_standing};
 ghost use Rattle.il_check.specs.Declaring.{names_in};
 ghost use Rattle.il_check.specs.Faults.{IsLeast, least_fault};
 ghost use Rattle.il_check.specs.Labelling.{Becomes, Flows, IsWellTyped, Labelling, beginning, behind_all, coming_behind};
@@ -18,7 +18,7 @@ ghost use Rattle.il_check.specs.declared.fault.CheckFault.{CheckFault};
 /// label brings its type or the label is unset.
 pub fn some_labelling()
     ensures { (points : List Point) (program : text.PlainProgram) →
-        (items_faults (names_in points program) program.items (start program) ≡ []) ↔ IsWellTyped (names_in points program) program.items }
+        (items_faults (names_in points program) program.items (initial_standing program) ≡ []) ↔ IsWellTyped (names_in points program) program.items }
 {}
 
 /// The checks find the least types: with whatever labelling the items of a front of a program are right, the type of the current
@@ -26,7 +26,7 @@ pub fn some_labelling()
 pub fn least_types()
     ensures { (points : List Point) (program : text.PlainProgram) (front more : List text.Entry) (labels : Labelling) (t : Option ElementaryType) →
         program.items ≡ front ++ more → Flows (names_in points program) labels front beginning → coming_behind (names_in points program) labels front beginning ≡ Some t →
-        Becomes (behind_all (names_in points program) front (start program)).now.kind t }
+        Becomes (behind_all (names_in points program) front (initial_standing program)).now.kind t }
 {}
 
 /// A program passes the checks exactly where its declarations are right and some labelling makes every instruction right.

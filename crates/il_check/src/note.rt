@@ -20,6 +20,7 @@ fn is_before(first: CheckFault, second: CheckFault) -> bool
     first.line() < second.line() || (is_same && is_lower(first.code(), second.code()))
 }
 
+/// The one of two faults that comes first.
 fn lesser(first: CheckFault, second: CheckFault) -> CheckFault
     ensures { result ≡ spec.lesser first second }
 {

@@ -6,7 +6,7 @@ ghost use Rattle.il_text.specs.Listing as text;
 ghost use Rattle.il_check.specs.Given as spec;
 ghost use Rattle.il_check.specs.NamesView.{names_of};
 
-use crate::given::{Called, Given, GivenArgument, GivenArguments, Meaning, Resolved, Source};
+use crate::given::{Called, Given, GivenArgument, GivenArguments, Meaning, Resolved, KnownOperand};
 use crate::names::Names;
 use crate::typed::TypedOperand;
 use bay_base::types::ElementaryType;
@@ -29,11 +29,12 @@ pub(crate) fn typed_value(literal: Literal) -> Option<Value>
     }
 }
 
+/// A literal's value as an operand, which may only be read; a number that is none of its type's is misused.
 fn known(value: Option<Value>) -> Given
     ensures { result ≡ spec.known value }
 {
     match value {
-        Some(value) => Given::Known(Source {
+        Some(value) => Given::Known(KnownOperand {
             operand: TypedOperand::Literal(value),
             kind: value.type_of(),
             writable: false,
@@ -42,6 +43,7 @@ fn known(value: Option<Value>) -> Given
     }
 }
 
+/// A number without a type, which is one of LINT at least.
 fn number_given(number: i64) -> Given
     ensures { result ≡ spec.number_given number }
 {
@@ -52,6 +54,7 @@ fn number_given(number: i64) -> Given
     }
 }
 
+/// A literal as an operand.
 fn literal_given(literal: Literal) -> Given
     ensures { result ≡ spec.literal_given literal }
 {
@@ -61,6 +64,7 @@ fn literal_given(literal: Literal) -> Given
     }
 }
 
+/// What a name means as a variable.
 fn variable_given(meaning: Option<Meaning>) -> Given
     ensures { result ≡ spec.variable_given meaning }
 {
@@ -72,7 +76,7 @@ fn variable_given(meaning: Option<Meaning>) -> Given
                 kind,
                 writable,
             },
-        ) => Given::Known(Source {
+        ) => Given::Known(KnownOperand {
             operand: TypedOperand::Slot(slot),
             kind,
             writable,
@@ -81,6 +85,7 @@ fn variable_given(meaning: Option<Meaning>) -> Given
     }
 }
 
+/// The type of an output of a timer.
 fn output_type(output: Output) -> ElementaryType
     ensures { result ≡ spec.output_type output }
 {
@@ -90,13 +95,14 @@ fn output_type(output: Output) -> ElementaryType
     }
 }
 
+/// What a name means as the timer of an output.
 fn output_given(meaning: Option<Meaning>, output: Output) -> Given
     ensures { result ≡ spec.output_given meaning output }
 {
     match meaning {
         None => Given::Missing,
         Some(Meaning::Variable { .. }) => Given::Misused,
-        Some(Meaning::Timer(timer)) => Given::Known(Source {
+        Some(Meaning::Timer(timer)) => Given::Known(KnownOperand {
             operand: TypedOperand::Output { timer, output },
             kind: output_type(output),
             writable: false,
@@ -104,6 +110,7 @@ fn output_given(meaning: Option<Meaning>, output: Output) -> Given
     }
 }
 
+/// Whether a literal is other than 0 and FALSE.
 fn is_nonzero_literal(literal: Literal) -> bool
     ensures { result ≡ spec.is_nonzero_literal literal }
 {
@@ -127,6 +134,7 @@ fn is_nonzero(operand: Operand<'_>) -> bool
     }
 }
 
+/// What a name means as a timer that is called.
 fn called_of(meaning: Option<Meaning>) -> Called
     ensures { result ≡ spec.called_of meaning }
 {
@@ -138,6 +146,7 @@ fn called_of(meaning: Option<Meaning>) -> Called
 }
 
 impl Names {
+    /// What a symbolic variable means: a variable, or an output of a timer.
     fn place(&self, buffer: &mut String, variable: SymbolicVariable<'_>) -> Result<Given, AllocError>
         ensures { IfOk result (λ given. given ≡ spec.place_given (names_of self.now) (place_of variable.entry)) }
     {
@@ -149,6 +158,7 @@ impl Names {
         }
     }
 
+    /// What an operand means.
     fn operand(&self, buffer: &mut String, operand: Operand<'_>) -> Result<Given, AllocError>
         ensures { IfOk result (λ given. given ≡ spec.source_given (names_of self.now) (source_of operand.entry)) }
     {
@@ -158,6 +168,7 @@ impl Names {
         }
     }
 
+    /// What a call gives to one input.
     fn argument(
         &self,
         buffer: &mut String,
@@ -171,6 +182,7 @@ impl Names {
         })
     }
 
+    /// What a call gives to its inputs.
     fn arguments(
         &self,
         buffer: &mut String,
@@ -189,6 +201,7 @@ impl Names {
         }
     }
 
+    /// A call with what its names mean.
     fn call(
         &self,
         buffer: &mut String,

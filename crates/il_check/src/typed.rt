@@ -54,7 +54,7 @@ pub enum TypedOperand {
 
 /// An instruction that may stand in a parenthesis (IEC 61131-3:2003, table 52).
 #[derive(Clone, Copy, PartialEq, Eq)]
-pub enum Operation {
+pub enum SimpleOperation {
     /// `LD`, `LDN`
     Load {
         negated: bool,
@@ -82,7 +82,7 @@ pub enum Operation {
 /// this type.
 #[derive(Drop)]
 pub enum TypedEntry {
-    Operation(Operation),
+    Operation(SimpleOperation),
     Block {
         operator: Operator,
         kind: ElementaryType,

@@ -19,8 +19,8 @@ use Rattle.il_image.specs.declared.value.Value.TheVariants.{Truth, Span}
 use Rattle.il_check.specs.Program.{Checked, Entry, operation, block, Entries, no_entries, entry}
 use Rattle.il_check.specs.Rules as rules
 use Rattle.il_check.specs.TypedProgram.{slot_type, IsOperand, is_divisor, IsOperation, IsEntry, AreEntries, entry_depth, entries_depth}
-use Rattle.il_check.specs.declared.typed.Operation.{Operation}
-use Rattle.il_check.specs.declared.typed.Operation.TheVariants as op
+use Rattle.il_check.specs.declared.typed.SimpleOperation.{SimpleOperation}
+use Rattle.il_check.specs.declared.typed.SimpleOperation.TheVariants as op
 use Rattle.il_check.specs.declared.typed.Slot as typed
 use Rattle.il_check.specs.declared.typed.TypedOperand.{TypedOperand}
 use Rattle.il_check.specs.declared.typed.TypedOperand.TheVariants as operand
@@ -254,7 +254,7 @@ module _ (c : Checked) (now : ℕ) where
   store_does store.Set s v m below kind ty st h t = bool_does store.Set s v m below kind ty st (boolean_is kind h) t
   store_does store.Reset s v m below kind ty st h t = bool_does store.Reset s v m below kind ty st (boolean_is kind h) t
 
-  pub operation_does : (o : Operation) (t u : Option ElementaryType) (s : State) (cell : Value) (below : List Value) → IsOperation c o t u → Agrees t s.result cell → HasTypes c s.memory → length below + 2 ≤ 32
+  pub operation_does : (o : SimpleOperation) (t u : Option ElementaryType) (s : State) (cell : Value) (below : List Value) → IsOperation c o t u → Agrees t s.result cell → HasTypes c s.memory → length below + 2 ≤ 32
       → Gives (operation_code (length c.externals) o) (holding (cell ∷ below) s.memory) below u (acted o s)
   operation_does (op.Load negated x) t u s cell below ok ag ty room =
       let f = operand_does x ok.0 s.memory below ty ok.1 (omega arith) in

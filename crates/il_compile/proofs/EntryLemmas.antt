@@ -9,7 +9,7 @@ use Rattle.il_image.specs.Spelling.{IsInstr}
 use Rattle.il_image.specs.declared.instr.Instr.{Instr}
 use Rattle.il_check.specs.Program.{block, entries_of}
 use Rattle.il_check.specs.ProgramViews.{entry_view}
-use Rattle.il_check.specs.declared.typed.Operation as typed
+use Rattle.il_check.specs.declared.typed.SimpleOperation as typed
 use Rattle.il_check.specs.declared.typed.TypedEntry.{TypedEntry, Operation, Block}
 use Rattle.il_check.proofs.ViewLemmas.{view_operation, view_block}
 use Rattle.il_compile.specs.Behind.{IsSpellableEntry, AreSpellableEntries}
@@ -18,10 +18,10 @@ use Rattle.il_compile.specs.Code.{unset, operated, operation_code, entry_code, e
 none_after : {X : Type 0} → (xs : List X) (i : ℕ) → length xs ≤ i → drop i xs ≡ []
 none_after {X} xs i h = grind (arith, common_steps)
 
-pub operation_spellable : (n : ℕ) (o : typed.Operation) (e : TypedEntry) → e ≡ Operation o → IsSpellableEntry n (entry_view e) → Each IsInstr (operation_code n o)
+pub operation_spellable : (n : ℕ) (o : typed.SimpleOperation) (e : TypedEntry) → e ≡ Operation o → IsSpellableEntry n (entry_view e) → Each IsInstr (operation_code n o)
 operation_spellable n o e is h = subst (IsSpellableEntry n) (ap entry_view is ∙ view_operation o) h
 
-pub operation_coded : (n : ℕ) (o : typed.Operation) (e : TypedEntry) → e ≡ Operation o → entry_code n (entry_view e) ≡ operation_code n o
+pub operation_coded : (n : ℕ) (o : typed.SimpleOperation) (e : TypedEntry) → e ≡ Operation o → entry_code n (entry_view e) ≡ operation_code n o
 operation_coded n o e is = ap (entry_code n) (ap entry_view is ∙ view_operation o)
 
 pub entries_spellable : (n : ℕ) (operator : Operator) (kind : ElementaryType) (negated : Bool) (entries : Vec TypedEntry Global) (e : TypedEntry) (es : List TypedEntry)

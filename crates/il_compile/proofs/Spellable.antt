@@ -16,8 +16,8 @@ use Rattle.il_image.specs.declared.opcode.TimerUse.TheVariants.{Run}
 use Rattle.il_check.specs.Labelling.{Labelling, Carried, beginning}
 use Rattle.il_check.specs.Program.{Checked, Entry, operation, block, Entries, no_entries, entry, Item, label, transfer, plain}
 use Rattle.il_check.specs.TypedProgram.{slot_type, IsOperand, IsOperation, IsEntry, AreEntries, IsArgument, AreArguments, AreItems, IsTyped}
-use Rattle.il_check.specs.declared.typed.Operation.{Operation}
-use Rattle.il_check.specs.declared.typed.Operation.TheVariants as op
+use Rattle.il_check.specs.declared.typed.SimpleOperation.{SimpleOperation}
+use Rattle.il_check.specs.declared.typed.SimpleOperation.TheVariants as op
 use Rattle.il_check.specs.declared.typed.Slot.{Slot}
 use Rattle.il_check.specs.declared.typed.Slot.TheVariants.{External, Variable}
 use Rattle.il_check.specs.declared.typed.Transfer.TheVariants as go
@@ -73,7 +73,7 @@ module _ (c : Checked) (few : length c.externals + length c.variables ≤ 512) (
   fetch_is (operand.Output n Q) kind h = timer_is n h.0
   fetch_is (operand.Output n Et) kind h = timer_is n h.0
 
-  operation_is : (o : Operation) (t u : Option ElementaryType) → IsOperation c o t u → Each IsInstr (operation_code (length c.externals) o)
+  operation_is : (o : SimpleOperation) (t u : Option ElementaryType) → IsOperation c o t u → Each IsInstr (operation_code (length c.externals) o)
   operation_is (op.Load negated x) t u h = (tt, (fetch_is x h.0 h.1, negation_is negated))
   operation_is (op.Store how s) t u h = store_is how (slot_number (length c.externals) s) (slot_is s h.0 h.1)
   operation_is (op.Combine operator kind negated x) t u h = (fetch_is x kind h.0, operated_is operator kind negated)

@@ -19,8 +19,8 @@ use Rattle.il_image.proofs.KindLemmas.{within_any}
 use Rattle.il_check.specs.Program.{Checked, Entry, operation, block, Entries, no_entries, entry}
 use Rattle.il_check.specs.Rules as rules
 use Rattle.il_check.specs.TypedProgram.{AreArguments, AreEntries, IsArgument, IsEntry, IsOperation, entries_depth, entry_depth, is_divisor}
-use Rattle.il_check.specs.declared.typed.Operation.{Operation}
-use Rattle.il_check.specs.declared.typed.Operation.TheVariants as op
+use Rattle.il_check.specs.declared.typed.SimpleOperation.{SimpleOperation}
+use Rattle.il_check.specs.declared.typed.SimpleOperation.TheVariants as op
 use Rattle.il_check.specs.declared.typed.TypedArgument.{TypedArgument}
 use Rattle.il_check.specs.declared.typed.TypedArguments.{TypedArguments}
 use Rattle.il_check.specs.declared.typed.TypedArguments.TheVariants as arguments
@@ -129,7 +129,7 @@ module _ (c : Checked) where
   store_flows store.Set n kind top below may s w h room = special_flows store.Set n kind top below (boolean_is kind may) s w h room
   store_flows store.Reset n kind top below may s w h room = special_flows store.Reset n kind top below (boolean_is kind may) s w h room
 
-  operation_flows : (o : Operation) (t u : Option ElementaryType) (top : Kind) (below : List Kind) → IsOperation c o t u → Fits t top → length below + 2 ≤ 32
+  operation_flows : (o : SimpleOperation) (t u : Option ElementaryType) (top : Kind) (below : List Kind) → IsOperation c o t u → Fits t top → length below + 2 ≤ 32
       → Leaves (operation_code (length c.externals) o) (top ∷ below) below u
   operation_flows (op.Load negated x) t u top below ok fit room =
       let f = fetched c x ok.0 below ok.1 (omega arith) in

@@ -19,8 +19,8 @@ use Rattle.il_image.specs.declared.opcode.TimerUse.{TimerUse}
 use Rattle.il_image.specs.declared.opcode.TimerUse.TheVariants.{SetInput, SetPreset, Run, LoadOutput, LoadElapsed}
 use Rattle.il_image.specs.declared.value.Value.TheVariants.{Truth}
 use Rattle.il_check.specs.Program.{Entry, operation, block, Entries, no_entries, entry, Item, label, transfer, plain, Checked}
-use Rattle.il_check.specs.declared.typed.Operation.{Operation}
-use Rattle.il_check.specs.declared.typed.Operation.TheVariants as op
+use Rattle.il_check.specs.declared.typed.SimpleOperation.{SimpleOperation}
+use Rattle.il_check.specs.declared.typed.SimpleOperation.TheVariants as op
 use Rattle.il_check.specs.declared.typed.Slot as typed
 use Rattle.il_check.specs.declared.typed.Slot.TheVariants.{External, Variable}
 use Rattle.il_check.specs.declared.typed.Transfer.{Transfer}
@@ -75,7 +75,7 @@ store_code store.Negated n = Not ∷ Slot Store n ∷ Not ∷ []
 store_code store.Set n = Slot SetIf n ∷ []
 store_code store.Reset n = Slot ResetIf n ∷ []
 
-abbrev pub operation_code : ℕ → Operation → List Instr
+abbrev pub operation_code : ℕ → SimpleOperation → List Instr
 operation_code externals (op.Load negated x) = Drop ∷ fetch externals x ∷ negation negated
 operation_code externals (op.Store how s) = store_code how (slot_number externals s)
 operation_code externals (op.Combine operator kind negated x) = fetch externals x ∷ operated operator kind negated

@@ -18,15 +18,15 @@ use Rattle.il_image.specs.Effects.{◌>>=◌}
 use Rattle.il_image.specs.Machine.{divides, is_comparable, value_in}
 use Rattle.il_image.specs.Timers.{called}
 use Rattle.il_image.specs.Values.{number_of, type_of}
-use Rattle.il_image.specs.declared.arithmetic.Operation.{Operation as Arithmetic}
+use Rattle.il_image.specs.declared.arithmetic.Operation.{Operation}
 use Rattle.il_image.specs.declared.arithmetic.Width.{Width}
 use Rattle.il_image.specs.declared.arithmetic.Width.TheVariants as width
 use Rattle.il_image.specs.declared.timer.Timer.{Timer}
 use Rattle.il_image.specs.declared.value.Value.{Value}
 use Rattle.il_image.specs.declared.value.Value.TheVariants.{Truth, Short, Long, Wide, Span}
 use Rattle.il_check.specs.Program.{Entry, operation, block, Entries, no_entries, entry, Item, label, transfer, plain}
-use Rattle.il_check.specs.declared.typed.Operation.{Operation}
-use Rattle.il_check.specs.declared.typed.Operation.TheVariants as op
+use Rattle.il_check.specs.declared.typed.SimpleOperation.{SimpleOperation}
+use Rattle.il_check.specs.declared.typed.SimpleOperation.TheVariants as op
 use Rattle.il_check.specs.declared.typed.Slot.{Slot}
 use Rattle.il_check.specs.declared.typed.Slot.TheVariants.{External, Variable}
 use Rattle.il_check.specs.declared.typed.Transfer.TheVariants as go
@@ -64,10 +64,10 @@ connected_values (Truth a) (Truth b) f = Some (Truth (f a b))
 connected_values a b f = None
 
 -- of two numbers of one width; none is divided by 0
-abbrev pub computed_in : Width → Arithmetic → ℤ → ℤ → Option Value
+abbrev pub computed_in : Width → Operation → ℤ → ℤ → Option Value
 computed_in w o a b = if divides o && int_eq b (pos 0) then None else Some (value_in w (computed o w a b))
 
-abbrev pub computed_values : Arithmetic → Value → Value → Option Value
+abbrev pub computed_values : Operation → Value → Value → Option Value
 computed_values o (Short a) (Short b) = computed_in width.Int o a b
 computed_values o (Long a) (Long b) = computed_in width.Dint o a b
 computed_values o (Wide a) (Wide b) = computed_in width.Lint o a b
@@ -124,7 +124,7 @@ stored store.Reset s v m = set_to false s v m
 
 -- ---- operations and parentheses
 
-abbrev pub acted : Operation → State → Option State
+abbrev pub acted : SimpleOperation → State → Option State
 acted (op.Load negated x) s = do
   v ← read x s.memory
   w ← inverse_if negated v

@@ -26,7 +26,7 @@ use Rattle.il_image.specs.declared.instr.Instr.{Instr}
 use Rattle.il_image.specs.declared.instr.Instr.TheVariants.{Halt, Push, Drop, Slot, Not, Combine, Compute, Compare, Widen, Jump, Timer}
 use Rattle.il_image.specs.declared.opcode.SlotUse.TheVariants.{Load, Store, SetIf, ResetIf}
 use Rattle.il_image.proofs.KindLemmas.{same_is, same_self}
-use Rattle.il_check.specs.Checking.{checked_of, checked_program, faults_of, start}
+use Rattle.il_check.specs.Checking.{checked_of, checked_program, faults_of, initial_standing}
 use Rattle.il_check.specs.Declaring.{declaration_faults, declarations_faults, external_at, external_in, externals_of, is_typed, names_in, point_of as declared_point, is_name}
 use Rattle.il_check.specs.Faults.{fault_if, least_fault}
 use Rattle.il_check.specs.Program.{Checked}
@@ -201,7 +201,7 @@ image_fits points c ok h =
 checked_fits : (points : List Point) (program : text.PlainProgram) (c : Checked) → checked_of points program ≡ Ok c → IsTyped c → fits points (image_of c) ≡ true
 checked_fits points program c e ok =
     let p = passed (least_fault (faults_of points program)) (checked_program points program) c e in
-    let none = (append-none (declarations_faults points [] program.declarations) (items_faults (names_in points program) program.items (start program)) (least_fault-none (faults_of points program) p.0)).0 in
+    let none = (append-none (declarations_faults points [] program.declarations) (items_faults (names_in points program) program.items (initial_standing program)) (least_fault-none (faults_of points program) p.0)).0 in
     image_fits points c ok
     (subst (λ x. are_points points (map point_of x.externals) ≡ true) p.1
     (points_fit points (externals_of points program.declarations) _ (all_bound points [] program.declarations none) (all_apart points program.declarations none)))

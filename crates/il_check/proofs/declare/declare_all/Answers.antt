@@ -3,7 +3,7 @@ use Rattle.bay_base.specs.declared.types.ElementaryType.TheVariants as elementar
 use Rattle.il_text.specs.declared.program.Declaration.{Declaration}
 use Rattle.il_text.specs.declared.program.DeclaredType.TheVariants.{Elementary}
 use Rattle.il_text.specs.declared.program.Scope.TheVariants.{Local}
-use Rattle.il_check.proofs.StandingLemmas.{so_far-more, so_far-none, so_far-stands, so_far-found}
+use Rattle.il_check.proofs.DeclarationsViewLemmas.{so_far-more, so_far-none, so_far-stands, so_far-found}
 use Rattle.il_check.proofs.declare.declare_all.Goals as goal
 
 pub loop-declaration-init : goal.loop-declaration-init

@@ -19,6 +19,7 @@ use Rattle.il_check.specs.declared.typed.External.{External}
 use Rattle.il_check.specs.declared.typed.Variable.{Variable}
 use Rattle.il_check.specs.declared.typed.Timer.{Timer}
 
+-- how many are declared so far
 abbrev pub counts_in : Declarations → Counts
 counts_in d = record { externals = vec_len d.externals; variables = vec_len d.variables; timers = vec_len d.timers }
 
@@ -27,22 +28,27 @@ abbrev pub external_named : List ℕ → ElementaryType → Option Point → Opt
 external_named name kind None = None
 external_named name kind (Some p) = Some (record { name = name; kind = kind; writable = p.writable; source = p.source })
 
+-- the variable of a name with the value that it begins with
 abbrev pub variable_named : List ℕ → Option Value → Option Variable
 variable_named name None = None
 variable_named name (Some v) = Some (record { name = name; initial = v })
 
+-- what a declaration, whose name in upper case is given, adds to externals, variables and timers
 abbrev pub external_added : List ℕ → Scope → DeclaredType → Option Point → Option External
 external_added name scope.External (type.Elementary kind) point = external_named name kind point
 external_added name declared_as kind point = None
 
+-- a variable, where a local name has an elementary type and a value that fits it
 abbrev pub variable_added : List ℕ → text.Declared → Scope → DeclaredType → Option Variable
 variable_added name d scope.Local (type.Elementary kind) = variable_named name (initial_in kind d.initial)
 variable_added name d declared_as kind = None
 
+-- a timer, where the name has the type of one
 abbrev pub timer_added : List ℕ → DeclaredType → Option Timer
 timer_added name (type.Timer kind) = Some (record { name = name; kind = kind })
 timer_added name (type.Elementary kind) = None
 
+-- All but one stays as it was: the externals, the variables, the timers.
 pub record SameButExternals (old new : Declarations) : Type 0 where
   pub variables : new.variables ≡ old.variables
   pub timers : new.timers ≡ old.timers
