@@ -52,7 +52,7 @@ fn octets_of(instr: Instr) -> u32
 }
 
 // The octets of both, counted up to 65,536.
-fn joined(a: u32, b: u32) -> u32
+fn bounded_sum(a: u32, b: u32) -> u32
     requires left { a ≤ 65_536 }
     requires right { b ≤ 65_536 }
     ensures { result ≡ min (a + b) 65_536 }
@@ -75,7 +75,7 @@ fn put_before(
 {
     let mut all = octets;
     while let Some(instr) = line.pop() {
-        all = joined(all, octets_of(instr));
+        all = bounded_sum(all, octets_of(instr));
         behind.push(instr)?;
     }
     Ok(all)

@@ -44,7 +44,7 @@ use Rattle.il_verify.proofs.EffectLemmas.{some_same, bind_some}
 use Rattle.il_scan.specs.Standing.{Fit, IsTimer, Typed}
 use Rattle.il_scan.specs.Words.{AreTyped, slot_at, words_of}
 use Rattle.il_scan.specs.Working.{IsReady, Words, leads, timer_at, words, worked}
-use Rattle.il_scan.proofs.ValueLemmas.{joined_is, kind_there, number_in, number_there, span_there, span_value, span_within, truth_there, truth_value, truth_word, type_in, widened_long, widened_short, wrapped_value}
+use Rattle.il_scan.proofs.ValueLemmas.{combined_is, kind_there, number_in, number_there, span_there, span_value, span_within, truth_there, truth_value, truth_word, type_in, widened_long, widened_short, wrapped_value}
 
 -- ---- values on the stack
 
@@ -308,7 +308,7 @@ module _ (types : List ElementaryType) (count now next p : ℕ) (others slots : 
     new_timers = timers;
     goes_on = refl;
     leads_to = refl;
-    words_are = ap (λ (w : ℤ). words (w ∷ words_of others) (words_of slots) timers) (joined_is c a b);
+    words_are = ap (λ (w : ℤ). words (w ∷ words_of others) (words_of slots) timers) (combined_is c a b);
     fit = ((refl, truth_value (connected c a b)), fit);
     typed = typed;
   }

@@ -24,7 +24,7 @@ use Rattle.il_image.specs.Machine.{value_in}
 use Rattle.il_image.specs.Values.{number_of, type_of, value_of, is_between}
 use Rattle.il_image.proofs.ValueLemmas.{value_back}
 use Rattle.il_scan.specs.Words.{value_at}
-use Rattle.il_scan.specs.Working.{joined, word_of}
+use Rattle.il_scan.specs.Working.{combined, word_of}
 
 pub truth_word : (b : Bool) → number_of (Truth b) ≡ word_of b
 truth_word true = refl
@@ -148,16 +148,16 @@ number_there width.Lint (Short z) e = absurd cc
 number_there width.Lint (Long z) e = absurd cc
 number_there width.Lint (Span n) e = absurd cc
 
-pub joined_is : (c : Connective) (a b : Bool) → joined c (number_of (Truth a)) (number_of (Truth b)) ≡ number_of (Truth (connected c a b))
-joined_is And true true = refl
-joined_is And true false = refl
-joined_is And false true = refl
-joined_is And false false = refl
-joined_is Or true true = refl
-joined_is Or true false = refl
-joined_is Or false true = refl
-joined_is Or false false = refl
-joined_is Xor true true = refl
-joined_is Xor true false = refl
-joined_is Xor false true = refl
-joined_is Xor false false = refl
+pub combined_is : (c : Connective) (a b : Bool) → combined c (number_of (Truth a)) (number_of (Truth b)) ≡ number_of (Truth (connected c a b))
+combined_is And true true = refl
+combined_is And true false = refl
+combined_is And false true = refl
+combined_is And false false = refl
+combined_is Or true true = refl
+combined_is Or true false = refl
+combined_is Or false true = refl
+combined_is Or false false = refl
+combined_is Xor true true = refl
+combined_is Xor true false = refl
+combined_is Xor false true = refl
+combined_is Xor false false = refl

@@ -48,10 +48,10 @@ abbrev pub is_not_zero : ℤ → Bool
 is_not_zero w = not (int_eq w (pos 0))
 
 -- AND, OR and XOR of the words of two BOOLs
-abbrev pub joined : Connective → ℤ → ℤ → ℤ
-joined And a b = if int_eq a (pos 0) then pos 0 else b
-joined Or a b = if int_eq a (pos 0) then b else pos 1
-joined Xor a b = word_of (not (int_eq a b))
+abbrev pub combined : Connective → ℤ → ℤ → ℤ
+combined And a b = if int_eq a (pos 0) then pos 0 else b
+combined Or a b = if int_eq a (pos 0) then b else pos 1
+combined Xor a b = word_of (not (int_eq a b))
 
 abbrev pub slot_worked : SlotUse → ℕ → Words → Words
 slot_worked Load n m = record m { stack = slot_at m.slots n ∷ m.stack }
@@ -73,7 +73,7 @@ worked now (Push v) m = record m { stack = number_of v ∷ m.stack }
 worked now Drop m = record m { stack = drop 1 m.stack }
 worked now (Slot use_of n) m = slot_worked use_of n m
 worked now Not m = record m { stack = word_of (int_eq (top m.stack) (pos 0)) ∷ drop 1 m.stack }
-worked now (Combine c) m = record m { stack = joined c (first m.stack) (top m.stack) ∷ drop 2 m.stack }
+worked now (Combine c) m = record m { stack = combined c (first m.stack) (top m.stack) ∷ drop 2 m.stack }
 worked now (Compute o w) m = record m { stack = computed o w (first m.stack) (top m.stack) ∷ drop 2 m.stack }
 worked now (Compare c) m = record m { stack = word_of (compared c (first m.stack) (top m.stack)) ∷ drop 2 m.stack }
 worked now (Widen w) m = m

@@ -5,7 +5,7 @@ ghost use Rattle.il_image.specs.Arithmetic.{DividesBy, compared, computed};
 ghost use Rattle.il_image.specs.Timers as time;
 ghost use Rattle.il_scan.specs.Working as spec;
 ghost use Rattle.il_scan.specs.Words.{slot_at};
-ghost use Rattle.il_scan.specs.Working.{IsReady, IsSpan, is_not_zero, joined, timer_at, word_of, worked, words};
+ghost use Rattle.il_scan.specs.Working.{IsReady, IsSpan, is_not_zero, combined, timer_at, word_of, worked, words};
 
 use crate::stack::Stack;
 use il_image::arithmetic::{Comparison, Operation, Width, compare, compute};
@@ -27,7 +27,7 @@ fn negate(stack: &mut Stack)
 #[inline(always)]
 fn and(stack: &mut Stack)
     requires two { 1 < length stack.old }
-    ensures { stack.new ≡ joined Connective.And (spec.first stack.old) (spec.top stack.old) ∷ drop 2 stack.old }
+    ensures { stack.new ≡ combined Connective.And (spec.first stack.old) (spec.top stack.old) ∷ drop 2 stack.old }
 {
     let second = stack.pop();
     let first = stack.top();
@@ -38,7 +38,7 @@ fn and(stack: &mut Stack)
 #[inline(always)]
 fn or(stack: &mut Stack)
     requires two { 1 < length stack.old }
-    ensures { stack.new ≡ joined Connective.Or (spec.first stack.old) (spec.top stack.old) ∷ drop 2 stack.old }
+    ensures { stack.new ≡ combined Connective.Or (spec.first stack.old) (spec.top stack.old) ∷ drop 2 stack.old }
 {
     let second = stack.pop();
     let first = stack.top();
@@ -49,7 +49,7 @@ fn or(stack: &mut Stack)
 #[inline(always)]
 fn xor(stack: &mut Stack)
     requires two { 1 < length stack.old }
-    ensures { stack.new ≡ joined Connective.Xor (spec.first stack.old) (spec.top stack.old) ∷ drop 2 stack.old }
+    ensures { stack.new ≡ combined Connective.Xor (spec.first stack.old) (spec.top stack.old) ∷ drop 2 stack.old }
 {
     let second = stack.pop();
     let first = stack.top();
@@ -60,7 +60,7 @@ fn xor(stack: &mut Stack)
 #[inline(always)]
 fn combine(stack: &mut Stack, connective: Connective)
     requires two { 1 < length stack.old }
-    ensures { stack.new ≡ joined connective (spec.first stack.old) (spec.top stack.old) ∷ drop 2 stack.old }
+    ensures { stack.new ≡ combined connective (spec.first stack.old) (spec.top stack.old) ∷ drop 2 stack.old }
 {
     match connective {
         Connective::And => and(stack),

@@ -145,7 +145,7 @@ fn is_true_word(elementary: ElementaryType, word: i64) -> bool
 
 /// Whether the value of the point at a place is TRUE.
 #[inline(always)]
-pub(crate) fn is_true(points: &[ImagePoint], slots: &[i64], place: usize) -> bool
+pub(crate) fn is_output_true(points: &[ImagePoint], slots: &[i64], place: usize) -> bool
     requires words { AreWords points.now slots.now }
     requires within { place < length points.now }
     ensures { result ≡ spec.is_true (Some (spec.output_value points.now slots.now place)) }
