@@ -3,6 +3,7 @@
 -- there, a value of another type or a divisor of 0 means nothing.
 use Rattle.std.specs.Prelude.{ℕ, ℤ, pos, ◌&&◌, ◌==◌, Bool, true, false, not, List, [], ◌∷◌, slice_get, slice_set, Option, None, Some, option_map, if◌then◌else◌}
 use Rattle.std.specs.Ordering.{int_eq}
+use Rattle.bay_base.specs.Options.{◌>>=◌}
 use Rattle.bay_base.specs.Types.{same_type}
 use Rattle.il_text.specs.declared.program.Condition.{Condition}
 use Rattle.il_text.specs.declared.program.Condition.TheVariants.{Always, IfTrue, IfFalse}
@@ -14,7 +15,6 @@ use Rattle.il_text.specs.declared.program.Output.TheVariants.{Q, Et}
 use Rattle.il_text.specs.declared.program.StoreKind.{StoreKind}
 use Rattle.il_text.specs.declared.program.StoreKind.TheVariants as store
 use Rattle.il_image.specs.Arithmetic.{compared, computed, connected, widened}
-use Rattle.il_image.specs.Effects.{◌>>=◌}
 use Rattle.il_image.specs.Machine.{divides, is_comparable, value_in}
 use Rattle.il_image.specs.Timers.{called}
 use Rattle.il_image.specs.Values.{number_of, type_of}

@@ -1,6 +1,7 @@
 -- Reading an image from the left, up to its first fault.
 use Rattle.std.specs.Prelude.{ℕ, zero, suc, ◌≡◌, ◌<◌, ◌≤◌, ◌++◌, ◌==◌, ◌||◌, Bool, true, false, List, [], ◌∷◌, length, take, drop, Option, Some, None, Result, Ok, Err, nat_lt, if◌then◌else◌}
 use Rattle.std.specs.List.{list_all}
+use Rattle.bay_base.specs.Results.{◌>>=◌}
 use Rattle.bay_base.specs.declared.types.ElementaryType.{ElementaryType}
 use Rattle.bay_base.specs.declared.types.ElementaryType.TheVariants as elementary
 use Rattle.il_image.specs.declared.fault.ImageFault.{ImageFault}
@@ -13,7 +14,7 @@ use Rattle.il_image.specs.declared.timer.TimerKind.{TimerKind}
 use Rattle.il_image.specs.declared.timer.TimerKind.TheVariants.{OnDelay, OffDelay}
 use Rattle.il_image.specs.declared.value.Value.{Value}
 use Rattle.il_image.specs.Images.{Image, is_name_octet, mark, value_size}
-use Rattle.il_image.specs.Reading.{Read, ◌>>=◌, instr_from, known, number_at, octet_at, value_at}
+use Rattle.il_image.specs.Reading.{Read, instr_from, known, number_at, octet_at, value_at}
 
 -- the octets behind these, each of which has to be there
 abbrev pub behind : List ℕ → List ℕ → Result (List ℕ) ImageFault

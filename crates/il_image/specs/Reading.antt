@@ -2,6 +2,7 @@
 -- from the left.
 use Rattle.std.specs.Prelude.{ℕ, ℤ, ◌≡◌, ◌+◌, ◌-◌, ◌≤◌, ◌++◌, List, [], ◌∷◌, length, drop, Option, Some, None, Result, Ok, Err, nat_lt, if◌then◌else◌}
 use Rattle.std.specs.Int.{w16, cast_signed, from_be_bytes}
+use Rattle.bay_base.specs.Results.{◌>>=◌}
 use Rattle.bay_base.specs.declared.types.ElementaryType.{ElementaryType}
 use Rattle.il_image.specs.declared.arithmetic.Width.{Width}
 use Rattle.il_image.specs.declared.fault.ImageFault.{ImageFault}
@@ -21,16 +22,6 @@ use Rattle.il_image.specs.Values.{value_of}
 
 abbrev pub Read : Type 0 → Type 0
 Read A = Result (A × List ℕ) ImageFault
-
-infixl 10 ◌>>=◌
-abbrev pub ◌>>=◌ : {A B : Type 0} → Result A ImageFault → (A → Result B ImageFault) → Result B ImageFault
-(Ok x) >>= f = f x
-(Err e) >>= f = Err e
-
--- What a function answered, seen by view, is what reading gives.
-abbrev pub IsRead : {X Y : Type 0} → (X → Y) → Result X ImageFault → Result Y ImageFault → Type 0
-IsRead view (Ok x) read = read ≡ Ok (view x)
-IsRead view (Err e) read = read ≡ Err e
 
 -- what an octet or a number stands for, where it stands for something
 abbrev pub known : {A : Type 0} → Option A → Result A ImageFault

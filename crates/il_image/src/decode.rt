@@ -2,11 +2,11 @@
 ghost use Rattle.std.specs.Prelude.{◌≡◌, ◌≤◌, ◌^◌, ◌<◌, length, IsErrOf, IsTrue, MatchResult, None, Some};
 ghost use Rattle.std.specs.List.{list_all};
 ghost use Rattle.bay_base.specs.Exact.{Gives};
+ghost use Rattle.bay_base.specs.Results.{IsRead};
 ghost use Rattle.il_image.specs.Decoding.{TakesMemory, access_of, behind, code_fault, counted_at, decoded, kind_of_octet};
 ghost use Rattle.il_image.specs.Decoding as spec;
 ghost use Rattle.il_image.specs.Images.{mark};
 ghost use Rattle.il_image.specs.Images as spec_images;
-ghost use Rattle.il_image.specs.Reading.{IsRead};
 
 use crate::fault::ImageFault;
 use crate::image::{Image, ImagePoint};
