@@ -23,11 +23,10 @@ use Rattle.il_check.specs.declared.typed.Timer.{Timer as DeclaredTimer}
 use Rattle.il_check.specs.declared.typed.Variable.{Variable}
 use Rattle.il_image.specs.Images.{Each}
 use Rattle.il_image.specs.Timers.{first_state}
-use Rattle.il_image.specs.declared.timer.TimerKind.{TimerKind}
+use Rattle.bay_base.specs.declared.types.TimerKind.{TimerKind}
 use Rattle.il_verify.specs.Verdicts.{IsVerified}
 use Rattle.il_compile.specs.Compiled.{image_of, point_of}
 use Rattle.il_compile.specs.Correct.{DoesTheText, Follows, HasTypes}
-use Rattle.il_compile.specs.Senses.{timer_of}
 use Rattle.bay_device.specs.Load.{initial_device}
 use Rattle.bay_process.proofs.SourceLemmas.{IsTyped, bay-typed, points-fit, reads-typed}
 use Rattle.il_compile.specs.Meaning.{Memory}
@@ -315,9 +314,9 @@ initial-types : (vs : List Variable) → map type_of (map (λ (v : Variable). v.
 initial-types [] = refl
 initial-types (v ∷ vs) = ap (λ (ts : List ElementaryType). type_of v.initial ∷ ts) (initial-types vs)
 
-timers-first : (ts : List DeclaredTimer) → map (λ (t : Timer). t.kind) (map first_state (map (λ (t : DeclaredTimer). timer_of t.kind) ts)) ≡ map (λ (t : DeclaredTimer). timer_of t.kind) ts
+timers-first : (ts : List DeclaredTimer) → map (λ (t : Timer). t.kind) (map first_state (map (λ (t : DeclaredTimer). t.kind) ts)) ≡ map (λ (t : DeclaredTimer). t.kind) ts
 timers-first [] = refl
-timers-first (t ∷ ts) = ap (λ (ks : List TimerKind). timer_of t.kind ∷ ks) (timers-first ts)
+timers-first (t ∷ ts) = ap (λ (ks : List TimerKind). t.kind ∷ ks) (timers-first ts)
 
 pub runs-first : (c : Checked) (bay : Bay) → IsBay bay → IsVerified bay.points (image_of c) → DoesTheText c (image_of c).code → Runs c (initial_device bay (image_of c))
 runs-first c bay is verified does = record {

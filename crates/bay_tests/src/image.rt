@@ -1,5 +1,5 @@
 // Values, timers, instructions and images, with rows whose values come from the format and the standard.
-use bay_base::types::ElementaryType;
+use bay_base::types::{ElementaryType, TimerKind};
 use il_image::arithmetic::{Comparison, Operation, Width, compare, compute, connect, widen, wrap};
 use il_image::decode::decode;
 use il_image::encode::encode;
@@ -9,7 +9,7 @@ use il_image::instr::Instr;
 use il_image::kind::{Kind, is_within, join};
 use il_image::opcode::{Connective, SlotUse, TimerUse, When, Widening};
 use il_image::read::instr_at;
-use il_image::timer::{Timer, TimerKind};
+use il_image::timer::Timer;
 use il_image::value::Value;
 use std::alloc::{AllocError, Global};
 use std::test::Fail;

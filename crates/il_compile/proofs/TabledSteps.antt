@@ -40,7 +40,7 @@ use Rattle.il_check.specs.declared.typed.TypedOperand.{TypedOperand}
 use Rattle.il_check.specs.declared.typed.TypedOperand.TheVariants as operand
 use Rattle.il_compile.specs.Code.{fetch, sense_instr, slot_number, width_of}
 use Rattle.il_compile.specs.Compiled.{image_of, point_of}
-use Rattle.il_compile.specs.Senses.{Sense, connects, computes, compares, timer_of, widening_of}
+use Rattle.il_compile.specs.Senses.{Sense, connects, computes, compares, widening_of}
 use Rattle.il_compile.proofs.Values.{boolean_is, sense_divides, sense_gives, sense_takes}
 
 -- ---- lists
@@ -179,7 +179,7 @@ module _ (c : Checked) where
   slots = slot_types (image_of c)
 
   abbrev pub timers : ℕ
-  timers = length (map (λ t. timer_of t.kind) c.timers)
+  timers = length (map (λ t. t.kind) c.timers)
 
   -- which slots may be written
   abbrev pub writable : List Bool
@@ -256,7 +256,7 @@ module _ (c : Checked) where
       ∙ get_below c.variables n true (some_below (λ v. type_of v.initial) c.variables n kind h)
 
   timer_there : (n : ℕ) (o : Option (List Kind)) → n < length c.timers → with_timer timers n o ≡ o
-  timer_there n o lt = ap (λ b. if b then o else None) (lt-ltb n timers (let l = length-map c.timers (λ t. timer_of t.kind) in omega arith))
+  timer_there n o lt = ap (λ b. if b then o else None) (lt-ltb n timers (let l = length-map c.timers (λ t. t.kind) in omega arith))
 
   -- ---- operands
 

@@ -5,7 +5,7 @@ use Rattle.bay_base.specs.Results.{◌>>=◌}
 use Rattle.il_image.specs.declared.image.ImagePoint.{ImagePoint}
 use Rattle.il_image.specs.declared.opcode.Version.{Version}
 use Rattle.il_image.specs.declared.opcode.Version.TheVariants.{One, Two}
-use Rattle.il_image.specs.declared.timer.TimerKind.{TimerKind}
+use Rattle.bay_base.specs.declared.types.TimerKind.{TimerKind}
 use Rattle.il_image.specs.declared.value.Value.{Value}
 use Rattle.il_image.specs.Decoding.{behind, code_at, counted_at, decoded, point_at, timer_at, variable_at, version_at}
 use Rattle.il_image.specs.Images.{HasName, Image, IsImage, IsValue, counted, encoded, mark, point_octets, timer_octets, variable_octets, version_octet}

@@ -3,8 +3,8 @@ use Rattle.std.specs.Prelude.{ℕ, ◌≡◌, ◌-◌, ◌<◌, ◌≤◌, ◌�
 use Rattle.il_image.specs.declared.timer.TimerPhase.{TimerPhase}
 use Rattle.il_image.specs.declared.timer.TimerPhase.TheVariants.{Idle, Held, Since}
 use Rattle.il_image.specs.declared.timer.Timer.{Timer}
-use Rattle.il_image.specs.declared.timer.TimerKind.{TimerKind}
-use Rattle.il_image.specs.declared.timer.TimerKind.TheVariants.{OnDelay, OffDelay}
+use Rattle.bay_base.specs.declared.types.TimerKind.{TimerKind}
+use Rattle.bay_base.specs.declared.types.TimerKind.TheVariants.{OnDelay, OffDelay}
 
 abbrev pub first_state : TimerKind → Timer
 first_state kind = record { kind = kind; input = false; preset = 0; phase = Idle; output = false; elapsed = 0 }

@@ -12,12 +12,11 @@ use crate::fault::ImageFault;
 use crate::image::{Image, ImagePoint};
 use crate::opcode::Version;
 use crate::read::{instr_from, number_at, octet_at, value_at};
-use crate::timer::TimerKind;
 use crate::value::Value;
 use crate::write::Size;
 use bay_base::listing::Listing;
 use bay_base::text::Text;
-use bay_base::types::ElementaryType;
+use bay_base::types::{ElementaryType, TimerKind};
 use std::alloc::Global;
 
 // The octets behind the mark.

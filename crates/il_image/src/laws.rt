@@ -14,7 +14,7 @@ ghost use Rattle.il_image.specs.declared.value.Value.{Value};
 ghost use Rattle.il_image.specs.declared.opcode.Version.{Version};
 ghost use Rattle.il_image.specs.declared.opcode.Version.TheVariants.{One, Two};
 ghost use Rattle.il_image.specs.Timers.{Call, HasNotPassed, HasPassed, after};
-ghost use Rattle.il_image.specs.declared.timer.TimerKind.TheVariants.{OnDelay, OffDelay};
+ghost use Rattle.bay_base.specs.declared.types.TimerKind.TheVariants.{OnDelay, OffDelay};
 
 /// After any calls, of which the list has the last one first, Q of a TON is TRUE exactly where the
 /// last call has IN TRUE and its PT has passed since the first call of the last unbroken run of

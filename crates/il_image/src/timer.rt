@@ -4,14 +4,7 @@ ghost use Rattle.std.specs.Prelude.{◌≡◌};
 ghost use Rattle.il_image.specs.Timers.{called, first_state, phase_after};
 ghost use Rattle.il_image.specs.Timers as spec;
 
-/// A kind of timer.
-#[derive(Clone, Copy, Debug, PartialEq, Eq)]
-pub enum TimerKind {
-    /// TON: Q follows a TRUE of IN after the time PT.
-    OnDelay,
-    /// TOF: Q follows a FALSE of IN after the time PT.
-    OffDelay,
-}
+use bay_base::types::TimerKind;
 
 /// Where a timer stands in its delay.
 #[derive(Clone, Copy)]

@@ -28,7 +28,7 @@ use Rattle.il_image.specs.declared.opcode.TimerUse.TheVariants.{SetInput, SetPre
 use Rattle.il_image.specs.declared.timer.TimerPhase.{TimerPhase}
 use Rattle.il_image.specs.declared.timer.TimerPhase.TheVariants.{Idle, Held, Since}
 use Rattle.il_image.specs.declared.timer.Timer.{Timer as TimerState}
-use Rattle.il_image.specs.declared.timer.TimerKind.TheVariants.{OnDelay}
+use Rattle.bay_base.specs.declared.types.TimerKind.TheVariants.{OnDelay}
 use Rattle.il_image.specs.declared.value.Value.{Value}
 use Rattle.il_image.specs.declared.value.Value.TheVariants.{Truth, Short, Long, Wide, Span}
 use Rattle.il_image.specs.Arithmetic.{DividesBy, compared, computed, connected, exact, type_of_width}

@@ -5,7 +5,7 @@ use Rattle.bay_base.specs.declared.types.ElementaryType.{ElementaryType}
 use Rattle.bay_base.specs.declared.types.ElementaryType.TheVariants as elementary
 use Rattle.il_image.specs.declared.image.ImagePoint.{ImagePoint}
 use Rattle.il_image.specs.declared.timer.Timer.{Timer}
-use Rattle.il_image.specs.declared.timer.TimerKind.{TimerKind}
+use Rattle.bay_base.specs.declared.types.TimerKind.{TimerKind}
 use Rattle.il_image.specs.declared.value.Value.{Value}
 use Rattle.il_image.specs.Images.{Each, Image, IsValue}
 use Rattle.il_image.specs.Timers.{first_state}

@@ -10,9 +10,9 @@ ghost use Rattle.il_scan.specs.PointPlaces.{AllBelow, read_places, with_words, w
 ghost use Rattle.il_scan.specs.Words.{AreTyped, slot_at, value_at, words_of};
 
 use crate::points::Inputs;
-use bay_base::types::ElementaryType;
+use bay_base::types::{ElementaryType, TimerKind};
 use il_image::image::{Image, ImagePoint};
-use il_image::timer::{Timer, TimerKind};
+use il_image::timer::Timer;
 use il_image::value::Value;
 use std::alloc::{AllocError, Global};
 
