@@ -6,7 +6,7 @@ use il_image::encode::encode;
 use il_image::fault::ImageFault;
 use il_image::image::{Image, ImagePoint};
 use il_image::instr::Instr;
-use il_image::kind::{Kind, is_within, join};
+use il_image::kind::{CellKind, is_within, join};
 use il_image::opcode::{Connective, SlotUse, TimerUse, When, Widening};
 use il_image::read::instr_at;
 use il_image::timer::Timer;
@@ -462,10 +462,10 @@ fn values_of_numbers(rt: HostRuntime) {
 
 #[test]
 fn kinds(rt: HostRuntime) {
-    let int = Kind::Plain(ElementaryType::Int);
-    let some = Kind::NotZero(Width::Int);
+    let int = CellKind::Plain(ElementaryType::Int);
+    let some = CellKind::NotZero(Width::Int);
     assert!(rt; join(some, int) == int);
-    assert!(rt; join(some, Kind::NotZero(Width::Dint)) == Kind::Any);
+    assert!(rt; join(some, CellKind::NotZero(Width::Dint)) == CellKind::Any);
     assert!(rt; is_within(some, int) && !is_within(int, some));
 }
 

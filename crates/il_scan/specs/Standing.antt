@@ -2,7 +2,7 @@
 -- machine of words has to do there.
 use Rattle.std.specs.Prelude.{ℕ, ℤ, ◌≡◌, ◌≤◌, IsSome, if◌then◌else◌, true, List, [], ◌∷◌, length, slice_get, Option, Some, None}
 use Rattle.bay_base.specs.declared.types.ElementaryType.{ElementaryType}
-use Rattle.il_image.specs.declared.kind.Kind.{Kind}
+use Rattle.il_image.specs.declared.kind.CellKind.{CellKind}
 use Rattle.il_image.specs.declared.timer.Timer.{Timer}
 use Rattle.il_image.specs.declared.value.Value.{Value}
 use Rattle.il_image.specs.Images.{Each, Image, IsValue}
@@ -21,7 +21,7 @@ use Rattle.il_scan.specs.Words.{AreTyped, StandFor, value_at, values_of, words_o
 use Rattle.il_scan.specs.Working.{Words, words}
 
 -- Each value is of the kind at its place, and a value of its type.
-abbrev pub Fit : List Value → List Kind → Type 0
+abbrev pub Fit : List Value → List CellKind → Type 0
 Fit [] [] = Unit {0}
 Fit (v ∷ values) (k ∷ kinds) = (HasKind v k × IsValue v) × Fit values kinds
 Fit [] (k ∷ kinds) = ⊥
@@ -42,7 +42,7 @@ pub record Standing (image : Image) (s : State) : Type 0 where
   pub table : Table
   pub agrees : Agrees image table
   pub writes : KeepsReadOnly image
-  pub kinds : List Kind
+  pub kinds : List CellKind
   pub here : table s.place ≡ Some kinds
   pub fit : Fit s.cells kinds
   pub typed : Typed (slot_types image) (length image.timers) s.slots s.timers
