@@ -15,7 +15,7 @@ use Rattle.bay_config.specs.declared.bay.SwitchPoint.TheVariants.{Position, Open
 use Rattle.il_image.specs.Machine.{Halted, run, start}
 use Rattle.il_image.specs.Values.{type_of}
 use Rattle.il_image.specs.declared.image.ImagePoint.{ImagePoint}
-use Rattle.il_image.specs.declared.timer.Timer.{Timer}
+use Rattle.il_image.specs.declared.timer.TimerState.{TimerState}
 use Rattle.il_image.specs.declared.value.Value.{Value}
 use Rattle.il_check.specs.Program.{Checked}
 use Rattle.il_check.specs.declared.typed.External.{External}
@@ -314,7 +314,7 @@ initial-types : (vs : List Variable) → map type_of (map (λ (v : Variable). v.
 initial-types [] = refl
 initial-types (v ∷ vs) = ap (λ (ts : List ElementaryType). type_of v.initial ∷ ts) (initial-types vs)
 
-timers-first : (ts : List DeclaredTimer) → map (λ (t : Timer). t.kind) (map first_state (map (λ (t : DeclaredTimer). t.kind) ts)) ≡ map (λ (t : DeclaredTimer). t.kind) ts
+timers-first : (ts : List DeclaredTimer) → map (λ (t : TimerState). t.kind) (map first_state (map (λ (t : DeclaredTimer). t.kind) ts)) ≡ map (λ (t : DeclaredTimer). t.kind) ts
 timers-first [] = refl
 timers-first (t ∷ ts) = ap (λ (ks : List TimerKind). t.kind ∷ ks) (timers-first ts)
 

@@ -9,7 +9,7 @@ use il_image::instr::Instr;
 use il_image::kind::{CellKind, is_within, join};
 use il_image::opcode::{Connective, SlotUse, TimerUse, When, Widening};
 use il_image::read::instr_at;
-use il_image::timer::Timer;
+use il_image::timer::TimerState;
 use il_image::value::Value;
 use std::alloc::{AllocError, Global};
 use std::test::Fail;
@@ -492,7 +492,7 @@ const OFF_DELAY: [(bool, u32, u64, bool, u32); 7] = [
 
 /// Whether a timer of this kind, called row by row, gives what each row says.
 fn gives(kind: TimerKind, rows: &[(bool, u32, u64, bool, u32)]) -> bool {
-    let mut timer = Timer::new(kind);
+    let mut timer = TimerState::new(kind);
     for (input, preset, now, output, elapsed) in rows {
         timer.input = *input;
         timer.preset = *preset;

@@ -17,7 +17,7 @@ use Rattle.il_image.specs.declared.opcode.SlotUse.TheVariants.{Load, Store, SetI
 use Rattle.il_image.specs.declared.opcode.TimerUse.TheVariants.{Run, LoadOutput, LoadElapsed}
 use Rattle.il_image.specs.declared.opcode.Widening.{Widening}
 use Rattle.il_image.specs.declared.opcode.Widening.TheVariants.{IntToDint, DintToLint}
-use Rattle.il_image.specs.declared.timer.Timer.{Timer as TimerState}
+use Rattle.il_image.specs.declared.timer.TimerState.{TimerState}
 use Rattle.il_image.specs.declared.value.Value.{Value}
 use Rattle.il_image.specs.declared.value.Value.TheVariants.{Truth, Short, Long, Wide, Span}
 use Rattle.il_text.specs.declared.program.Input.{Input}

@@ -21,7 +21,7 @@ use Rattle.il_image.specs.Values.{number_of, type_of}
 use Rattle.il_image.specs.declared.arithmetic.Operation.{Operation as Arithmetic}
 use Rattle.il_image.specs.declared.arithmetic.Width.{Width}
 use Rattle.il_image.specs.declared.arithmetic.Width.TheVariants as width
-use Rattle.il_image.specs.declared.timer.Timer.{Timer}
+use Rattle.il_image.specs.declared.timer.TimerState.{TimerState}
 use Rattle.il_image.specs.declared.value.Value.{Value}
 use Rattle.il_image.specs.declared.value.Value.TheVariants.{Truth, Short, Long, Wide, Span}
 use Rattle.il_check.specs.Program.{Entry, operation, block, Entries, no_entries, entry, Item, label, transfer, plain}
@@ -42,7 +42,7 @@ use Rattle.il_compile.specs.Senses.{Sense, connects, computes, compares, sense_o
 pub record Memory : Type 0 where
   pub externals : List Value
   pub variables : List Value
-  pub timers : List Timer
+  pub timers : List TimerState
 
 -- the current result, where it is set, and the memory
 pub record State : Type 0 where
@@ -81,7 +81,7 @@ combined (compares c) a b = if is_comparable c a b then Some (Truth (compared c 
 
 -- ---- reading and writing
 
-abbrev pub output_of : Output → Timer → Value
+abbrev pub output_of : Output → TimerState → Value
 output_of Q t = Truth t.output
 output_of Et t = Span t.elapsed
 
@@ -182,12 +182,12 @@ goes Always result = Some true
 goes IfTrue result = result >>= decided
 goes IfFalse result = option_map not (result >>= decided)
 
-abbrev pub given : Input → Value → Timer → Option Timer
+abbrev pub given : Input → Value → TimerState → Option TimerState
 given In (Truth b) t = Some (record t { input = b })
 given Pt (Span n) t = Some (record t { preset = n })
 given input other t = None
 
-abbrev pub with_timer : ℕ → (Timer → Option Timer) → Memory → Option Memory
+abbrev pub with_timer : ℕ → (TimerState → Option TimerState) → Memory → Option Memory
 with_timer n f m = do
   old ← slice_get m.timers n
   new ← f old

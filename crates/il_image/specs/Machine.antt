@@ -14,7 +14,7 @@ use Rattle.il_image.specs.declared.opcode.Widening.{Widening}
 use Rattle.il_image.specs.declared.opcode.SlotUse.TheVariants.{Load, Store, SetIf, ResetIf}
 use Rattle.il_image.specs.declared.opcode.When.TheVariants.{Always, IfTrue, IfFalse}
 use Rattle.il_image.specs.declared.opcode.TimerUse.TheVariants.{SetInput, SetPreset, Run, LoadOutput, LoadElapsed}
-use Rattle.il_image.specs.declared.timer.Timer.{Timer as TimerState}
+use Rattle.il_image.specs.declared.timer.TimerState.{TimerState}
 use Rattle.il_image.specs.declared.value.Value.{Value}
 use Rattle.il_image.specs.declared.value.Value.TheVariants.{Truth, Short, Long, Wide, Span}
 use Rattle.bay_base.specs.declared.types.ElementaryType.TheVariants as elementary

@@ -2,11 +2,11 @@
 use Rattle.std.specs.Prelude.{ℕ, ◌≡◌, ◌-◌, ◌<◌, ◌≤◌, ◌⊎◌, Bool, true, false, List, [], ◌∷◌, ◌++◌, min, nat_le, nat_lt}
 use Rattle.il_image.specs.declared.timer.TimerPhase.{TimerPhase}
 use Rattle.il_image.specs.declared.timer.TimerPhase.TheVariants.{Idle, Held, Since}
-use Rattle.il_image.specs.declared.timer.Timer.{Timer}
+use Rattle.il_image.specs.declared.timer.TimerState.{TimerState}
 use Rattle.bay_base.specs.declared.types.TimerKind.{TimerKind}
 use Rattle.bay_base.specs.declared.types.TimerKind.TheVariants.{OnDelay, OffDelay}
 
-abbrev pub first_state : TimerKind → Timer
+abbrev pub first_state : TimerKind → TimerState
 first_state kind = record { kind = kind; input = false; preset = 0; phase = Idle; output = false; elapsed = 0 }
 
 -- the phase after a call with this IN at the moment m
@@ -34,7 +34,7 @@ elapsed_of preset Held m = 0
 elapsed_of preset (Since start) m = min (m - start) preset
 
 -- one call at the moment m, with the IN and PT that the timer holds
-abbrev pub called : Timer → ℕ → Timer
+abbrev pub called : TimerState → ℕ → TimerState
 called t m =
     let phase = phase_after t.kind t.input t.phase m in
     record t { phase = phase; output = output_of t.kind t.preset phase m; elapsed = elapsed_of t.preset phase m }
@@ -47,7 +47,7 @@ pub record Call : Type 0 where
   pub moment : ℕ
 
 -- a timer after calls, the last of them first in the list
-abbrev pub after : TimerKind → List Call → Timer
+abbrev pub after : TimerKind → List Call → TimerState
 after kind [] = first_state kind
 after kind (c ∷ earlier) = called (record (after kind earlier) { input = c.input; preset = c.preset }) c.moment
 

@@ -4,7 +4,7 @@ use Rattle.std.specs.Prelude.{IsSome, slice_get}
 use Rattle.bay_base.specs.declared.types.ElementaryType.{ElementaryType}
 use Rattle.bay_base.specs.declared.types.ElementaryType.TheVariants as elementary
 use Rattle.il_image.specs.declared.image.ImagePoint.{ImagePoint}
-use Rattle.il_image.specs.declared.timer.Timer.{Timer}
+use Rattle.il_image.specs.declared.timer.TimerState.{TimerState}
 use Rattle.bay_base.specs.declared.types.TimerKind.{TimerKind}
 use Rattle.il_image.specs.declared.value.Value.{Value}
 use Rattle.il_image.specs.Images.{Each, Image, IsValue}
@@ -80,13 +80,13 @@ outputs_are (p ∷ points) more (w ∷ words) = ap (λ (vs : List Value). cond p
 
 -- ---- of an image
 
-pub held_words : (image : Image) (words : List ℤ) (timers : List Timer) → IsHeld image words timers → AreWords image.points words
+pub held_words : (image : Image) (words : List ℤ) (timers : List TimerState) → IsHeld image words timers → AreWords image.points words
 held_words image words timers h = subst (AreWords image.points) (sym h.stand.are) (are_words image.points (map type_of image.variables) (values_of (slot_types image) words) h.stand.typed)
 
-pub held_points : (image : Image) (words : List ℤ) (timers : List Timer) → IsHeld image words timers → length image.points ≤ length words
+pub held_points : (image : Image) (words : List ℤ) (timers : List TimerState) → IsHeld image words timers → length image.points ≤ length words
 held_points image words timers h = few_points image.points words (held_words image words timers h)
 
-pub taken_stand : (image : Image) (words : List ℤ) (timers : List Timer) (inputs : List Value) → IsHeld image words timers → AreInputs image.points inputs
+pub taken_stand : (image : Image) (words : List ℤ) (timers : List TimerState) (inputs : List Value) → IsHeld image words timers → AreInputs image.points inputs
     → StandFor (slot_types image) (with_inputs image.points (words_of inputs) words) (with_inputs image.points inputs (values_of (slot_types image) words))
 taken_stand image words timers inputs h are = record {
   are = ap (with_inputs image.points (words_of inputs)) h.stand.are ∙ inputs_are image.points inputs (values_of (slot_types image) words);
@@ -158,7 +158,7 @@ timers_first (k ∷ kinds) = ((omega arith, omega arith), timers_first kinds)
 pub first_stand : (image : Image) (words : List ℤ) → Each IsValue image.variables → words ≡ map (λ (p : ImagePoint). pos 0) image.points ++ words_of image.variables → StandFor (slot_types image) words (first_slots image.points image.variables)
 first_stand image words h e = record { are = e ∙ first_words image.points image.variables; typed = slots_typed image.points image.variables h }
 
-pub times_first : (timers : List Timer) (kinds : List TimerKind) → timers ≡ map first_state kinds → Each IsTimer timers
+pub times_first : (timers : List TimerState) (kinds : List TimerKind) → timers ≡ map first_state kinds → Each IsTimer timers
 times_first timers kinds e = subst (Each IsTimer) (sym e) (timers_first kinds)
 
 -- ---- the test of inputs

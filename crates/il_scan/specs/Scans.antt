@@ -3,7 +3,7 @@ use Rattle.std.specs.Prelude.{ℕ, ℤ, zero, suc, pos, ◌≡◌, ◌+◌, ◌<
 use Rattle.bay_base.specs.declared.types.ElementaryType.{ElementaryType}
 use Rattle.bay_base.specs.declared.types.ElementaryType.TheVariants as elementary
 use Rattle.il_image.specs.declared.image.ImagePoint.{ImagePoint}
-use Rattle.il_image.specs.declared.timer.Timer.{Timer}
+use Rattle.il_image.specs.declared.timer.TimerState.{TimerState}
 use Rattle.il_image.specs.declared.value.Value.{Value}
 use Rattle.il_image.specs.declared.value.Value.TheVariants.{Truth, Short, Long, Wide, Span}
 use Rattle.il_image.specs.Images.{Image}
@@ -18,10 +18,10 @@ use Rattle.il_scan.specs.Words.{AreTyped, values_of}
 pub record Held : Type 0 where
   pub image : Image
   pub slots : List Value
-  pub timers : List Timer
+  pub timers : List TimerState
 
 -- what callers see of words and timers
-abbrev pub held : Image → List ℤ → List Timer → Held
+abbrev pub held : Image → List ℤ → List TimerState → Held
 held image slots timers = record { image = image; slots = values_of (slot_types image) slots; timers = timers }
 
 -- ---- the first state
