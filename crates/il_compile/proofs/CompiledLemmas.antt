@@ -3,7 +3,7 @@ use Rattle.std.proofs.Common.{◌≡◌, ℕ, ◌+◌, ◌*◌, ◌<◌, ◌≤�
 use Rattle.std.proofs.lemmas.Bool.{le-leb, leb-true}
 use Rattle.std.proofs.lemmas.List.{length-map}
 use Rattle.il_image.specs.Images.{Each, HasName, Image, IsImage, IsValue, all_spelled}
-use Rattle.il_image.specs.Machine.{start}
+use Rattle.il_image.specs.Machine.{initial_state}
 use Rattle.il_image.specs.Tables.{HasTable}
 use Rattle.il_image.proofs.BegunLemmas.{closed_by, first_place, loose_is_run}
 use Rattle.il_image.specs.declared.instr.Instr.TheVariants.{Halt}
@@ -112,7 +112,7 @@ followed : (c : Checked) → HasTable (image_of c) → (now : ℕ) (m : Memory) 
 followed c table now m f = record {
   means = f.means;
   steps = f.steps;
-  halts = sym (loose_is_run (image_of c).code now (closed_by (image_of c) table.0 table.1) (length (image_of c).code) (start (m.externals ++ m.variables) m.timers) 0 (first_place (image_of c) table.0 table.1)) ∙ f.halts;
+  halts = sym (loose_is_run (image_of c).code now (closed_by (image_of c) table.0 table.1) (length (image_of c).code) (initial_state (m.externals ++ m.variables) m.timers) 0 (first_place (image_of c) table.0 table.1)) ∙ f.halts;
 }
 
 pub does_the_text : (c : Checked) (i : Image) → IsTyped c → compiled_of c ≡ Ok i → DoesTheText c i.code

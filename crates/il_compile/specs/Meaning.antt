@@ -15,7 +15,7 @@ use Rattle.il_text.specs.declared.program.Output.TheVariants.{Q, Et}
 use Rattle.il_text.specs.declared.program.StoreKind.{StoreKind}
 use Rattle.il_text.specs.declared.program.StoreKind.TheVariants as store
 use Rattle.il_image.specs.Arithmetic.{compared, computed, connected, widened}
-use Rattle.il_image.specs.Machine.{divides, is_comparable, value_in}
+use Rattle.il_image.specs.Machine.{divides, is_comparable, value_of_width}
 use Rattle.il_image.specs.Timers.{called}
 use Rattle.il_image.specs.Values.{number_of, type_of}
 use Rattle.il_image.specs.declared.arithmetic.Operation.{Operation as Arithmetic}
@@ -65,7 +65,7 @@ connected_values a b f = None
 
 -- of two numbers of one width; none is divided by 0
 abbrev pub computed_in : Width → Arithmetic → ℤ → ℤ → Option Value
-computed_in w o a b = if divides o && int_eq b (pos 0) then None else Some (value_in w (computed o w a b))
+computed_in w o a b = if divides o && int_eq b (pos 0) then None else Some (value_of_width w (computed o w a b))
 
 abbrev pub computed_values : Arithmetic → Value → Value → Option Value
 computed_values o (Short a) (Short b) = computed_in width.Int o a b

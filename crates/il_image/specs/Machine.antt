@@ -104,10 +104,10 @@ abbrev pub changes : ℕ → TimerState → ℕ → List Value → State → Tur
 changes n t to cells s = Goes (record s { place = to; cells = cells; timers = slice_set s.timers n t })
 
 -- the number of a width as a value
-abbrev pub value_in : Width → ℤ → Value
-value_in width.Int z = Short z
-value_in width.Dint z = Long z
-value_in width.Lint z = Wide z
+abbrev pub value_of_width : Width → ℤ → Value
+value_of_width width.Int z = Short z
+value_of_width width.Dint z = Long z
+value_of_width width.Lint z = Wide z
 
 abbrev pub divides : Operation → Bool
 divides Div = true
@@ -157,7 +157,7 @@ connects c next s =
 
 abbrev pub computes : Operation → Width → ℕ → State → Turn
 computes o w next s =
-    with_numbers w s (λ a b below. if divides o && int_eq b (pos 0) then Traps ZeroDivisor else goes next (value_in w (computed o w a b) ∷ below) s)
+    with_numbers w s (λ a b below. if divides o && int_eq b (pos 0) then Traps ZeroDivisor else goes next (value_of_width w (computed o w a b) ∷ below) s)
 
 abbrev pub compares : Comparison → ℕ → State → Turn
 compares c next s =
@@ -236,5 +236,5 @@ run code now zero s steps = Unfinished
 run code now (suc most) s steps = ending_of (turn code now s) s (steps + 1) (λ after. run code now most after (steps + 1))
 
 -- A run begins at place 0 without cells.
-abbrev pub start : List Value → List TimerState → State
-start slots timers = record { place = 0; cells = []; slots = slots; timers = timers }
+abbrev pub initial_state : List Value → List TimerState → State
+initial_state slots timers = record { place = 0; cells = []; slots = slots; timers = timers }

@@ -20,6 +20,14 @@ number_of (Long z) = z
 number_of (Wide z) = z
 number_of (Span n) = pos n
 
+-- what a value of the type is where none is given: FALSE, 0, or T#0ms
+abbrev pub default_value : ElementaryType → Value
+default_value elementary.Bool = Truth false
+default_value elementary.Int = Short (pos 0)
+default_value elementary.Dint = Long (pos 0)
+default_value elementary.Lint = Wide (pos 0)
+default_value elementary.Time = Span 0
+
 abbrev pub is_between : ℤ → ℤ → ℤ → Bool
 is_between low high z = int_le low z && int_le z high
 

@@ -6,7 +6,7 @@ use Rattle.il_image.specs.declared.image.ImagePoint.{ImagePoint}
 use Rattle.il_image.specs.declared.timer.TimerState.{TimerState}
 use Rattle.il_image.specs.declared.value.Value.{Value}
 use Rattle.il_image.specs.Images.{Image, IsImage}
-use Rattle.il_image.specs.Machine.{State, run, start}
+use Rattle.il_image.specs.Machine.{State, run, initial_state}
 use Rattle.il_image.specs.Timers as time
 use Rattle.il_image.specs.Tables.{slot_types}
 use Rattle.il_image.specs.Values.{type_of}
@@ -36,7 +36,7 @@ module _ (image : Image) (points : List ImagePoint) (is : points ≡ image.point
     values_taken = stand_again (slot_types image) taken (with_inputs image.points inputs (values_of (slot_types image) slots)) stand
 
     first_is : first_state image taken timers ≡ started (held image slots timers) inputs
-    first_is = ap (λ (v : List Value). start v timers) values_taken
+    first_is = ap (λ (v : List Value). initial_state v timers) values_taken
 
     pub scanned : (new_slots : List ℤ) (new_timers : List TimerState) (steps : ℕ) (outputs : List Value) → RunsTo image now taken timers new_slots new_timers steps → outputs ≡ given_by points new_slots
         → Scans (held image slots timers) inputs now (held image new_slots new_timers) steps outputs

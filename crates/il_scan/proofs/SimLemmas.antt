@@ -35,7 +35,7 @@ use Rattle.il_image.specs.Arithmetic.{DividesBy, compared, computed, connected, 
 use Rattle.il_image.specs.Effects.{are_compared, below, compares, effect, kind_of, looks_at, second_kind, two, type_of_kind, widens, with_timer, with_truth}
 use Rattle.il_image.specs.Images.{Each, IsValue}
 use Rattle.il_image.specs.Kinds.{HasKind, is_within}
-use Rattle.il_image.specs.Machine.{State, Turn, Goes, Traps, WrongKind, ZeroDivisor, FullStack, MissingSlot, MissingTimer, act, divides, goes, is_comparable, pushes, stores, value_in, with_numbers, with_slot, tells_equality}
+use Rattle.il_image.specs.Machine.{State, Turn, Goes, Traps, WrongKind, ZeroDivisor, FullStack, MissingSlot, MissingTimer, act, divides, goes, is_comparable, pushes, stores, value_of_width, with_numbers, with_slot, tells_equality}
 use Rattle.il_image.specs.Machine as machine
 use Rattle.il_image.specs.Spelling.{IsInstr}
 use Rattle.il_image.specs.Timers.{called, elapsed_of, first_state, phase_after}
@@ -417,18 +417,18 @@ module _ (types : List ElementaryType) (count now next p : ℕ) (others slots : 
 
   -- ---- two values
 
-  with_numbers_is : (w : Width) (a b : ℤ) (f : ℤ → ℤ → List Value → Turn) → machine.with_numbers w (state p (value_in w b ∷ value_in w a ∷ others) slots timers) f ≡ f a b others
+  with_numbers_is : (w : Width) (a b : ℤ) (f : ℤ → ℤ → List Value → Turn) → machine.with_numbers w (state p (value_of_width w b ∷ value_of_width w a ∷ others) slots timers) f ≡ f a b others
   with_numbers_is width.Int a b f = refl
   with_numbers_is width.Dint a b f = refl
   with_numbers_is width.Lint a b f = refl
 
-  does_compute : (o : Operation) (w : Width) (a b : ℤ) → (divides o && int_eq b (pos 0)) ≡ false → DividesBy o b → Does types count now (Compute o w) next p (value_in w b ∷ value_in w a ∷ others) slots timers (Plain (type_of_width w) ∷ rest)
+  does_compute : (o : Operation) (w : Width) (a b : ℤ) → (divides o && int_eq b (pos 0)) ≡ false → DividesBy o b → Does types count now (Compute o w) next p (value_of_width w b ∷ value_of_width w a ∷ others) slots timers (Plain (type_of_width w) ∷ rest)
   unfolding act
   does_compute o w a b test divisor =
-      let here : State = state p (value_in w b ∷ value_in w a ∷ others) slots timers in
-      let v : Value = value_in w (computed o w a b) in
-      let nb : number_of (value_in w b) ≡ b = number_in w b in
-      let na : number_of (value_in w a) ≡ a = number_in w a in
+      let here : State = state p (value_of_width w b ∷ value_of_width w a ∷ others) slots timers in
+      let v : Value = value_of_width w (computed o w a b) in
+      let nb : number_of (value_of_width w b) ≡ b = number_in w b in
+      let na : number_of (value_of_width w a) ≡ a = number_in w a in
       let chosen : cond (divides o && int_eq b (pos 0)) (Traps ZeroDivisor) (goes next (v ∷ others) here) ≡ goes next (v ∷ others) here = rw test refl in
       record {
         ready = (omega arith, subst (DividesBy o) (sym nb) divisor);
@@ -436,9 +436,9 @@ module _ (types : List ElementaryType) (count now next p : ℕ) (others slots : 
         new_cells = v ∷ others;
         new_slots = slots;
         new_timers = timers;
-        goes_on = with_numbers_is w a b (λ x y below. cond (divides o && int_eq y (pos 0)) (Traps ZeroDivisor) (goes next (value_in w (computed o w x y) ∷ below) here)) ∙ chosen;
+        goes_on = with_numbers_is w a b (λ x y below. cond (divides o && int_eq y (pos 0)) (Traps ZeroDivisor) (goes next (value_of_width w (computed o w x y) ∷ below) here)) ∙ chosen;
         leads_to = refl;
-        words_are = ap (λ (x : ℤ). words (computed o w x (number_of (value_in w b)) ∷ words_of others) (words_of slots) timers) na
+        words_are = ap (λ (x : ℤ). words (computed o w x (number_of (value_of_width w b)) ∷ words_of others) (words_of slots) timers) na
             ∙ ap (λ (y : ℤ). words (computed o w a y ∷ words_of others) (words_of slots) timers) nb
             ∙ ap (λ (x : ℤ). words (x ∷ words_of others) (words_of slots) timers) (sym (number_in w (computed o w a b)));
         fit = ((type_in w (computed o w a b), wrapped_value w (exact o a b)), fit);
@@ -553,10 +553,10 @@ module _ (types : List ElementaryType) (count now next p : ℕ) (slots : List Va
       let d = divisor_of o w t.value t.kind in
       let b : ℤ = number_of t.value in
       let a : ℤ = number_of u.value in
-      let top : t.value ≡ value_in w b = number_there w t.value d.type in
-      let second : u.value ≡ value_in w a = number_there w u.value u.kind in
-      let are : cells ≡ value_in w b ∷ value_in w a ∷ u.others = t.are ∙ ap (λ (v : List Value). t.value ∷ v) u.are ∙ ap (λ (v : Value). v ∷ u.value ∷ u.others) top ∙ ap (λ (v : Value). value_in w b ∷ v ∷ u.others) second in
-      to_kinds (Compute o w) cells (k ∷ r.0) r.2 (on_cells (Compute o w) cells (value_in w b ∷ value_in w a ∷ u.others) (k ∷ r.0) are (does_compute types count now next p u.others slots timers r.0 u.fit typed o w a b d.test d.divisor))
+      let top : t.value ≡ value_of_width w b = number_there w t.value d.type in
+      let second : u.value ≡ value_of_width w a = number_there w u.value u.kind in
+      let are : cells ≡ value_of_width w b ∷ value_of_width w a ∷ u.others = t.are ∙ ap (λ (v : List Value). t.value ∷ v) u.are ∙ ap (λ (v : Value). v ∷ u.value ∷ u.others) top ∙ ap (λ (v : Value). value_of_width w b ∷ v ∷ u.others) second in
+      to_kinds (Compute o w) cells (k ∷ r.0) r.2 (on_cells (Compute o w) cells (value_of_width w b ∷ value_of_width w a ∷ u.others) (k ∷ r.0) are (does_compute types count now next p u.others slots timers r.0 u.fit typed o w a b d.test d.divisor))
 
   combine_does : (c : Connective) (cells : List Value) (kinds : List CellKind) → two (Plain elementary.Bool) (Plain elementary.Bool) (Plain elementary.Bool) kinds ≡ Some after → Fit cells kinds → Done (Combine c) cells after
   combine_does c cells kinds e fit =

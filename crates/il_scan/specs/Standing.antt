@@ -7,7 +7,7 @@ use Rattle.il_image.specs.declared.timer.TimerState.{TimerState}
 use Rattle.il_image.specs.declared.value.Value.{Value}
 use Rattle.il_image.specs.Images.{Each, Image, IsValue}
 use Rattle.il_image.specs.Kinds.{HasKind}
-use Rattle.il_image.specs.Machine.{Goes, Halted, Halts, State, run, start, turn}
+use Rattle.il_image.specs.Machine.{Goes, Halted, Halts, State, run, initial_state, turn}
 use Rattle.il_image.specs.Tables.{Agrees, IsHalt, IsSuccessor, Table, slot_types}
 use Rattle.il_verify.specs.Judging.{is_read_only}
 use Rattle.il_verify.specs.Slots.{slots_of}
@@ -78,7 +78,7 @@ pub record IsHeld (image : Image) (slots : List ℤ) (timers : List TimerState) 
 
 -- where a run starts, told by words
 abbrev pub first_state : Image → List ℤ → List TimerState → State
-first_state image slots timers = start (values_of (slot_types image) slots) timers
+first_state image slots timers = initial_state (values_of (slot_types image) slots) timers
 
 -- The run of the image's code from these slots and timers ends with the others, after so many
 -- steps.
