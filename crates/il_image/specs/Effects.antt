@@ -36,6 +36,7 @@ looks_at wanted kinds = below wanted kinds >>= (λ rest. Some kinds)
 abbrev pub two : CellKind → CellKind → CellKind → List CellKind → Option (List CellKind)
 two top second gives kinds = below top kinds >>= (λ more. below second more >>= (λ rest. Some (gives ∷ rest)))
 
+-- a number of a width: whether it is not zero is known
 abbrev pub kind_of_number : Width → ℤ → CellKind
 kind_of_number w z = if int_eq z (pos 0) then Plain (type_of_width w) else NotZero w
 
@@ -57,6 +58,7 @@ type_of_kind Any = None
 type_of_kind (Plain t) = Some t
 type_of_kind (NotZero w) = Some (type_of_width w)
 
+-- values of these types may be compared: of one type, BOOLs for equality alone
 abbrev pub are_compared : Comparison → ElementaryType → ElementaryType → Bool
 are_compared c t u = same_type t u && (not (same_type t elementary.Bool) || tells_equality c)
 
@@ -77,6 +79,7 @@ widens from to (top ∷ rest) =
 abbrev pub with_truth : List ElementaryType → ℕ → List CellKind → Option (List CellKind)
 with_truth slots n kinds = slice_get slots n >>= (λ t. if same_type t elementary.Bool then looks_at (Plain elementary.Bool) kinds else None)
 
+-- the kinds, where there is a timer of the number
 abbrev pub with_timer : ℕ → ℕ → Option (List CellKind) → Option (List CellKind)
 with_timer timers n kinds = if nat_lt n timers then kinds else None
 

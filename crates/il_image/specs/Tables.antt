@@ -71,6 +71,7 @@ pub record Agrees (image : Image) (table : Table) : Type 0 where
   pub room : (place : ℕ) (kinds : List CellKind) → table place ≡ Some kinds → length kinds ≤ 32
   pub reached : (place : ℕ) → IsPlace image.code place → place ≢ 0 → (from : ℕ) × IsPlace image.code from × IsSuccessor image.code from place
 
+-- Some table agrees with the image's code.
 abbrev pub HasTable : Image → Type 0
 HasTable image = (table : Table) × Agrees image table
 

@@ -6,6 +6,7 @@ use Rattle.il_image.specs.declared.timer.TimerState.{TimerState}
 use Rattle.bay_base.specs.declared.types.TimerKind.{TimerKind}
 use Rattle.bay_base.specs.declared.types.TimerKind.TheVariants.{OnDelay, OffDelay}
 
+-- a timer before its first call
 abbrev pub first_state : TimerKind → TimerState
 first_state kind = record { kind = kind; input = false; preset = 0; phase = Idle; output = false; elapsed = 0 }
 
@@ -41,6 +42,7 @@ called t m =
 
 -- ---- lists of calls
 
+-- one call: IN, PT in milliseconds, and its moment
 pub record Call : Type 0 where
   pub input : Bool
   pub preset : ℕ
@@ -51,10 +53,12 @@ abbrev pub after : TimerKind → List Call → TimerState
 after kind [] = first_state kind
 after kind (c ∷ earlier) = called (record (after kind earlier) { input = c.input; preset = c.preset }) c.moment
 
+-- Each of the calls has this IN.
 abbrev pub AllHave : Bool → List Call → Type 0
 AllHave input [] = Unit {0}
 AllHave input (c ∷ earlier) = (c.input ≡ input) × AllHave input earlier
 
+-- One of the calls has this IN.
 abbrev pub SomeHas : Bool → List Call → Type 0
 SomeHas input [] = ⊥
 SomeHas input (c ∷ earlier) = (c.input ≡ input) ⊎ SomeHas input earlier
