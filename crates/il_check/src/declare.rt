@@ -118,26 +118,13 @@ fn literal_value(kind: ElementaryType, literal: Literal) -> Option<Value>
     }
 }
 
-/// The value of a variable that is declared without one: FALSE, 0, or T#0ms.
-fn default_value(kind: ElementaryType) -> Value
-    ensures { result ≡ spec.default_value kind }
-{
-    match kind {
-        ElementaryType::Bool => Value::Truth(false),
-        ElementaryType::Int => Value::Short(0),
-        ElementaryType::Dint => Value::Long(0),
-        ElementaryType::Lint => Value::Wide(0),
-        ElementaryType::Time => Value::Span(0),
-    }
-}
-
 /// The value that a variable of a type begins with, if the literal fits it.
 fn initial_in(kind: ElementaryType, literal: Option<Literal>) -> Option<Value>
     ensures { result ≡ spec.initial_in kind literal }
 {
     match literal {
         Some(literal) => literal_value(kind, literal),
-        None => Some(default_value(kind)),
+        None => Some(Value::default_of(kind)),
     }
 }
 

@@ -10,8 +10,8 @@ use Rattle.std.proofs.lemmas.List.{length-append}
 use Rattle.bay_base.specs.declared.types.ElementaryType.{ElementaryType}
 use Rattle.bay_base.specs.declared.types.ElementaryType.TheVariants as elementary
 use Rattle.il_image.specs.declared.opcode.Version.TheVariants.{Two}
-use Rattle.il_image.specs.declared.timer.TimerKind.{TimerKind}
-use Rattle.il_image.specs.declared.timer.TimerKind.TheVariants.{OnDelay, OffDelay}
+use Rattle.bay_base.specs.declared.types.TimerKind.{TimerKind}
+use Rattle.bay_base.specs.declared.types.TimerKind.TheVariants.{OnDelay, OffDelay}
 use Rattle.il_image.specs.declared.write.Size.TheVariants as size
 use Rattle.il_image.specs.Decoding.{code_at, counted_at, decoded, items_at, name_at, name_of_length, point_at, timer_at, type_at, variable_at}
 use Rattle.il_image.specs.Images.{Each, HasName, Image, IsCode, IsImage, IsName, IsValue, counted, each_spelled, encoded, is_name_octet, point_octets, timer_octets, type_octet, variable_octets}

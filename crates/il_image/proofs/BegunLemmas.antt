@@ -9,10 +9,10 @@ use Rattle.il_image.specs.declared.instr.Instr.TheVariants.{Halt, Push, Drop, Sl
 use Rattle.il_image.specs.declared.opcode.SlotUse.TheVariants.{Load, Store, SetIf, ResetIf}
 use Rattle.il_image.specs.declared.opcode.When.TheVariants.{Always, IfTrue, IfFalse}
 use Rattle.il_image.specs.declared.opcode.TimerUse.TheVariants.{SetInput, SetPreset, Run, LoadOutput, LoadElapsed}
-use Rattle.il_image.specs.declared.timer.Timer.{Timer as TimerState}
+use Rattle.il_image.specs.declared.timer.TimerState.{TimerState}
 use Rattle.il_image.specs.declared.value.Value.{Value}
 use Rattle.il_image.specs.declared.value.Value.TheVariants.{Truth, Short, Long, Wide, Span}
-use Rattle.il_image.specs.Machine.{State, Turn, Goes, Halts, Traps, MissingSlot, MissingTimer, WrongKind, ZeroDivisor, Ending, Unfinished, act, as_number, as_span, as_truth, divides, ending_of, goes, is_comparable, pushes, run, stores, value_in, turn_of, with_slot, with_timer, with_top, with_truths, with_two}
+use Rattle.il_image.specs.Machine.{State, Turn, Goes, Halts, Traps, MissingSlot, MissingTimer, WrongKind, ZeroDivisor, Ending, Unfinished, act, as_number, as_span, as_truth, divides, ending_of, goes, is_comparable, pushes, run, stores, value_of_width, turn_of, with_slot, with_timer, with_top, with_truths, with_two}
 use Rattle.bay_base.specs.Types.{same_type}
 use Rattle.il_image.specs.Arithmetic.{compared, computed, widened}
 use Rattle.il_image.specs.Values.{number_of, type_of}
@@ -169,7 +169,7 @@ lands now (Slot SetIf n) next s = lands_truths (λ to. to ≡ next) n s _ (λ a 
 lands now (Slot ResetIf n) next s = lands_truths (λ to. to ≡ next) n s _ (λ a b. refl)
 lands now Not next s = lands_top (λ to. to ≡ next) s.cells _ (λ top below. lands_truth (λ to. to ≡ next) top _ (λ b. refl))
 lands now (Combine c) next s = lands_two (λ to. to ≡ next) s.cells _ (λ first second below. lands_truth (λ to. to ≡ next) second _ (λ b. lands_truth (λ to. to ≡ next) first _ (λ a. refl)))
-lands now (Compute o w) next s = lands_two (λ to. to ≡ next) s.cells _ (λ first second below. lands_number (λ to. to ≡ next) w second _ (λ b. lands_number (λ to. to ≡ next) w first _ (λ a. lands_if (λ to. to ≡ next) (divides o && int_eq b (pos 0)) (Traps ZeroDivisor) (goes next (value_in w (computed o w a b) ∷ below) s) tt refl)))
+lands now (Compute o w) next s = lands_two (λ to. to ≡ next) s.cells _ (λ first second below. lands_number (λ to. to ≡ next) w second _ (λ b. lands_number (λ to. to ≡ next) w first _ (λ a. lands_if (λ to. to ≡ next) (divides o && int_eq b (pos 0)) (Traps ZeroDivisor) (goes next (value_of_width w (computed o w a b) ∷ below) s) tt refl)))
 lands now (Compare c) next s = lands_two (λ to. to ≡ next) s.cells _ (λ a b below. lands_if (λ to. to ≡ next) (is_comparable c a b) (goes next (Truth (compared c (number_of a) (number_of b)) ∷ below) s) (Traps WrongKind) refl tt)
 lands now (Widen w) next s = lands_top (λ to. to ≡ next) s.cells _ (λ top below. elim (widened w top) as (λ o. Lands (λ to. to ≡ next) (elim o [ None ↦ Traps WrongKind | Some v ↦ goes next (v ∷ below) s ])) [ None ↦ tt | Some v ↦ refl ])
 lands now (Jump Always distance) next s = refl

@@ -1,15 +1,15 @@
 -- Images: what is read is spelled so, and what is spelled is read back.
 use Rattle.std.proofs.Common.{◌≡◌, ℕ, List, [], ◌∷◌, ◌++◌, length, refl, sym, subst, ap, ◌∙◌, arith}
 use Rattle.std.specs.Prelude.{Ok, slice_index}
+use Rattle.bay_base.specs.Results.{◌>>=◌}
 use Rattle.il_image.specs.declared.image.ImagePoint.{ImagePoint}
 use Rattle.il_image.specs.declared.opcode.Version.{Version}
 use Rattle.il_image.specs.declared.opcode.Version.TheVariants.{One, Two}
-use Rattle.il_image.specs.declared.timer.TimerKind.{TimerKind}
+use Rattle.bay_base.specs.declared.types.TimerKind.{TimerKind}
 use Rattle.il_image.specs.declared.value.Value.{Value}
 use Rattle.il_image.specs.Decoding.{behind, code_at, counted_at, decoded, point_at, timer_at, variable_at, version_at}
 use Rattle.il_image.specs.Images.{HasName, Image, IsImage, IsValue, counted, encoded, mark, point_octets, timer_octets, variable_octets, version_octet}
 use Rattle.il_image.specs.Octets.{AreOctets, number_octets}
-use Rattle.il_image.specs.Reading.{◌>>=◌}
 use Rattle.il_image.proofs.ReadLemmas.{bind_ok, ok_same}
 use Rattle.il_image.proofs.InstrLemmas.{behind_octets}
 use Rattle.il_image.proofs.TookLemmas.{IsKind, took_counted, took_point, took_variable, took_timer, took_code, took_mark, took_version}

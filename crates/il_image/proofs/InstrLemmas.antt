@@ -3,6 +3,7 @@ use Rattle.std.proofs.Common.{◌≡◌, ℕ, suc, ◌^◌, ◌<◌, ℤ, Bool, 
 use Rattle.std.specs.Prelude.{Result, Ok, Err, IsSome, find}
 use Rattle.std.proofs.lemmas.Bool.{eqb-true}
 use Rattle.std.proofs.lemmas.List.{append_assoc, length-append}
+use Rattle.bay_base.specs.Results.{◌>>=◌}
 use Rattle.bay_base.specs.declared.types.ElementaryType.{ElementaryType}
 use Rattle.bay_base.specs.declared.types.ElementaryType.TheVariants as elementary
 use Rattle.il_image.specs.declared.arithmetic.Width.{Width}
@@ -27,7 +28,7 @@ use Rattle.il_image.specs.declared.write.Size.{Size}
 use Rattle.il_image.specs.declared.write.Size.TheVariants as size
 use Rattle.il_image.specs.Octets.{AreOctets, octet_count, number_octets, signed_octets, size_of}
 use Rattle.il_image.specs.Opcodes.{octet_of, opcodes, opcode_of, is_known, width_octet, width_of}
-use Rattle.il_image.specs.Reading.{Read, ◌>>=◌, known, known_opcode, octet_at, number_at, signed_at, value_at, width_at, with_number, operand_from, instr_from}
+use Rattle.il_image.specs.Reading.{Read, known, known_opcode, octet_at, number_at, signed_at, value_at, width_at, with_number, operand_from, instr_from}
 use Rattle.il_image.specs.Spelling.{opcode_of_instr, operand_of, spelling, IsInstr}
 use Rattle.il_image.specs.Values.{type_of, number_of, value_of}
 use Rattle.il_image.proofs.ReadLemmas.{bind_ok, bind_is, known_ok, ok_same, Front, took_octet, took_number, took_signed, back_number, back_signed}

@@ -2,9 +2,10 @@
 use Rattle.std.proofs.Common.{◌≡◌, ℕ, suc, ◌+◌, ◌-◌, ◌<◌, ◌≤◌, List, [], ◌∷◌, ◌++◌, refl, sym, ap, ◌∙◌, arith, append-nil}
 use Rattle.std.specs.Prelude.{Ok, Err}
 use Rattle.std.proofs.lemmas.List.{append_assoc}
+use Rattle.bay_base.specs.Results.{◌>>=◌}
 use Rattle.il_image.specs.declared.fault.ImageFault.{ImageFault}
 use Rattle.il_image.specs.Decoding.{items_at, counted_at}
-use Rattle.il_image.specs.Reading.{Read, ◌>>=◌, number_at}
+use Rattle.il_image.specs.Reading.{Read, number_at}
 
 -- items behind those that are done
 abbrev pub joined : {A : Type 0} → List A → Read (List A) → Read (List A)

@@ -4,12 +4,13 @@ use Rattle.std.specs.Prelude.{Result, Ok, Err}
 use Rattle.std.specs.Int.{w16, cast_signed, from_be_bytes}
 use Rattle.std.proofs.lemmas.Bool.{le-ltb, ltb-false}
 use Rattle.std.proofs.lemmas.List.{take-append-drop, length-take-le, get_or-take, take_rest}
+use Rattle.bay_base.specs.Results.{◌>>=◌}
 use Rattle.il_image.specs.declared.fault.ImageFault.{ImageFault}
 use Rattle.il_image.specs.declared.fault.ImageFault.TheVariants.{Truncated}
 use Rattle.il_image.specs.declared.write.Size.{Size}
 use Rattle.il_image.specs.declared.write.Size.TheVariants.{One, Two, Four, Eight}
 use Rattle.il_image.specs.Octets.{AreOctets, octet_count, bits_of_size, number_octets, signed_octets}
-use Rattle.il_image.specs.Reading.{◌>>=◌, known, octet_at, number_at, signed_at}
+use Rattle.il_image.specs.Reading.{known, octet_at, number_at, signed_at}
 use Rattle.il_image.proofs.OctetLemmas.{written_number, written_signed, read_number, read_signed, number_below}
 
 -- ---- steps

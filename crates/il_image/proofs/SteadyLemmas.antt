@@ -7,6 +7,7 @@ use Rattle.std.proofs.lemmas.Bool.{cases_lt, eqb-true, le-ltb, ltb-false, ne_eqb
 use Rattle.std.proofs.lemmas.List.{drop-append-le, length-append, take-append-drop, take-append-le}
 use Rattle.std.proofs.lemmas.List.Folds.{list_all-append}
 use Rattle.std.proofs.Math.Seq.{take-append-add, take-length, take-suc}
+use Rattle.bay_base.specs.Results.{◌>>=◌}
 use Rattle.bay_base.specs.declared.types.ElementaryType.{ElementaryType}
 use Rattle.il_image.specs.declared.fault.ImageFault.{ImageFault}
 use Rattle.il_image.specs.declared.fault.ImageFault.TheVariants.{BadMagic, BadVersion, BadOpcode, Truncated, OutOfMemory}
@@ -22,7 +23,7 @@ use Rattle.il_image.specs.Decoding.{IsFirstBad, access_at, access_of, behind, co
 use Rattle.il_image.specs.Images.{Image, is_name_octet, mark, value_size}
 use Rattle.il_image.specs.Octets.{bits_of_size, octet_count, size_of}
 use Rattle.il_image.specs.Opcodes.{opcode_of, width_of}
-use Rattle.il_image.specs.Reading.{Read, ◌>>=◌, instr_from, known, known_opcode, number_at, octet_at, operand_from, signed_at, value_at, width_at, with_number}
+use Rattle.il_image.specs.Reading.{Read, instr_from, known, known_opcode, number_at, octet_at, operand_from, signed_at, value_at, width_at, with_number}
 use Rattle.il_image.specs.Values.{value_of}
 use Rattle.il_image.proofs.CodeLemmas.{less}
 use Rattle.il_image.proofs.ReadLemmas.{from_front}

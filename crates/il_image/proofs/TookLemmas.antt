@@ -5,6 +5,7 @@ use Rattle.std.specs.List.{list_all}
 use Rattle.std.proofs.lemmas.Bool.{eqb-true, eqb-false, ltb-false, or_parts}
 use Rattle.std.proofs.lemmas.List.{append_assoc, length-take-le, take-append-drop}
 use Rattle.std.proofs.Math.Seq.{take-length}
+use Rattle.bay_base.specs.Results.{◌>>=◌}
 use Rattle.bay_base.specs.declared.types.ElementaryType.{ElementaryType}
 use Rattle.bay_base.specs.declared.types.ElementaryType.TheVariants as elementary
 use Rattle.il_image.specs.declared.fault.ImageFault.{ImageFault}
@@ -12,12 +13,12 @@ use Rattle.il_image.specs.declared.fault.ImageFault.TheVariants.{BadMagic, BadVe
 use Rattle.il_image.specs.declared.image.ImagePoint.{ImagePoint}
 use Rattle.il_image.specs.declared.opcode.Version.{Version}
 use Rattle.il_image.specs.declared.opcode.Version.TheVariants.{One, Two}
-use Rattle.il_image.specs.declared.timer.TimerKind.{TimerKind}
-use Rattle.il_image.specs.declared.timer.TimerKind.TheVariants.{OnDelay, OffDelay}
+use Rattle.bay_base.specs.declared.types.TimerKind.{TimerKind}
+use Rattle.bay_base.specs.declared.types.TimerKind.TheVariants.{OnDelay, OffDelay}
 use Rattle.il_image.specs.Decoding.{access_at, access_of, behind, code_at, code_fault, code_of_length, counted_at, items_at, kind_of_octet, name_at, name_of_length, newest_type, point_at, timer_at, type_at, type_of_octet, unless, variable_at, version_at}
 use Rattle.il_image.specs.Images.{Each, HasName, IsCode, IsName, IsValue, counted, each_spelled, is_name_octet, mark, point_octets, timer_octets, type_octet, value_size, variable_octets, version_octet}
 use Rattle.il_image.specs.Octets.{AreOctets, number_octets, signed_octets}
-use Rattle.il_image.specs.Reading.{Read, ◌>>=◌, known, number_at, octet_at, value_at}
+use Rattle.il_image.specs.Reading.{Read, known, number_at, octet_at, value_at}
 use Rattle.il_image.specs.Values.{number_of, type_of, value_of}
 use Rattle.il_image.proofs.ReadLemmas.{bind_ok, known_ok, ok_same, took_octet, took_number}
 use Rattle.il_image.proofs.InstrLemmas.{took_value, behind_octets}

@@ -8,8 +8,9 @@ use Rattle.bay_base.specs.declared.types.ElementaryType.{ElementaryType}
 use Rattle.bay_base.specs.declared.types.ElementaryType.TheVariants as elementary
 use Rattle.il_image.specs.declared.value.Value.{Value}
 use Rattle.il_image.specs.declared.value.Value.TheVariants.{Truth, Short, Long, Wide, Span}
+use Rattle.il_image.specs.Images.{IsValue}
 use Rattle.il_image.specs.Octets.{bits_of_size, size_of}
-use Rattle.il_image.specs.Values.{type_of, number_of, value_of, span_of, is_between}
+use Rattle.il_image.specs.Values.{type_of, number_of, value_of, default_value, span_of, is_between}
 
 -- what a chosen value shows of the choice
 some_if : {A : Type 0} (b : Bool) (x : A) → IsSome (cond b (Some x) None) → b ≡ true
@@ -72,3 +73,11 @@ value_back (Short z) h = rw (some_if (is_between (negsuc 0x7FFF) (pos 0x7FFF) z)
 value_back (Long z) h = rw (some_if (is_between (negsuc 0x7FFF_FFFF) (pos 0x7FFF_FFFF) z) (Long z) h) refl
 value_back (Wide z) h = rw (some_if (is_between (negsuc 0x7FFF_FFFF_FFFF_FFFF) (pos 0x7FFF_FFFF_FFFF_FFFF) z) (Wide z) h) refl
 value_back (Span n) h = rw (some_if (is_between (pos 0) (pos 0x7FFF_FFFF) (pos n)) (Span n) h) refl
+
+-- the default of a type is a value of it
+pub default_typed : (t : ElementaryType) → (type_of (default_value t) ≡ t) × IsValue (default_value t)
+default_typed elementary.Bool = (refl, refl)
+default_typed elementary.Int = (refl, refl)
+default_typed elementary.Dint = (refl, refl)
+default_typed elementary.Lint = (refl, refl)
+default_typed elementary.Time = (refl, refl)

@@ -5,6 +5,7 @@ use Rattle.bay_base.specs.declared.types.ElementaryType.TheVariants as elementar
 use Rattle.il_image.specs.declared.value.Value.{Value}
 use Rattle.il_image.specs.declared.value.Value.TheVariants.{Truth, Short, Long, Wide, Span}
 
+-- the type of a value
 abbrev pub type_of : Value → ElementaryType
 type_of (Truth b) = elementary.Bool
 type_of (Short z) = elementary.Int
@@ -20,6 +21,15 @@ number_of (Long z) = z
 number_of (Wide z) = z
 number_of (Span n) = pos n
 
+-- what a value of the type is where none is given: FALSE, 0, or T#0ms
+abbrev pub default_value : ElementaryType → Value
+default_value elementary.Bool = Truth false
+default_value elementary.Int = Short (pos 0)
+default_value elementary.Dint = Long (pos 0)
+default_value elementary.Lint = Wide (pos 0)
+default_value elementary.Time = Span 0
+
+-- the number is in the range, both ends too
 abbrev pub is_between : ℤ → ℤ → ℤ → Bool
 is_between low high z = int_le low z && int_le z high
 

@@ -2,22 +2,21 @@
 ghost use Rattle.std.specs.Prelude.{◌≡◌, ◌≤◌, ◌^◌, ◌<◌, length, IsErrOf, IsTrue, MatchResult, None, Some};
 ghost use Rattle.std.specs.List.{list_all};
 ghost use Rattle.bay_base.specs.Exact.{Gives};
+ghost use Rattle.bay_base.specs.Results.{IsRead};
 ghost use Rattle.il_image.specs.Decoding.{TakesMemory, access_of, behind, code_fault, counted_at, decoded, kind_of_octet};
 ghost use Rattle.il_image.specs.Decoding as spec;
 ghost use Rattle.il_image.specs.Images.{mark};
 ghost use Rattle.il_image.specs.Images as spec_images;
-ghost use Rattle.il_image.specs.Reading.{IsRead};
 
 use crate::fault::ImageFault;
 use crate::image::{Image, ImagePoint};
 use crate::opcode::Version;
 use crate::read::{instr_from, number_at, octet_at, value_at};
-use crate::timer::TimerKind;
 use crate::value::Value;
 use crate::write::Size;
 use bay_base::listing::Listing;
 use bay_base::text::Text;
-use bay_base::types::ElementaryType;
+use bay_base::types::{ElementaryType, TimerKind};
 use std::alloc::Global;
 
 // The octets behind the mark.

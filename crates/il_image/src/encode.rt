@@ -5,10 +5,9 @@ ghost use Rattle.il_image.specs.Images as spec;
 
 use crate::image::{Image, ImagePoint};
 use crate::opcode::Version;
-use crate::timer::TimerKind;
 use crate::value::Value;
 use crate::write::{Size, push_number, push_octet, push_signed};
-use bay_base::types::ElementaryType;
+use bay_base::types::{ElementaryType, TimerKind};
 use std::alloc::{AllocError, Global};
 
 // The octet of a type.

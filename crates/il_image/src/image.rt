@@ -1,11 +1,10 @@
 // Images: compiled code with the points, variables and timers that it uses.
 ghost use Rattle.std.specs.Prelude.{◌≡◌};
 
-use crate::timer::TimerKind;
 use crate::value::Value;
 use bay_base::listing::Listing;
 use bay_base::text::Text;
-use bay_base::types::ElementaryType;
+use bay_base::types::{ElementaryType, TimerKind};
 use std::marker::Model;
 
 /// A point that the code reads, or reads and writes.

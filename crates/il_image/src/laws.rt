@@ -9,12 +9,12 @@ ghost use Rattle.il_image.specs.Reading.{StandsAt, instr_at, instr_from};
 ghost use Rattle.il_image.specs.Spelling.{IsInstr, spelling};
 ghost use Rattle.il_image.specs.declared.fault.ImageFault.TheVariants.{BadMagic, BadOpcode, BadVersion, Truncated};
 ghost use Rattle.il_image.specs.declared.instr.Instr.{Instr};
-ghost use Rattle.il_image.specs.declared.kind.Kind.{Kind};
+ghost use Rattle.il_image.specs.declared.kind.CellKind.{CellKind};
 ghost use Rattle.il_image.specs.declared.value.Value.{Value};
 ghost use Rattle.il_image.specs.declared.opcode.Version.{Version};
 ghost use Rattle.il_image.specs.declared.opcode.Version.TheVariants.{One, Two};
 ghost use Rattle.il_image.specs.Timers.{Call, HasNotPassed, HasPassed, after};
-ghost use Rattle.il_image.specs.declared.timer.TimerKind.TheVariants.{OnDelay, OffDelay};
+ghost use Rattle.bay_base.specs.declared.types.TimerKind.TheVariants.{OnDelay, OffDelay};
 
 /// After any calls, of which the list has the last one first, Q of a TON is TRUE exactly where the
 /// last call has IN TRUE and its PT has passed since the first call of the last unbroken run of
@@ -60,11 +60,11 @@ pub fn one_spelling_of_images()
 /// The kinds are in order, by the values that they have, and the join of two is the least kind
 /// above both.
 pub fn join_is_least()
-    ensures same { (a : Kind) → IsTrue (is_within a a) }
-    ensures along { (a b c : Kind) → IsTrue (is_within a b) → IsTrue (is_within b c) → IsTrue (is_within a c) }
-    ensures values { (v : Value) (a b : Kind) → IsTrue (is_within a b) → HasKind v a → HasKind v b }
-    ensures above { (a b : Kind) → IsTrue (is_within a (join a b)) × IsTrue (is_within b (join a b)) }
-    ensures least { (a b top : Kind) → IsTrue (is_within a top) → IsTrue (is_within b top) → IsTrue (is_within (join a b) top) }
+    ensures same { (a : CellKind) → IsTrue (is_within a a) }
+    ensures along { (a b c : CellKind) → IsTrue (is_within a b) → IsTrue (is_within b c) → IsTrue (is_within a c) }
+    ensures values { (v : Value) (a b : CellKind) → IsTrue (is_within a b) → HasKind v a → HasKind v b }
+    ensures above { (a b : CellKind) → IsTrue (is_within a (join a b)) × IsTrue (is_within b (join a b)) }
+    ensures least { (a b top : CellKind) → IsTrue (is_within a top) → IsTrue (is_within b top) → IsTrue (is_within (join a b) top) }
 {}
 
 /// What the first octets decide, whatever follows them: another octet among the first four, and

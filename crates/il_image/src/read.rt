@@ -1,7 +1,8 @@
 // Readers of one item at the front of octets. Each answers the item and the octets behind it, or
 // the first fault from the left, and takes no memory.
 ghost use Rattle.std.specs.Prelude.{◌≡◌, ◌+◌, ◌<◌, ◌≤◌, IfOk, IfSome, length};
-ghost use Rattle.il_image.specs.Reading.{IsRead, placed};
+ghost use Rattle.bay_base.specs.Results.{IsRead};
+ghost use Rattle.il_image.specs.Reading.{placed};
 ghost use Rattle.il_image.specs.Reading as spec;
 
 use crate::arithmetic::Width;

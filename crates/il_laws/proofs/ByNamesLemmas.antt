@@ -8,7 +8,7 @@ use Rattle.bay_base.proofs.NameLemmas.{upper-upper}
 use Rattle.bay_base.specs.declared.types.ElementaryType.{ElementaryType}
 use Rattle.bay_config.specs.declared.bay.Point.{Point}
 use Rattle.il_text.specs.Listing as text
-use Rattle.il_image.specs.declared.timer.Timer.{Timer}
+use Rattle.il_image.specs.declared.timer.TimerState.{TimerState}
 use Rattle.il_image.specs.declared.value.Value.{Value}
 use Rattle.il_check.specs.Checking.{checked_of}
 use Rattle.il_check.specs.Declaring.{looked_up, meanings_of, names_in}
@@ -69,10 +69,10 @@ module _ (points : List Point) (program : text.PlainProgram) (c : Checked) (o : 
   one_meaning : (other : List ℕ) (m n : Meaning) → (names_in points program).meaning name ≡ Some m → (names_in points program).meaning other ≡ Some n → other ≡ upper name → n ≡ m
   one_meaning other m n e f same = some_same n m (sym f ∙ ap (names_in points program).meaning same ∙ in_upper m e)
 
-  module _ (values : List ℕ → Value) (timers : List ℕ → Timer) where
-    memory_same : (es fs vs ws : List Value) (ts us : List Timer) → es ≡ fs → vs ≡ ws → ts ≡ us → ◌≡◌ {A = Memory} (record { externals = es; variables = vs; timers = ts }) (record { externals = fs; variables = ws; timers = us })
+  module _ (values : List ℕ → Value) (timers : List ℕ → TimerState) where
+    memory_same : (es fs vs ws : List Value) (ts us : List TimerState) → es ≡ fs → vs ≡ ws → ts ≡ us → ◌≡◌ {A = Memory} (record { externals = es; variables = vs; timers = ts }) (record { externals = fs; variables = ws; timers = us })
     memory_same es fs vs ws ts us e v t =
-        let made : List Value → List Value → List Timer → Memory = λ x y z. record { externals = x; variables = y; timers = z } in
+        let made : List Value → List Value → List TimerState → Memory = λ x y z. record { externals = x; variables = y; timers = z } in
         ap (λ x. made x vs ts) e ∙ ap (λ y. made fs y ts) v ∙ ap (λ z. made fs ws z) t
 
     reads_so : (s : Slot) (kind : ElementaryType) (writable : Bool) → (names_in points program).meaning name ≡ Some (meaning.Variable s kind writable) → slot_value s (named_memory c values timers) ≡ Some (values (upper name))
@@ -113,7 +113,7 @@ module _ (points : List Point) (program : text.PlainProgram) (c : Checked) (o : 
         let h = o.own name (meaning.Timer n) e in
         get_map (λ (x : Declared). timers x.name) c.timers n h.0 h.1 ∙ ap (λ (k : List ℕ). Some (timers k)) h.2
 
-    timer_written : (n : ℕ) (t : Timer) → (names_in points program).meaning name ≡ Some (meaning.Timer n)
+    timer_written : (n : ℕ) (t : TimerState) → (names_in points program).meaning name ≡ Some (meaning.Timer n)
         → slice_set (map (λ (x : Declared). timers x.name) c.timers) n t ≡ map (λ (x : Declared). changed_at (upper name) t timers x.name) c.timers
     timer_written n t e =
         let h = o.own name (meaning.Timer n) e in
@@ -121,7 +121,7 @@ module _ (points : List Point) (program : text.PlainProgram) (c : Checked) (o : 
         (λ i y at ne. changed_elsewhere (upper name) t timers y.name
         (λ same. ne (let m = one_meaning y.name (meaning.Timer n) (meaning.Timer i) e (o.timers i y at) same in let p : i ≡ n = cc in p)))
 
-pub goes_by_names : (points : List Point) (program : text.PlainProgram) (c : Checked) (values : List ℕ → Value) (timers : List ℕ → Timer) → checked_of points program ≡ Ok c → GoesByNames (names_in points program) c values timers
+pub goes_by_names : (points : List Point) (program : text.PlainProgram) (c : Checked) (values : List ℕ → Value) (timers : List ℕ → TimerState) → checked_of points program ≡ Ok c → GoesByNames (names_in points program) c values timers
 goes_by_names points program c values timers e =
     let o = mean_own_places points program c e in
     record {

@@ -44,7 +44,6 @@ use Rattle.il_verify.specs.Slots.{point_slot, slots_of, variable_slot}
 use Rattle.il_verify.specs.Verdicts.{IsVerified, KeepsReadOnly}
 use Rattle.il_compile.specs.Code.{program_code}
 use Rattle.il_compile.specs.Compiled.{compiled_of, image_of, image_size, point_of}
-use Rattle.il_compile.specs.Senses.{timer_of}
 use Rattle.il_compile.specs.declared.fault.CompileFault.TheVariants.{CodeTooLong}
 use Rattle.il_compile.proofs.SizeLemmas.{size_is}
 use Rattle.il_compile.proofs.Spellable.{program_are}
@@ -193,10 +192,10 @@ image_fits points c ok h =
     let t = ok.timers in
     let a = length-map c.externals point_of in
     let b = length-map c.variables (λ v. v.initial) in
-    let d = length-map c.timers (λ x. timer_of x.kind) in
-    both (nat_le (length (map point_of c.externals) + length (map (λ v. v.initial) c.variables)) 512 && nat_le (length (map (λ x. timer_of x.kind) c.timers)) 64) (are_points points (map point_of c.externals))
-    (both (nat_le (length (map point_of c.externals) + length (map (λ v. v.initial) c.variables)) 512) (nat_le (length (map (λ x. timer_of x.kind) c.timers)) 64)
-    (le-leb (length (map point_of c.externals) + length (map (λ v. v.initial) c.variables)) 512 (omega arith)) (le-leb (length (map (λ x. timer_of x.kind) c.timers)) 64 (omega arith))) h
+    let d = length-map c.timers (λ x. x.kind) in
+    both (nat_le (length (map point_of c.externals) + length (map (λ v. v.initial) c.variables)) 512 && nat_le (length (map (λ x. x.kind) c.timers)) 64) (are_points points (map point_of c.externals))
+    (both (nat_le (length (map point_of c.externals) + length (map (λ v. v.initial) c.variables)) 512) (nat_le (length (map (λ x. x.kind) c.timers)) 64)
+    (le-leb (length (map point_of c.externals) + length (map (λ v. v.initial) c.variables)) 512 (omega arith)) (le-leb (length (map (λ x. x.kind) c.timers)) 64 (omega arith))) h
 
 checked_fits : (points : List Point) (program : text.PlainProgram) (c : Checked) → checked_of points program ≡ Ok c → IsTyped c → fits points (image_of c) ≡ true
 checked_fits points program c e ok =

@@ -7,6 +7,7 @@ use Rattle.std.specs.Str.{byte}
 abbrev pub is_blank : ℕ → Bool
 is_blank x = x == byte " " || x == 9
 
+-- the sign of a number
 abbrev pub is_sign : ℕ → Bool
 is_sign x = x == byte "+" || x == byte "-"
 

@@ -5,6 +5,7 @@ use Rattle.std.specs.List.{flat_map, sum_by}
 use Rattle.bay_base.specs.Names.{same_name}
 use Rattle.il_text.specs.Literals.{number_of_part, milliseconds}
 
+-- the units of a duration, the greatest first
 pub data Unit : Type 0 where
   days : Unit
   hours : Unit
@@ -35,9 +36,11 @@ pub record Part : Type 0 where
   pub count : ℕ
   pub unit : Unit
 
+-- the octets of a part
 abbrev pub spelling : Part → List ℕ
 spelling p = p.digits ++ p.name
 
+-- the milliseconds of a part
 abbrev pub value : Part → ℕ
 value p = p.count * size p.unit
 

@@ -22,14 +22,17 @@ use Rattle.il_text.specs.declared.token.Mark.TheVariants as mark
 use Rattle.il_text.specs.declared.token.Mnemonic.{Mnemonic}
 use Rattle.il_text.specs.declared.token.Mnemonic.TheVariants as mnemonic
 
+-- the name that a token is
 abbrev pub name_of : Symbol → Option (List ℕ)
 name_of (name n) = Some n
 name_of other = None
 
+-- the literal that a token is
 abbrev pub literal_of : Symbol → Option Literal
 literal_of (literal value) = Some value
 literal_of other = None
 
+-- the type that a token is
 abbrev pub type_of : Symbol → Option DeclaredType
 type_of (type_word kind) = Some kind
 type_of other = None
@@ -39,10 +42,12 @@ abbrev pub elementary_of : Symbol → Option DeclaredType
 elementary_of (type_word (Elementary kind)) = Some (Elementary kind)
 elementary_of other = None
 
+-- the token is an operator
 abbrev pub is_mnemonic : Symbol → Bool
 is_mnemonic (mnemonic_word m) = true
 is_mnemonic other = false
 
+-- the marks are one
 abbrev pub same_mark : Mark → Mark → Bool
 same_mark mark.Colon mark.Colon = true
 same_mark mark.Assign mark.Assign = true
@@ -86,6 +91,7 @@ only_literal [] = None
 only_literal (s ∷ []) = literal_of s
 only_literal (s ∷ t ∷ ss) = None
 
+-- the literal, or else what is named
 abbrev pub literal_or : Option Literal → Option Place → Option Source
 literal_or (Some value) p = Some (constant value)
 literal_or None p = option_map variable p
@@ -105,6 +111,7 @@ argument (i ∷ []) = None
 argument (i ∷ a ∷ ss) =
     if is_mark mark.Assign a then option_and_then (λ k. option_map (λ x. (k, x)) (operand ss)) (option_and_then input_named (name_of i)) else None
 
+-- the inputs are one
 abbrev pub same_input : Input → Input → Bool
 same_input input.In input.In = true
 same_input input.In input.Pt = false
@@ -115,6 +122,7 @@ same_input input.Pt input.Pt = true
 abbrev pub both : (Input × Source) → (Input × Source) → Option (List (Input × Source))
 both a b = if same_input a.0 b.0 then None else Some (a ∷ b ∷ [])
 
+-- what stands behind the first token, and the front as it is
 abbrev pub after_front : List Symbol → List Symbol → Option (List Symbol × List Symbol)
 after_front front [] = None
 after_front front (s ∷ rest) = Some (front, rest)
@@ -127,6 +135,7 @@ parts_at n ss = after_front (take n ss) (drop n ss)
 abbrev pub parted : Mark → List Symbol → Option (List Symbol × List Symbol)
 parted m ss = parts_at (position_or_len (is_mark m) ss) ss
 
+-- one argument, or two where a comma parts them
 abbrev pub argument_list : List Symbol → Option (List Symbol × List Symbol) → Option (List (Input × Source))
 argument_list ss None = option_map (λ a. a ∷ []) (argument ss)
 argument_list ss (Some p) = option_and_then (λ a. option_and_then (both a) (argument p.1)) (argument p.0)
@@ -136,10 +145,12 @@ unfoldable pub arguments : List Symbol → Option (List (Input × Source))
 arguments [] = Some []
 arguments (s ∷ ss) = argument_list (s ∷ ss) (parted mark.Comma (s ∷ ss))
 
+-- the arguments, where nothing stands behind the `)`
 abbrev pub ends_with : List Symbol → List Symbol → Option (List (Input × Source))
 ends_with front [] = arguments front
 ends_with front (s ∷ rest) = None
 
+-- the same of what a `)` parts
 abbrev pub closed_by : Option (List Symbol × List Symbol) → Option (List (Input × Source))
 closed_by None = None
 closed_by (Some p) = ends_with p.0 p.1
@@ -154,6 +165,7 @@ called [] = None
 called (t ∷ []) = None
 called (t ∷ o ∷ ss) = if is_mark mark.Open o then option_and_then (λ n. option_map (call n) (closed_arguments ss)) (name_of t) else None
 
+-- the one part of an instruction
 abbrev pub one_part : Option Action → Option (List Part)
 one_part = option_map (λ a. acting a ∷ [])
 
@@ -167,6 +179,7 @@ abbrev pub entered : Operator → Bool → List Symbol → Option (List Part)
 entered o n [] = Some (entering o n ∷ [])
 entered o n (s ∷ ss) = option_map (λ x. entering o n ∷ acting (load false x) ∷ []) (operand (s ∷ ss))
 
+-- an operator that combines, with its operand or with `(`
 abbrev pub combined : Operator → Bool → List Symbol → Option (List Part)
 combined o n [] = None
 combined o n (s ∷ ss) = if is_mark mark.Open s then entered o n ss else one_part (option_map (combine o n) (operand (s ∷ ss)))
@@ -204,6 +217,7 @@ names_from true (s ∷ ss) = if is_mark mark.Comma s then names_from false ss el
 abbrev pub declared_names : Tail → List Symbol → Option (List Part)
 declared_names t ss = option_map (λ ns. declaring ns t.kind t.initial ∷ []) (names_from false ss)
 
+-- the names before the colon, and the type and initial value behind it
 abbrev pub declared_by : Option (List Symbol × List Symbol) → Option (List Part)
 declared_by None = None
 declared_by (Some p) = option_and_then (λ t. declared_names t p.0) (tail p.1)
@@ -222,6 +236,7 @@ unfoldable pub label_rest : List Symbol → Option (List Symbol)
 label_rest [] = None
 label_rest (c ∷ ss) = if is_mark mark.Colon c && may_follow_label ss then Some ss else None
 
+-- an operator as a token, and what belongs to it
 abbrev pub statement_by : Symbol → List Symbol → Option (List Part)
 statement_by (mnemonic_word m) ss = statement m ss
 statement_by other ss = None
@@ -231,6 +246,7 @@ unfoldable pub labelled : List ℕ → List Symbol → Option (List Part)
 labelled n [] = Some (labelling n ∷ [])
 labelled n (m ∷ ss) = option_map (λ ps. labelling n ∷ ps) (statement_by m ss)
 
+-- what stands behind a label, or else a declaration
 abbrev pub label_or : List ℕ → List Symbol → Option (List Symbol) → Option (List Part)
 label_or n ss (Some rest) = labelled n rest
 label_or n ss None = declaration ss
@@ -239,6 +255,7 @@ label_or n ss None = declaration ss
 unfoldable pub named_line : List ℕ → List Symbol → List Symbol → Option (List Part)
 named_line n rest ss = label_or n ss (label_rest rest)
 
+-- a part that stands alone on its line
 abbrev pub only : Part → List Symbol → Option (List Part)
 only p [] = Some (p ∷ [])
 only p (s ∷ ss) = None
@@ -256,6 +273,7 @@ unfoldable pub marked : Mark → List Symbol → Option (List Part)
 marked mark.Close ss = only leaving ss
 marked other ss = None
 
+-- the form of a line by its first token
 abbrev pub by_first : Symbol → List Symbol → List Symbol → Option (List Part)
 by_first (name n) rest ss = named_line n rest ss
 by_first (keyword_word w) rest ss = keyword_line w rest

@@ -44,10 +44,12 @@ mutual
     no_entries : Entries
     entry : Entry → Entries → Entries
 
+-- entries as those of a parenthesis
 abbrev pub entries_of : List Entry → Entries
 entries_of [] = no_entries
 entries_of (e ∷ es) = entry e (entries_of es)
 
+-- one declared name, with its line, its type and the initial value that the text gives
 pub record Declared : Type 0 where
   pub line : ℕ
   pub scope : Scope
@@ -55,6 +57,7 @@ pub record Declared : Type 0 where
   pub kind : DeclaredType
   pub initial : Option Literal
 
+-- a program: its name, what it declares, and its entries in the order of the text
 pub record PlainProgram : Type 0 where
   pub name : List ℕ
   pub declarations : List Declared

@@ -11,9 +11,11 @@ use Rattle.il_text.specs.declared.literal.LiteralFault.TheVariants.{Malformed, O
 use Rattle.il_text.specs.declared.program.Literal.{Literal}
 use Rattle.il_text.specs.declared.program.Literal.TheVariants.{Truth, Number, Int, Dint, Lint, Time}
 
+-- an `_`, which may part digits
 abbrev pub is_underscore : ℕ → Bool
 is_underscore x = x == byte "_"
 
+-- the `#` behind a type or a base
 abbrev pub is_hash : ℕ → Bool
 is_hash x = x == byte "#"
 
@@ -57,10 +59,12 @@ decimal w =
 unfoldable pub based : List ℕ → List ℕ → Option Signed
 based base digits = option_and_then (λ radix. option_map (λ n. (false, n)) (number radix digits)) (base_of base)
 
+-- a number by whether a `#` parts it
 abbrev decimal_or_based : List ℕ → Option (List ℕ × List ℕ) → Option Signed
 decimal_or_based w None = decimal w
 decimal_or_based w (Some h) = based h.0 h.1
 
+-- a number with a sign, or behind a base
 unfoldable pub integer : List ℕ → Option Signed
 integer w = decimal_or_based w (halves w)
 
@@ -75,6 +79,7 @@ signed (Some (true, n)) =
 unfoldable pub untyped : Option Signed → Result Literal LiteralFault
 untyped z = signed z >>= (λ value. Ok (Number value))
 
+-- the number is in the range, both ends too
 abbrev pub is_between : ℤ → ℤ → ℤ → Bool
 is_between low high z = int_le low z && int_le z high
 
@@ -83,12 +88,15 @@ abbrev pub bool_literal : ℤ → Result Literal LiteralFault
 bool_literal (pos n) = if n == 0 then Ok (Truth false) else (if n == 1 then Ok (Truth true) else Err OutOfRange)
 bool_literal (negsuc n) = Err OutOfRange
 
+-- an INT is of 16 bits with a sign
 abbrev pub int_literal : ℤ → Result Literal LiteralFault
 int_literal z = if is_between (negsuc 32767) (pos 32767) z then Ok (Int z) else Err OutOfRange
 
+-- a DINT is of 32 bits with a sign
 abbrev pub dint_literal : ℤ → Result Literal LiteralFault
 dint_literal z = if is_between (negsuc 2147483647) (pos 2147483647) z then Ok (Dint z) else Err OutOfRange
 
+-- TRUE and FALSE, in letters of either case
 abbrev pub truth_of : List ℕ → Option Bool
 truth_of w = if same_name w (codes "TRUE") then Some true else (if same_name w (codes "FALSE") then Some false else None)
 
@@ -97,9 +105,11 @@ abbrev pub number_or_truth : List ℕ → Option Bool → Result ℤ LiteralFaul
 number_or_truth w (Some b) = Err OutOfRange
 number_or_truth w None = signed (integer w)
 
+-- the number behind a type of numbers
 unfoldable pub typed_number : List ℕ → Result ℤ LiteralFault
 typed_number w = number_or_truth w (truth_of w)
 
+-- a truth value, or else the number 0 or 1
 abbrev pub bool_or_truth : List ℕ → Option Bool → Result Literal LiteralFault
 bool_or_truth w (Some b) = Ok (Truth b)
 bool_or_truth w None = signed (integer w) >>= bool_literal
@@ -108,12 +118,15 @@ bool_or_truth w None = signed (integer w) >>= bool_literal
 unfoldable pub typed_bool : List ℕ → Result Literal LiteralFault
 typed_bool w = bool_or_truth w (truth_of w)
 
+-- what stands behind `INT#`
 unfoldable pub typed_int : List ℕ → Result Literal LiteralFault
 typed_int w = typed_number w >>= int_literal
 
+-- what stands behind `DINT#`
 unfoldable pub typed_dint : List ℕ → Result Literal LiteralFault
 typed_dint w = typed_number w >>= dint_literal
 
+-- what stands behind `LINT#`
 unfoldable pub typed_lint : List ℕ → Result Literal LiteralFault
 typed_lint w = typed_number w >>= (λ value. Ok (Lint value))
 
@@ -135,6 +148,7 @@ unit_len w = prefix_len is_ascii_alphabetic (drop (number_len w) w)
 abbrev pub number_of_part : Bool → List ℕ → Option ℕ
 number_of_part begun ds = if begun && is_underscore (slice_index ds 0) then number 10 (drop 1 ds) else number 10 ds
 
+-- a duration with one part more, where the part has a number
 abbrev pub with_part : ℕ → Duration → Option ℕ → Option Duration
 with_part factor d None = None
 with_part factor d (Some n) =
@@ -165,6 +179,7 @@ abbrev pub time_literal : Option ℕ → Result Literal LiteralFault
 time_literal None = Err Malformed
 time_literal (Some n) = if nat_le n 2147483647 then Ok (Time n) else Err OutOfRange
 
+-- what stands behind `T#` or `TIME#`
 unfoldable pub typed_time : List ℕ → Result Literal LiteralFault
 typed_time w = time_literal (milliseconds w)
 

@@ -43,6 +43,7 @@ blanked inside (x ∷ y ∷ xs) =
 unfoldable pub joins : ℕ → List ℕ → Bool
 joins x p = linked x (slice_index p 0) || (x == byte "&" && same_name p (codes "N"))
 
+-- a character in front of pieces: a part of the first one, or a piece of its own
 abbrev pub join : ℕ → List (List ℕ) → List (List ℕ)
 join x [] = (x ∷ []) ∷ []
 join x (p ∷ ps) = if joins x p then (x ∷ p) ∷ ps else (x ∷ []) ∷ p ∷ ps

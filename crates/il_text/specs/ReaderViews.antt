@@ -14,6 +14,7 @@ use Rattle.il_text.specs.declared.read.Reader as code
 unfoldable pub read_on : ℕ → Read → ℕ → List Symbol → List Piece → Result PlainProgram TextFault
 read_on last r line ss ps = reading last r line (lines (map token ss ++ ps))
 
+-- the program that what is read and what is left of a text make
 abbrev pub left_of : code.Reader → Result PlainProgram TextFault
 left_of r =
     read_on r.last (read_of r.listing) r.line (symbols_of r.tokens.items) (cut r.in_comment (drop r.at r.text.now))

@@ -41,6 +41,7 @@ pub record Read : Type 0 where
   pub reached : Reached
   pub instructions : ℕ
 
+-- the part counts towards the limit of lines
 abbrev pub is_instruction : Part → Bool
 is_instruction (heading name) = false
 is_instruction (opening scope) = false
@@ -61,6 +62,7 @@ has_instruction (p ∷ ps) = is_instruction p || has_instruction ps
 abbrev pub past_limit : ℕ → ℕ → TextFault → TextFault
 past_limit line last fault = if line == last then BadLine line else fault
 
+-- one line with an instruction more, of which 4,000 may be
 abbrev pub counted : ℕ → ℕ → ℕ → Reached → Result Read TextFault
 counted line last before s =
     if nat_lt before 4000 then Ok (record { reached = s; instructions = before + 1 }) else Err (past_limit line last (TooLong line))
@@ -70,14 +72,17 @@ unfoldable pub bounded : ℕ → ℕ → ℕ → Reached → Result Read TextFau
 bounded line last before s =
     if nat_le (length s.parentheses) 16 then counted line last before s else Err (past_limit line last (TooDeep line))
 
+-- what a line leaves, where the limits count only one with an instruction
 abbrev pub limited : ℕ → ℕ → ℕ → List Part → Reached → Result Read TextFault
 limited line last before ps s =
     if has_instruction ps then bounded line last before s else Ok (record { reached = s; instructions = before })
 
+-- the same of a line that may not stand here
 abbrev pub stepped : ℕ → ℕ → ℕ → List Part → Option Reached → Result Read TextFault
 stepped line last before ps None = Err (BadLine line)
 stepped line last before ps (Some s) = limited line last before ps s
 
+-- the same of a line that may have no form
 abbrev pub after_parts : ℕ → ℕ → Read → Option (List Part) → Result Read TextFault
 after_parts line last r None = Err (BadLine line)
 after_parts line last r (Some ps) = stepped line last r.instructions ps (steps line r.reached ps)
@@ -86,6 +91,7 @@ after_parts line last r (Some ps) = stepped line last r.instructions ps (steps l
 unfoldable pub after_line : ℕ → ℕ → Read → List Symbol → Result Read TextFault
 after_line line last r ts = after_parts line last r (parts_of ts)
 
+-- the program that the lines make
 abbrev pub listed : Reached → PlainProgram
 listed s = record { name = s.name; declarations = s.declarations; items = s.items }
 
@@ -94,6 +100,7 @@ abbrev pub whole_at : ℕ → Reached → Stage → Result PlainProgram TextFaul
 whole_at last s place.Finished = Ok (listed s)
 whole_at last s other = Err (BadLine last)
 
+-- the program, if the text is whole
 abbrev pub whole : ℕ → Reached → Result PlainProgram TextFault
 whole last s = whole_at last s s.place
 
@@ -103,6 +110,7 @@ reading last r line [] = whole last r.reached
 reading last r line (l ∷ ls) =
     tokens_of line l >>= (λ ts. after_line line last r ts >>= (λ s. reading last s (line + 1) ls))
 
+-- before the first line
 abbrev pub none_yet : Read
 none_yet = record { reached = nothing_read; instructions = 0 }
 

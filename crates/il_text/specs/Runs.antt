@@ -17,6 +17,7 @@ pub record IsRun (bytes : List ℕ) (start end : ℕ) : Type 0 where
 abbrev pub capped : Option ℕ → Option ℕ
 capped = option_map (λ n. min n (2 ^ 64 - 1))
 
+-- the same of a number with its sign
 abbrev pub capped_signed : Option Signed → Option Signed
 capped_signed = option_map (λ z. (z.0, min z.1 (2 ^ 64 - 1)))
 

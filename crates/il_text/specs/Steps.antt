@@ -27,18 +27,23 @@ pub record Reached : Type 0 where
   pub items : List Entry
   pub parentheses : List Opened
 
+-- before the first line
 abbrev pub nothing_read : Reached
 nothing_read = record { place = place.Start; name = []; declarations = []; items = []; parentheses = [] }
 
+-- the same at another place of the program
 abbrev pub at_place : Stage → Reached → Reached
 at_place p r = record { place = p; name = r.name; declarations = r.declarations; items = r.items; parentheses = r.parentheses }
 
+-- behind the line of PROGRAM
 abbrev pub with_name : List ℕ → Reached → Reached
 with_name n r = record { place = place.Declarations; name = n; declarations = r.declarations; items = r.items; parentheses = r.parentheses }
 
+-- one name of a line of declarations
 abbrev pub declared_in : ℕ → Scope → DeclaredType → Option Literal → List ℕ → Declared
 declared_in line scope kind initial name = record { line = line; scope = scope; name = name; kind = kind; initial = initial }
 
+-- with these names declared besides
 abbrev pub with_declarations : List Declared → Reached → Reached
 with_declarations ds r =
     record { place = r.place; name = r.name; declarations = r.declarations ++ ds; items = r.items; parentheses = r.parentheses }
@@ -47,6 +52,7 @@ with_declarations ds r =
 abbrev pub with_item : Entry → Reached → Reached
 with_item e r = record { place = place.Body; name = r.name; declarations = r.declarations; items = r.items ++ e ∷ []; parentheses = r.parentheses }
 
+-- within a parenthesis that begins on this line
 abbrev pub with_opened : ℕ → Operator → Bool → Reached → Reached
 with_opened line operator negated r =
     record {
@@ -57,6 +63,7 @@ with_opened line operator negated r =
       parentheses = record { line = line; operator = operator; negated = negated; outer = r.items } ∷ r.parentheses;
     }
 
+-- behind the innermost parenthesis, which ends on this line
 abbrev pub with_closed : ℕ → Reached → Opened → List Opened → Reached
 with_closed line r f fs =
     record {
@@ -67,14 +74,17 @@ with_closed line r f fs =
       parentheses = fs;
     }
 
+-- the line of PROGRAM comes next
 abbrev pub is_start : Stage → Bool
 is_start place.Start = true
 is_start other = false
 
+-- a declaration block may begin here
 abbrev pub is_between_blocks : Stage → Bool
 is_between_blocks place.Declarations = true
 is_between_blocks other = false
 
+-- the scope of the open block
 abbrev pub block_scope : Stage → Option Scope
 block_scope (place.Block scope) = Some scope
 block_scope other = None
@@ -85,14 +95,17 @@ is_body place.Declarations = true
 is_body place.Body = true
 is_body other = false
 
+-- no parenthesis is open
 abbrev pub is_outside : List Opened → Bool
 is_outside [] = true
 is_outside (f ∷ fs) = false
 
+-- there is an entry
 abbrev pub is_some : List Entry → Bool
 is_some [] = false
 is_some (e ∷ es) = true
 
+-- the instruction is LD or LDN
 abbrev pub is_load : Action → Bool
 is_load (load negated source) = true
 is_load other = false
@@ -103,11 +116,13 @@ may_begin_with Local initial = true
 may_begin_with External None = true
 may_begin_with External (Some value) = false
 
+-- declares names in the open block, if there is one
 abbrev pub declared_here : ℕ → List (List ℕ) → DeclaredType → Option Literal → Reached → Option Scope → Option Reached
 declared_here n ns kind initial r None = None
 declared_here n ns kind initial r (Some scope) =
     if may_begin_with scope initial then Some (with_declarations (map (declared_in n scope kind initial) ns) r) else None
 
+-- ends the open block, if there is one
 abbrev pub closed_block : Reached → Option Scope → Option Reached
 closed_block r None = None
 closed_block r (Some scope) = Some (at_place place.Declarations r)
@@ -128,6 +143,7 @@ may_enter r = is_body r.place && (is_outside r.parentheses || is_some r.items)
 unfoldable pub may_leave : Reached → Bool
 may_leave r = is_body r.place && is_some r.items
 
+-- ends the innermost parenthesis, if there is one
 abbrev pub left_here : ℕ → Reached → List Opened → Option Reached
 left_here n r [] = None
 left_here n r (f ∷ fs) = Some (with_closed n r f fs)

@@ -16,16 +16,20 @@ use Rattle.il_text.specs.declared.fault.TextFault.TheVariants.{BadLine, TooDeep,
 abbrev pub Line : Type 0
 Line = ℕ × List Part
 
+-- the parts of a line, each with its number
 abbrev pub numbered : Line → List Numbered
 numbered l = map (λ p. (l.0, p)) l.1
 
+-- the parts of lines, in order
 abbrev pub all_parts : List Line → List Numbered
 all_parts = flat_map numbered
 
+-- the part opens a parenthesis
 abbrev pub is_entering : Numbered → Bool
 is_entering (line, entering operator negated) = true
 is_entering (line, other) = false
 
+-- the part closes one
 abbrev pub is_leaving : Numbered → Bool
 is_leaving (line, leaving) = true
 is_leaving (line, other) = false
@@ -51,6 +55,7 @@ pub data LineFault (last line : ℕ) (ls : List Line) (fault : TextFault) : Type
   too_long : CanGoOn (all_parts ls) → (IsDeep ls → ⊥) → IsLong ls → fault ≡ past_limit line last (TooLong line)
       → LineFault last line ls fault
 
+-- the last of these lines is the faulty one
 abbrev pub Refused : ℕ → ℕ → List Line → Result PlainProgram TextFault → Type 0
 Refused last line ls (Ok program) = ⊥
 Refused last line ls (Err fault) = LineFault last line ls fault
@@ -60,10 +65,12 @@ abbrev pub Ends : ℕ → List Line → Result PlainProgram TextFault → Type 0
 Ends last ls (Ok program) = Derives (all_parts ls) program
 Ends last ls (Err fault) = ((program : PlainProgram) → Derives (all_parts ls) program → ⊥) × (fault ≡ BadLine last)
 
+-- a line that has no form is a bad line
 abbrev pub OnParts : ℕ → (List Part → Type 0) → Option (List Part) → Result PlainProgram TextFault → Type 0
 OnParts line goes None r = r ≡ Err (BadLine line)
 OnParts line goes (Some ps) r = goes ps
 
+-- a bad token or literal is the fault of its line
 abbrev pub OnTokens : ℕ → (List Part → Type 0) → Result (List Symbol) TextFault → Result PlainProgram TextFault → Type 0
 OnTokens line goes (Err fault) r = r ≡ Err fault
 OnTokens line goes (Ok ts) r = OnParts line goes (parts_of ts) r

@@ -6,6 +6,7 @@ use Rattle.il_text.specs.declared.token.Token.TheVariants as t
 use Rattle.il_text.specs.declared.lexeme.Lexeme.{Lexeme}
 use Rattle.il_text.specs.declared.lexeme.Lexeme.TheVariants as x
 
+-- a token
 abbrev pub symbol_of : Token → Symbol
 symbol_of (t.Name n) = name n.now
 symbol_of (t.Keyword word) = keyword_word word
@@ -14,9 +15,11 @@ symbol_of (t.Literal value) = literal value
 symbol_of (t.Mnemonic operator) = mnemonic_word operator
 symbol_of (t.Mark m) = mark_symbol m
 
+-- the tokens of a line
 abbrev pub symbols_of : List Token → List Symbol
 symbols_of = map symbol_of
 
+-- a piece of the text
 abbrev pub piece_of : Lexeme → Piece
 piece_of x.Blank = blank
 piece_of x.LineEnd = line_end

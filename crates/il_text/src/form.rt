@@ -53,6 +53,7 @@ struct Halves<'t, 'a> {
     rest: &'t [Token<'a>],
 }
 
+/// The name that a token is, if it is one.
 pub(crate) fn name_of(token: Token<'_>) -> Option<&str>
     ensures { option_map (λ n. n.now) result ≡ spec.name_of (symbol_of token.entry) }
 {
@@ -62,6 +63,7 @@ pub(crate) fn name_of(token: Token<'_>) -> Option<&str>
     }
 }
 
+/// The literal that a token is, if it is one.
 fn literal_of(token: Token<'_>) -> Option<Literal>
     ensures { result ≡ spec.literal_of (symbol_of token.entry) }
 {
@@ -71,6 +73,7 @@ fn literal_of(token: Token<'_>) -> Option<Literal>
     }
 }
 
+/// The type that a token is, if it is one.
 fn type_of(token: Token<'_>) -> Option<DeclaredType>
     ensures { result ≡ spec.type_of (symbol_of token.entry) }
 {
@@ -80,6 +83,7 @@ fn type_of(token: Token<'_>) -> Option<DeclaredType>
     }
 }
 
+/// The elementary type that a token is, if it is one: a timer has no initial value.
 fn elementary_of(token: Token<'_>) -> Option<DeclaredType>
     ensures { result ≡ spec.elementary_of (symbol_of token.entry) }
 {
@@ -89,6 +93,7 @@ fn elementary_of(token: Token<'_>) -> Option<DeclaredType>
     }
 }
 
+/// Whether a token is an operator.
 fn is_mnemonic(token: Token<'_>) -> bool
     ensures { result ≡ spec.is_mnemonic (symbol_of token.entry) }
 {
@@ -102,6 +107,7 @@ pub(crate) fn is_mark(token: Token<'_>, mark: Mark) -> bool
     matches!(token, Token::Mark(found) if found == mark)
 }
 
+/// One name and nothing else.
 #[tactic(auto, unfolding(crate::specs::Forms::only_name))]
 fn only_name<'a>(tokens: &[Token<'a>]) -> Option<&'a str>
     ensures { option_map (λ n. n.now) result ≡ spec.only_name (symbols_of tokens.now) }
@@ -112,6 +118,7 @@ fn only_name<'a>(tokens: &[Token<'a>]) -> Option<&'a str>
     }
 }
 
+/// The output of a timer that a word names, in letters of either case.
 #[tactic(auto, unfolding(crate::specs::Forms::output_named))]
 fn output_named(word: &str) -> Option<Output>
     ensures { result ≡ spec.output_named word.now }
@@ -147,6 +154,7 @@ fn place<'a>(tokens: &[Token<'a>]) -> Option<SymbolicVariable<'a>>
     }
 }
 
+/// One literal and nothing else.
 #[tactic(auto, unfolding(crate::specs::Forms::only_literal))]
 fn only_literal(tokens: &[Token<'_>]) -> Option<Literal>
     ensures { result ≡ spec.only_literal (symbols_of tokens.now) }
@@ -157,6 +165,7 @@ fn only_literal(tokens: &[Token<'_>]) -> Option<Literal>
     }
 }
 
+/// A literal, or what `place` reads.
 #[tactic(auto, unfolding(crate::specs::Forms::operand))]
 fn operand<'a>(tokens: &[Token<'a>]) -> Option<Operand<'a>>
     ensures { option_map source_of result ≡ spec.operand (symbols_of tokens.now) }
@@ -167,6 +176,7 @@ fn operand<'a>(tokens: &[Token<'a>]) -> Option<Operand<'a>>
     }
 }
 
+/// The input of a timer that a word names, in letters of either case.
 #[tactic(auto, unfolding(crate::specs::Forms::input_named))]
 fn input_named(word: &str) -> Option<Input>
     ensures { result ≡ spec.input_named word.now }
@@ -287,6 +297,7 @@ fn called<'a>(tokens: &[Token<'a>]) -> Option<Instruction<'a>>
     }
 }
 
+/// An instruction behind whose operator nothing stands.
 fn alone<'a>(instruction: Instruction<'a>, tokens: &[Token<'a>]) -> Option<Statement<'a>>
     ensures { option_map statement_parts result ≡ spec.alone (action_of instruction.entry) (symbols_of tokens.now) }
 {
@@ -330,6 +341,7 @@ fn combined<'a>(operator: Operator, negated: bool, tokens: &[Token<'a>]) -> Opti
     }
 }
 
+/// `LD` or `LDN` with its operand.
 fn load<'a>(negated: bool, tokens: &[Token<'a>]) -> Option<Instruction<'a>>
     ensures { option_map action_of result ≡ option_map (text.load negated) (spec.operand (symbols_of tokens.now)) }
 {
@@ -337,6 +349,7 @@ fn load<'a>(negated: bool, tokens: &[Token<'a>]) -> Option<Instruction<'a>>
     Some(Instruction::Load { negated, operand })
 }
 
+/// A store with the variable that it writes.
 fn store<'a>(kind: StoreKind, tokens: &[Token<'a>]) -> Option<Instruction<'a>>
     ensures { option_map action_of result ≡ option_map (text.store kind) (spec.place (symbols_of tokens.now)) }
 {
@@ -344,6 +357,7 @@ fn store<'a>(kind: StoreKind, tokens: &[Token<'a>]) -> Option<Instruction<'a>>
     Some(Instruction::Store { kind, target })
 }
 
+/// A jump with its label.
 fn jump<'a>(condition: Condition, tokens: &[Token<'a>]) -> Option<Instruction<'a>>
     ensures { option_map action_of result ≡ option_map (text.jump condition) (spec.only_name (symbols_of tokens.now)) }
 {
@@ -403,6 +417,7 @@ fn declaration<'t, 'a>(tokens: &'t [Token<'a>]) -> Option<Line<'t, 'a>>
     })
 }
 
+/// Whether these tokens may stand behind a label: an operator first, or nothing.
 #[tactic(auto, unfolding(crate::specs::Forms::may_follow_label))]
 fn may_follow_label(tokens: &[Token<'_>]) -> bool
     ensures { result ≡ spec.may_follow_label (symbols_of tokens.now) }
@@ -478,6 +493,7 @@ fn named_line<'t, 'a>(
     }
 }
 
+/// A line that begins with a mark: `)` alone.
 #[tactic(auto, unfolding(crate::specs::Forms::marked))]
 fn marked<'t, 'a>(mark: Mark, tokens: &'t [Token<'a>]) -> Option<Line<'t, 'a>>
     ensures { option_and_then line_parts result ≡ spec.marked mark (symbols_of tokens.now) }
@@ -488,6 +504,7 @@ fn marked<'t, 'a>(mark: Mark, tokens: &'t [Token<'a>]) -> Option<Line<'t, 'a>>
     }
 }
 
+/// A line that begins with an operator.
 fn statement_line<'t, 'a>(mnemonic: Mnemonic, tokens: &'t [Token<'a>]) -> Option<Line<'t, 'a>>
     ensures { option_and_then line_parts result ≡ spec.statement mnemonic (symbols_of tokens.now) }
 {
@@ -512,12 +529,14 @@ pub(crate) fn line_of<'t, 'a>(tokens: &'t [Token<'a>]) -> Option<Line<'t, 'a>>
     }
 }
 
+/// Whether a line that begins with this token has no other.
 fn is_single(token: Token<'_>) -> bool
     ensures { result ≡ spec.is_single (symbol_of token.entry) }
 {
     matches!(token, Token::Type(_) | Token::Literal(_) | Token::Mark(_))
 }
 
+/// Whether the second token cannot follow the first, with which a line begins.
 fn is_misplaced(first: Token<'_>, second: Token<'_>) -> bool
     ensures { result ≡ spec.is_misplaced (symbol_of first.entry) (symbol_of second.entry) }
 {

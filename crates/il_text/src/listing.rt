@@ -87,24 +87,28 @@ fn is_plain(instruction: Instruction<'_>) -> bool
     }
 }
 
+/// Whether an instruction is LD or LDN, with which a parenthesis begins.
 fn is_load(instruction: Instruction<'_>) -> bool
     ensures { result ≡ rules.is_load (action_of instruction.entry) }
 {
     matches!(instruction, Instruction::Load { .. })
 }
 
+/// Whether the line of PROGRAM comes next.
 fn is_start(place: Stage) -> bool
     ensures { result ≡ rules.is_start place }
 {
     matches!(place, Stage::Start)
 }
 
+/// Whether a declaration block may begin here.
 fn is_between_blocks(place: Stage) -> bool
     ensures { result ≡ rules.is_between_blocks place }
 {
     matches!(place, Stage::Declarations)
 }
 
+/// The scope of the declaration block that is open, if one is.
 fn block_scope(place: Stage) -> Option<Scope>
     ensures { result ≡ rules.block_scope place }
 {
@@ -114,12 +118,14 @@ fn block_scope(place: Stage) -> Option<Scope>
     }
 }
 
+/// Whether a line of the body may stand here, the first one or a later one.
 fn is_body(place: Stage) -> bool
     ensures { result ≡ rules.is_body place }
 {
     matches!(place, Stage::Declarations | Stage::Body)
 }
 
+/// Whether a variable of the scope may have this initial value: an external has none.
 fn may_begin_with(scope: Scope, initial: Option<Literal>) -> bool
     ensures { result ≡ rules.may_begin_with scope initial }
 {
@@ -129,6 +135,7 @@ fn may_begin_with(scope: Scope, initial: Option<Literal>) -> bool
     }
 }
 
+/// Whether a line counts towards the limit of lines: it holds an instruction or `)`.
 fn has_instruction(line: Line<'_, '_>) -> bool
     ensures { (ps : List Part) → line_parts line.entry ≡ Some ps → result ≡ spec.has_instruction ps }
 {
@@ -156,6 +163,7 @@ fn past_limit(position: Position, fault: TextFault) -> TextFault
 }
 
 impl<'a> Draft<'a> {
+    /// A program of which no line has been read.
     pub(crate) fn new(alloc: Global) -> Self
         ensures { read_of result ≡ spec.none_yet }
     {
@@ -267,6 +275,7 @@ impl<'a> Draft<'a> {
         is_body(self.place) && is_some(self.items.as_slice())
     }
 
+    /// Takes the line of PROGRAM.
     #[tactic(auto, unfolding(crate::specs::Steps::step))]
     fn take_heading(&mut self, name: &'a str, line: usize) -> Result<(), TextFault>
         ensures ok { OnOk result (step line (reached_of self.old) (heading name.now) ≡ Some (reached_of self.new)) }
@@ -282,6 +291,7 @@ impl<'a> Draft<'a> {
         Ok(())
     }
 
+    /// Takes VAR or VAR_EXTERNAL.
     #[tactic(auto, unfolding(crate::specs::Steps::step))]
     fn take_opening(&mut self, scope: Scope, line: usize) -> Result<(), TextFault>
         ensures ok { OnOk result (step line (reached_of self.old) (opening scope) ≡ Some (reached_of self.new)) }
@@ -296,6 +306,7 @@ impl<'a> Draft<'a> {
         Ok(())
     }
 
+    /// Takes END_VAR.
     #[tactic(auto, unfolding(crate::specs::Steps::step))]
     fn take_closing(&mut self, line: usize) -> Result<(), TextFault>
         ensures ok { OnOk result (step line (reached_of self.old) closing ≡ Some (reached_of self.new)) }
@@ -333,6 +344,7 @@ impl<'a> Draft<'a> {
         Ok(())
     }
 
+    /// Takes a label.
     #[tactic(auto, unfolding(crate::specs::Steps::step))]
     fn take_label(&mut self, name: &'a str, line: usize) -> Result<(), TextFault>
         ensures ok { OnOk result (step line (reached_of self.old) (labelling name.now) ≡ Some (reached_of self.new)) }
@@ -423,6 +435,7 @@ impl<'a> Draft<'a> {
         Ok(())
     }
 
+    /// Takes END_PROGRAM.
     #[tactic(auto, unfolding(crate::specs::Steps::step))]
     fn take_ending(&mut self, line: usize) -> Result<(), TextFault>
         ensures ok { OnOk result (step line (reached_of self.old) ending ≡ Some (reached_of self.new)) }
@@ -437,6 +450,7 @@ impl<'a> Draft<'a> {
         Ok(())
     }
 
+    /// Takes an instruction, or an operator with `(` and its operand.
     #[tactic(auto, using(crate::proofs::ListingLemmas::steps_rules))]
     fn take_statement(&mut self, statement: Statement<'a>, line: usize) -> Result<(), TextFault>
         ensures ok { OnOk result (steps line (reached_of self.old) (statement_parts statement.entry) ≡ Some (reached_of self.new)) }
@@ -482,6 +496,7 @@ impl<'a> Draft<'a> {
         Ok(())
     }
 
+    /// Takes a label and what stands behind it.
     #[tactic(auto, using(crate::proofs::ListingLemmas::steps_rules))]
     fn take_labelled(
         &mut self,
@@ -500,6 +515,7 @@ impl<'a> Draft<'a> {
     }
 }
 
+/// Whether no parenthesis is open.
 #[tactic(auto, using(crate::proofs::ListingLemmas::outside_rules))]
 fn is_outside(parentheses: &[Open<'_>]) -> bool
     ensures { result ≡ rules.is_outside (reverse (map opened_of parentheses.now)) }
@@ -507,6 +523,7 @@ fn is_outside(parentheses: &[Open<'_>]) -> bool
     parentheses.is_empty()
 }
 
+/// Whether there is an item.
 #[tactic(auto, using(crate::proofs::ListingLemmas::some_rules))]
 fn is_some(items: &[Item<'_>]) -> bool
     ensures { result ≡ rules.is_some (map entry_of items.now) }

@@ -46,6 +46,7 @@ pub fn read_program<'a>(alloc: Global, text: &'a str) -> Result<Program<'a>, Tex
     Ok(program)
 }
 
+/// Reads the lines of a text, from the first to the last.
 fn read_lines<'a>(alloc: Global, text: &'a str) -> Result<Program<'a>, TextFault>
     ensures ok { IfOk result (λ program. program_of text.now ≡ Ok (plain_program program)) }
     ensures refused { IfErr result (λ fault. fault ≢ OutOfMemory → program_of text.now ≡ Err fault) }

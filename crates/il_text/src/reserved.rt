@@ -9,12 +9,14 @@ use crate::token::{Keyword, Mnemonic, Token};
 use bay_base::types::{ElementaryType, TimerKind};
 use bay_base::words::{ReservedWord, reserved_word};
 
+/// The operator of a line that combines the current result with an operand.
 pub(crate) fn combine(operator: Operator, negated: bool) -> Mnemonic
     ensures { result ≡ Combine operator negated }
 {
     Mnemonic::Combine { operator, negated }
 }
 
+/// The token that each reserved word is.
 fn token_of<'a>(word: ReservedWord) -> Token<'a>
     ensures { symbol_of result ≡ spec.symbol_of_word word }
 {

@@ -3,7 +3,7 @@ use Rattle.std.proofs.Common.{◌≡◌, ℕ, ◌≤◌, max, List, [], ◌∷�
 use Rattle.std.proofs.lemmas.List.{reverse-reverse, length-reverse}
 use Rattle.std.proofs.lemmas.Bool.{cases_lt}
 use Rattle.std.specs.Prelude.{option_map, Result, Ok, Err, IfErr, IfOk}
-use Rattle.il_image.specs.declared.kind.Kind.{Kind}
+use Rattle.il_image.specs.declared.kind.CellKind.{CellKind}
 use Rattle.il_image.specs.Kinds.{AreWithin}
 use Rattle.il_image.proofs.KindLemmas.{join_over, join_least}
 use Rattle.il_verify.specs.declared.frame.Frame.{Frame}
@@ -11,7 +11,7 @@ use Rattle.il_verify.specs.Frames.{Clashing, Grows, PlainFrame, join_all, plain_
 use Rattle.il_verify.proofs.EffectLemmas.{some_same}
 use Rattle.il_verify.proofs.WithinLemmas.{all_within_along, all_within_self, within_reverse}
 
-join_all_over : (xs ys : List Kind) → length xs ≡ length ys
+join_all_over : (xs ys : List CellKind) → length xs ≡ length ys
     → AreWithin xs (join_all xs ys) × AreWithin ys (join_all xs ys)
 join_all_over [] [] e = (tt, tt)
 join_all_over [] (y ∷ ys) e = absurd (omega arith)
@@ -21,7 +21,7 @@ join_all_over (x ∷ xs) (y ∷ ys) e =
     let here = join_over x y in
     ((here.0, more.0), (here.1, more.1))
 
-join_all_least : (xs ys top : List Kind) → AreWithin xs top → AreWithin ys top
+join_all_least : (xs ys top : List CellKind) → AreWithin xs top → AreWithin ys top
     → AreWithin (join_all xs ys) top
 join_all_least [] [] top h g = h
 join_all_least [] (y ∷ ys) top h g = h
@@ -30,19 +30,19 @@ join_all_least (x ∷ xs) (y ∷ ys) [] h g = absurd h
 join_all_least (x ∷ xs) (y ∷ ys) (t ∷ top) h g =
     (join_least x y t h.0 g.0, join_all_least xs ys top h.1 g.1)
 
-join_all_least_reversed : (xs ys top : List Kind) → AreWithin (reverse xs) top
+join_all_least_reversed : (xs ys top : List CellKind) → AreWithin (reverse xs) top
     → AreWithin (reverse ys) top → AreWithin (reverse (join_all xs ys)) top
 join_all_least_reversed xs ys top h g =
     let h2 : AreWithin xs (reverse top) =
-    subst (λ (v : List Kind). AreWithin v (reverse top)) (reverse-reverse xs)
+    subst (λ (v : List CellKind). AreWithin v (reverse top)) (reverse-reverse xs)
     (within_reverse (reverse xs) top h) in
     let g2 : AreWithin ys (reverse top) =
-    subst (λ (v : List Kind). AreWithin v (reverse top)) (reverse-reverse ys)
+    subst (λ (v : List CellKind). AreWithin v (reverse top)) (reverse-reverse ys)
     (within_reverse (reverse ys) top g) in
     subst (AreWithin (reverse (join_all xs ys))) (reverse-reverse top)
     (within_reverse (join_all xs ys) (reverse top) (join_all_least xs ys (reverse top) h2 g2))
 
-abbrev pub plain : List Kind → ℕ → PlainFrame
+abbrev pub plain : List CellKind → ℕ → PlainFrame
 plain kinds longest = record { kinds = reverse kinds; longest = longest }
 
 larger : (a b : ℕ) → (max a b ≡ b) ⊎ (max a b ≡ a)
@@ -52,7 +52,7 @@ which : (a b : ℕ) (old : PlainFrame) → old.longest ≡ a
     → (max a b ≡ b) ⊎ ((m : PlainFrame) × (Some old ≡ Some m) × (max a b ≡ m.longest))
 which a b old e = elim (larger a b) [ inl h ↦ inl h | inr h ↦ inr (old, refl, h ∙ sym e) ]
 
-pub grown : (olds news : List Kind) (a b : ℕ) → length olds ≡ length news
+pub grown : (olds news : List CellKind) (a b : ℕ) → length olds ≡ length news
     → Grows (plain news b) (Some (plain olds a)) (plain (join_all olds news) (max a b))
 grown olds news a b e =
     let over = join_all_over olds news e in
@@ -69,7 +69,7 @@ grown olds news a b e =
     }
 
 -- A place that nothing has come to.
-pub begun : (news : List Kind) (b : ℕ) → Grows (plain news b) None (plain news b)
+pub begun : (news : List CellKind) (b : ℕ) → Grows (plain news b) None (plain news b)
 begun news b = record {
   over = all_within_self (reverse news);
   keeps = λ m is. absurd cc;
@@ -79,20 +79,20 @@ begun news b = record {
   from = inl refl;
 }
 
-pub joined_grows : (olds news kinds : List Kind) (a b c : ℕ) → length olds ≡ length news
+pub joined_grows : (olds news kinds : List CellKind) (a b c : ℕ) → length olds ≡ length news
     → kinds ≡ join_all olds news → c ≡ max a b
     → Grows (plain news b) (Some (plain olds a)) (plain kinds c)
 joined_grows olds news kinds a b c e same larger =
-    subst (λ (v : List Kind). Grows (plain news b) (Some (plain olds a)) (plain v c)) (sym same)
+    subst (λ (v : List CellKind). Grows (plain news b) (Some (plain olds a)) (plain v c)) (sym same)
     (subst (λ (n : ℕ). Grows (plain news b) (Some (plain olds a)) (plain (join_all olds news) n))
     (sym larger) (grown olds news a b e))
 
-pub begun_grows : (o : Option Frame) (news kinds : List Kind) (b : ℕ) → o ≡ None → kinds ≡ news
+pub begun_grows : (o : Option Frame) (news kinds : List CellKind) (b : ℕ) → o ≡ None → kinds ≡ news
     → Grows (plain news b) (option_map plain_frame o) (plain kinds b)
 begun_grows o news kinds b is same =
     subst (λ (v : Option Frame). Grows (plain news b) (option_map plain_frame v) (plain kinds b))
     (sym is)
-    (subst (λ (v : List Kind). Grows (plain news b) None (plain v b)) (sym same) (begun news b))
+    (subst (λ (v : List CellKind). Grows (plain news b) None (plain v b)) (sym same) (begun news b))
 
 pub grows_along : (come : PlainFrame) (old : Option PlainFrame) (mid new : PlainFrame)
     → Grows come old mid → Grows come (Some mid) new → Grows come old new
@@ -114,7 +114,7 @@ grows_along come old mid new h g = record {
 }
 
 -- kinds of another number than those of the place
-pub clash_of : (o : Option Frame) (frame : Frame) (kinds : List Kind) → o ≡ Some frame
+pub clash_of : (o : Option Frame) (frame : Frame) (kinds : List CellKind) → o ≡ Some frame
     → (length frame.kinds.items ≡ length kinds → ⊥)
     → Clashing (option_map plain_frame o) (reverse kinds)
 clash_of o frame kinds is ne = (

@@ -5,7 +5,7 @@ use Rattle.std.proofs.lemmas.Bool.Decides.{nat_tests}
 use Rattle.std.proofs.lemmas.Bool.{cases_eq}
 use Rattle.std.proofs.lemmas.Option.{slice_get-get_or}
 use Rattle.il_image.specs.declared.instr.Instr.{Instr}
-use Rattle.il_image.specs.declared.kind.Kind.{Kind}
+use Rattle.il_image.specs.declared.kind.CellKind.{CellKind}
 use Rattle.il_verify.specs.declared.frame.Frame.{Frame}
 use Rattle.il_verify.specs.Refusals.{JumpsTo}
 use Rattle.il_verify.proofs.OrderLemmas.{set_elsewhere, set_here}
@@ -82,7 +82,7 @@ pended old grown place o w frame come same less was is grows = record {
   others = λ q ne. others_stay grown place w q ne ∙ same q;
 }
 
-pub clash_at : (old : List (Option Frame)) (place : ℕ) (o : Option Frame) (kinds : List Kind)
+pub clash_at : (old : List (Option Frame)) (place : ℕ) (o : Option Frame) (kinds : List CellKind)
     → o ≡ frame_at old place → Clashing (option_map plain_frame o) kinds
     → Clashing (plain_frames old place) kinds
 clash_at old place o kinds was c =

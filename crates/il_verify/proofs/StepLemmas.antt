@@ -4,7 +4,7 @@ use Rattle.std.proofs.lemmas.Bool.{cases_lt, cases_eq}
 use Rattle.bay_base.specs.declared.types.ElementaryType.{ElementaryType}
 use Rattle.il_image.specs.declared.instr.Instr.{Instr}
 use Rattle.il_image.specs.declared.instr.Instr.TheVariants.{Halt, Push, Drop, Slot, Not, Combine, Compute, Compare, Widen, Jump, Timer}
-use Rattle.il_image.specs.declared.kind.Kind.{Kind}
+use Rattle.il_image.specs.declared.kind.CellKind.{CellKind}
 use Rattle.il_image.specs.declared.opcode.When.TheVariants.{Always, IfTrue, IfFalse}
 use Rattle.il_image.specs.Effects.{effect}
 use Rattle.il_image.specs.Images.{Image}
@@ -83,7 +83,7 @@ comes_both P Q L come old mid new split join h g = elim h [
   ]
 ]
 
-abbrev pub onward : PlainFrame → List Kind → PlainFrame
+abbrev pub onward : PlainFrame → List CellKind → PlainFrame
 onward come gives = record { kinds = gives; longest = come.longest + 1 }
 
 pub spreads : (image : Image) (instr : Instr) (next : ℕ) (come : PlainFrame) (old new : PlainFrames)
@@ -120,7 +120,7 @@ SameBefore done t u = (q : ℕ) → q < done → t q ≡ u q
 same_back : (done : ℕ) (t u : Table) → SameBefore done t u → SameBefore done u t
 same_back done t u h q less = sym (h q less)
 
-comes_keep : (image : Image) (done to : ℕ) (t u : Table) (kinds : List Kind) → SameBefore done t u
+comes_keep : (image : Image) (done to : ℕ) (t u : Table) (kinds : List CellKind) → SameBefore done t u
     → Comes image t done to kinds → Comes image u done to kinds
 comes_keep image done to t u kinds same c = elim c [
   | inl e ↦ inl e
@@ -140,7 +140,7 @@ comes_keep image done to t u kinds same c = elim c [
       ))
 ]
 
-join_keep : (image : Image) (done to : ℕ) (t u : Table) (kinds : List Kind) → SameBefore done t u
+join_keep : (image : Image) (done to : ℕ) (t u : Table) (kinds : List CellKind) → SameBefore done t u
     → IsJoin image t done to kinds → IsJoin image u done to kinds
 join_keep image done to t u kinds same m = record {
   some = (m.some.0, comes_keep image done to t u m.some.0 same m.some.1);
@@ -153,11 +153,11 @@ join_keep image done to t u kinds same m = record {
 
 -- Nothing comes to the place, or the frame has the least kinds above what comes there.
 abbrev pub Framed : Image → Table → ℕ → ℕ → Option PlainFrame → Type 0
-Framed image table done q None = (kinds : List Kind) → Comes image table done q kinds → ⊥
+Framed image table done q None = (kinds : List CellKind) → Comes image table done q kinds → ⊥
 Framed image table done q (Some m) = IsJoin image table done q m.kinds
 
 pub framed_none : (image : Image) (table : Table) (done q : ℕ) (o : Option PlainFrame) → o ≡ None
-    → Framed image table done q o → (kinds : List Kind) → Comes image table done q kinds → ⊥
+    → Framed image table done q o → (kinds : List CellKind) → Comes image table done q kinds → ⊥
 framed_none image table done q o e h = subst (Framed image table done q) e h
 
 pub framed_some : (image : Image) (table : Table) (done q : ℕ) (o : Option PlainFrame)
@@ -217,7 +217,7 @@ module _ (image : Image) (place : ℕ) (instr : Instr) (next : ℕ) (come : Plai
         },
       )
 
-  comes_more : (q : ℕ) (kinds : List Kind) → Comes image s.table place q kinds
+  comes_more : (q : ℕ) (kinds : List CellKind) → Comes image s.table place q kinds
       → Comes image table_more next q kinds
   comes_more q kinds c = elim (comes_keep image place q s.table table_more kinds same_so_far c) [
     | inl e ↦ inl e
@@ -225,7 +225,7 @@ module _ (image : Image) (place : ℕ) (instr : Instr) (next : ℕ) (come : Plai
         inr (d.0, omega arith, d.2))
   ]
 
-  comes_split : (q : ℕ) (kinds : List Kind) → Comes image table_more next q kinds
+  comes_split : (q : ℕ) (kinds : List CellKind) → Comes image table_more next q kinds
       → Comes image s.table place q kinds ⊎ (LeadsTo instr next q × (v.gives ≡ kinds))
   comes_split q kinds c = elim c [
     | inl e ↦ inl (inl e)
@@ -266,7 +266,7 @@ module _ (image : Image) (place : ℕ) (instr : Instr) (next : ℕ) (come : Plai
   framed_before : (q : ℕ) → next ≤ q → Framed image s.table place q (old q)
   framed_before q h = let f : place < next = forward in s.framed q (omega arith)
 
-  above_before : (q : ℕ) (others : List Kind) (top : List Kind) → next ≤ q
+  above_before : (q : ℕ) (others : List CellKind) (top : List CellKind) → next ≤ q
       → Comes image s.table place q others
       → ((m : PlainFrame) → old q ≡ Some m → AreWithin m.kinds top) → AreWithin others top
   above_before q others top h c keeps = go (old q) refl
@@ -284,7 +284,7 @@ module _ (image : Image) (place : ℕ) (instr : Instr) (next : ℕ) (come : Plai
     some = (v.gives, from_here q leads);
     above = λ others c. elim (comes_split q others c) [
       | inl d ↦ above_before q others frame.kinds h d grows.keeps
-      | inr d ↦ subst (λ (k : List Kind). AreWithin k frame.kinds) d.1 grows.over
+      | inr d ↦ subst (λ (k : List CellKind). AreWithin k frame.kinds) d.1 grows.over
     ];
     least = λ top all. grows.least top (all v.gives (from_here q leads))
         (λ m is. (framed_some image s.table place q (old q) m is (framed_before q h)).least top
@@ -324,7 +324,7 @@ module _ (image : Image) (place : ℕ) (instr : Instr) (next : ℕ) (come : Plai
   joined_here =
       framed_some image s.table place place (old place) come was (s.framed place (omega arith))
 
-  depths_here : (to : ℕ) → LeadsTo instr next to → (others : List Kind)
+  depths_here : (to : ℕ) → LeadsTo instr next to → (others : List CellKind)
       → Comes image table_more place to others → length others ≡ length v.gives
   depths_here to leads others c = elim (spreads image instr next come old new v to) [
     | inl d ↦
@@ -419,7 +419,7 @@ empty_front image = record {
   passes = λ q less is. absurd (omega arith);
 }
 
-pub nothing_from : (image : Image) (q : ℕ) (kinds : List Kind) → (q ≡ 0 → ⊥)
+pub nothing_from : (image : Image) (q : ℕ) (kinds : List CellKind) → (q ≡ 0 → ⊥)
     → Comes image (λ p. None) 0 q kinds → ⊥
 nothing_from image q kinds ne c =
     elim c [ inl e ↦ ne e.0 | inr d ↦ (let less : d.0 < 0 = d.1 in omega arith) ]
@@ -428,7 +428,7 @@ pub joined_first : (image : Image) → IsJoin image (λ p. None) 0 0 []
 joined_first image = record {
   some = ([], inl (refl, refl));
   above = λ others c. elim c [
-    | inl e ↦ subst (λ (k : List Kind). AreWithin k []) (sym e.1) tt
+    | inl e ↦ subst (λ (k : List CellKind). AreWithin k []) (sym e.1) tt
     | inr d ↦ absurd (let less : d.0 < 0 = d.1 in omega arith)
   ];
   least = λ top all. all [] (inl (refl, refl));

@@ -7,7 +7,7 @@ use Rattle.bay_base.specs.declared.types.ElementaryType.{ElementaryType}
 use Rattle.bay_config.specs.declared.bay.Point.{Point}
 use Rattle.il_image.specs.declared.instr.Instr.{Instr}
 use Rattle.il_image.specs.declared.instr.Instr.TheVariants.{Halt, Push, Drop, Slot, Not, Combine, Compute, Compare, Widen, Jump, Timer}
-use Rattle.il_image.specs.declared.kind.Kind.{Kind}
+use Rattle.il_image.specs.declared.kind.CellKind.{CellKind}
 use Rattle.il_image.specs.declared.opcode.When.TheVariants.{Always, IfTrue, IfFalse}
 use Rattle.il_image.specs.Effects.{effect}
 use Rattle.il_image.specs.Images.{Image}
@@ -105,7 +105,7 @@ first_place code h = (h, (0, refl))
 
 -- What passes, told by the instruction and the kinds that are there.
 passed_fault : (image : Image) (table : Table) (place : ℕ) (i : Instr) (next : ℕ)
-    (kinds : List Kind) → Passes image table place → instr_at image.code place ≡ Some (i, next)
+    (kinds : List CellKind) → Passes image table place → instr_at image.code place ≡ Some (i, next)
     → table place ≡ Some kinds
     → fault_of (slots_of image) (length image.timers) i kinds ≡ None
 passed_fault image table place i next kinds p here known =
@@ -115,7 +115,7 @@ passed_fault image table place i next kinds p here known =
     ∙ ap (fault_of (slots_of image) (length image.timers) p.instr) (sym its) ∙ p.faultless
 
 few_behind : (image : Image) (table : Table) (place : ℕ) (i : Instr) (next : ℕ)
-    (kinds gives : List Kind) → Passes image table place
+    (kinds gives : List CellKind) → Passes image table place
     → instr_at image.code place ≡ Some (i, next) → table place ≡ Some kinds
     → after image i kinds ≡ Some gives → length gives ≤ 32
 few_behind image table place i next kinds gives p here known effect_is =
@@ -126,7 +126,7 @@ few_behind image table place i next kinds gives p here known effect_is =
 
 -- What comes to a place together has at most 32 kinds.
 pub join_room : (image : Image) (table : Table) (done : ℕ) → IsFront image table done
-    → (bound to : ℕ) (kinds : List Kind) → IsJoin image table bound to kinds → length kinds ≤ 32
+    → (bound to : ℕ) (kinds : List CellKind) → IsJoin image table bound to kinds → length kinds ≤ 32
 join_room image table done front bound to kinds m =
     let size : length m.some.0 ≡ length kinds =
     within_length m.some.0 kinds (m.above m.some.0 m.some.1) in
@@ -164,7 +164,7 @@ module _ (image : Image) (table : Table) (front : IsFront image table (length im
       ) in
       (q.kinds, q.known, (front.joined to q.kinds q.known).above p.gives comes)
 
-  allowed_there : (place : ℕ) (kinds : List Kind) → table place ≡ Some kinds
+  allowed_there : (place : ℕ) (kinds : List CellKind) → table place ≡ Some kinds
       → IsAllowed image table place kinds
   allowed_there place kinds is =
       let o = front.only place kinds is in
@@ -179,7 +179,7 @@ module _ (image : Image) (table : Table) (front : IsFront image table (length im
         enters = enters_next place p;
       }
 
-  room_there : (place : ℕ) (kinds : List Kind) → table place ≡ Some kinds → length kinds ≤ 32
+  room_there : (place : ℕ) (kinds : List CellKind) → table place ≡ Some kinds → length kinds ≤ 32
   room_there place kinds is =
       join_room image table (length image.code) front place place kinds
       (front.joined place kinds is)
@@ -203,7 +203,7 @@ module _ (image : Image) (table : Table) (front : IsFront image table (length im
       let p = front.passes 0 some (first_place image.code some) in
       let m = front.joined 0 p.kinds p.known in
       let empty : p.kinds ≡ [] = within_none p.kinds (m.above [] (inl (refl, refl))) in
-      p.known ∙ ap (λ (v : List Kind). Some v) empty
+      p.known ∙ ap (λ (v : List CellKind). Some v) empty
 
   pub agrees : 0 < length image.code → Agrees image table
   agrees some = record {
@@ -227,18 +227,18 @@ module _ (image : Image) (table : Table) (front : IsFront image table (length im
 
 module _ (image : Image) (table : Table) (done : ℕ) (front : IsFront image table done)
     (other : Table) (agrees_so : Agrees image other) where
-  top_at : (place : ℕ) → IsPlace image.code place → (top : List Kind) × (other place ≡ Some top)
+  top_at : (place : ℕ) → IsPlace image.code place → (top : List CellKind) × (other place ≡ Some top)
   top_at place is = value_of (other place) ((agrees_so.places place).1 is)
 
   -- what comes to a place is within what the other table has there, if that is so of the places
   -- before
-  comes_within : (bound to : ℕ) (top others : List Kind) → other to ≡ Some top
-      → ((q : ℕ) (kinds : List Kind) → q < bound → table q ≡ Some kinds → Enters other q kinds)
+  comes_within : (bound to : ℕ) (top others : List CellKind) → other to ≡ Some top
+      → ((q : ℕ) (kinds : List CellKind) → q < bound → table q ≡ Some kinds → Enters other q kinds)
       → Comes image table bound to others → AreWithin others top
   comes_within bound to top others is below comes = elim comes [
     | inl e ↦
         (let same : [] ≡ top = some_same [] top (sym agrees_so.starts ∙ ap other (sym e.0) ∙ is) in
-        subst (λ (v : List Kind). AreWithin v top) (sym e.1) (subst (AreWithin []) same tt))
+        subst (λ (v : List CellKind). AreWithin v top) (sym e.1) (subst (AreWithin []) same tt))
     | inr c ↦
         (let f = c.2 in
         let e = below c.0 f.before c.1 f.known in
@@ -254,35 +254,35 @@ module _ (image : Image) (table : Table) (done : ℕ) (front : IsFront image tab
         (subst (λ (j : Instr). LeadsTo j f.next to) (sym same.0) f.leads) in
         let g = a.enters to leads in
         let most : g.0 ≡ top = some_same g.0 top (sym g.1 ∙ is) in
-        subst (λ (v : List Kind). AreWithin v top) its
+        subst (λ (v : List CellKind). AreWithin v top) its
         (subst (AreWithin l.lower) most (all_within_along l.lower a.after g.0 l.within g.2)))
   ]
 
-  join_enters : (place : ℕ) (kinds : List Kind) → IsPlace image.code place
-      → ((q : ℕ) (known : List Kind) → q < place → table q ≡ Some known → Enters other q known)
+  join_enters : (place : ℕ) (kinds : List CellKind) → IsPlace image.code place
+      → ((q : ℕ) (known : List CellKind) → q < place → table q ≡ Some known → Enters other q known)
       → IsJoin image table place place kinds → Enters other place kinds
   join_enters place kinds is below m =
       let t = top_at place is in
       (t.0, t.1, m.least t.0 (λ others comes. comes_within place place t.0 others t.1 below comes))
 
-  all_below : (n q : ℕ) (kinds : List Kind) → q < n → table q ≡ Some kinds → Enters other q kinds
+  all_below : (n q : ℕ) (kinds : List CellKind) → q < n → table q ≡ Some kinds → Enters other q kinds
   all_below zero q kinds h is = absurd (omega arith)
   all_below (suc n) q kinds h is =
       join_enters q kinds (front.only q kinds is).1
       (λ from known before was. all_below n from known (omega arith) was)
       (front.joined q kinds is)
 
-  pub lies_above : (q : ℕ) (kinds : List Kind) → table q ≡ Some kinds → Enters other q kinds
+  pub lies_above : (q : ℕ) (kinds : List CellKind) → table q ≡ Some kinds → Enters other q kinds
   lies_above q kinds is = all_below (suc q) q kinds (omega arith) is
 
   -- what the instruction at a place does on the least kinds before it
   record Does (place : ℕ) (a : Arrives image table place) : Type 0 where
-    gives : List Kind
+    gives : List CellKind
     effect_is : after image a.instr a.kinds ≡ Some gives
     enters : (to : ℕ) → LeadsTo a.instr a.next to → Enters other to gives
     room : length gives ≤ 32
 
-  halts_small : (i : Instr) (kinds gives : List Kind) → i ≡ Halt → after image i kinds ≡ Some gives
+  halts_small : (i : Instr) (kinds gives : List CellKind) → i ≡ Halt → after image i kinds ≡ Some gives
       → kinds ≡ gives
   halts_small i kinds gives e is =
       some_same kinds gives (ap (λ (j : Instr). after image j kinds) (sym e) ∙ is)
@@ -321,7 +321,7 @@ module _ (image : Image) (table : Table) (done : ℕ) (front : IsFront image tab
         ];
       }
 
-  place_of_entry : (to : ℕ) (kinds : List Kind) → Enters other to kinds → IsPlace image.code to
+  place_of_entry : (to : ℕ) (kinds : List CellKind) → Enters other to kinds → IsPlace image.code to
   place_of_entry to kinds e = (agrees_so.places to).0 (is_some_of (other to) e.0 e.1)
 
   module _ (writes : KeepsReadOnly image) (place : ℕ) (is : IsPlace image.code place) where
@@ -363,7 +363,7 @@ module _ (image : Image) (table : Table) (done : ℕ) (front : IsFront image tab
 
   pub reaches : (passes : (q : ℕ) → q < done → IsPlace image.code q → Passes image table q)
       (place : ℕ) → place ≤ done → IsPlace image.code place
-      → ((kinds : List Kind) → Comes image table place place kinds → ⊥) → ⊥
+      → ((kinds : List CellKind) → Comes image table place place kinds → ⊥) → ⊥
   reaches passes place least is nothing = elim (cases_eq place 0) [
     | inl e ↦ nothing [] (inl (e, refl))
     | inr ne ↦

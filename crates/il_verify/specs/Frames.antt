@@ -3,7 +3,7 @@
 use Rattle.std.specs.Prelude.{ℕ, ◌≡◌, ◌≢◌, ◌+◌, ◌<◌, ◌≤◌, ◌==◌, ◌⊎◌, ◌↔◌, Bool, true, false, List, [], ◌∷◌, length, reverse, Option, Some, None, option_and_then, option_map, slice_get, if◌then◌else◌}
 use Rattle.il_image.specs.declared.instr.Instr.{Instr}
 use Rattle.il_image.specs.declared.instr.Instr.TheVariants.{Halt, Push, Drop, Slot, Not, Combine, Compute, Compare, Widen, Jump, Timer}
-use Rattle.il_image.specs.declared.kind.Kind.{Kind}
+use Rattle.il_image.specs.declared.kind.CellKind.{CellKind}
 use Rattle.il_image.specs.declared.opcode.When.TheVariants.{Always, IfTrue, IfFalse}
 use Rattle.il_image.specs.Effects.{effect}
 use Rattle.il_image.specs.Images.{Image}
@@ -34,7 +34,7 @@ pub record IsPlan (image : Image) (plan : Plan) : Type 0 where
 
 -- the kinds before a place, the top first, and the number of places on a longest path to it
 pub record PlainFrame : Type 0 where
-  pub kinds : List Kind
+  pub kinds : List CellKind
   pub longest : ℕ
 
 -- what a frame of the code says, whose kinds stand with the top last
@@ -62,7 +62,7 @@ beside place known others q = if q == place then known else others q
 pub record Grows (come : PlainFrame) (old : Option PlainFrame) (new : PlainFrame) : Type 0 where
   pub over : AreWithin come.kinds new.kinds
   pub keeps : (m : PlainFrame) → old ≡ Some m → AreWithin m.kinds new.kinds
-  pub least : (top : List Kind) → AreWithin come.kinds top
+  pub least : (top : List CellKind) → AreWithin come.kinds top
       → ((m : PlainFrame) → old ≡ Some m → AreWithin m.kinds top) → AreWithin new.kinds top
   pub longer : come.longest ≤ new.longest
   pub keeps_longer : (m : PlainFrame) → old ≡ Some m → m.longest ≤ new.longest
@@ -75,11 +75,11 @@ ComesWhere P come old new = (P × ((frame : PlainFrame) × (new ≡ Some frame) 
     ⊎ ((P → ⊥) × (new ≡ old))
 
 -- A frame at the place has another number of kinds.
-abbrev pub Clashing : Option PlainFrame → List Kind → Type 0
+abbrev pub Clashing : Option PlainFrame → List CellKind → Type 0
 Clashing old kinds = (m : PlainFrame) × (old ≡ Some m) × (length m.kinds ≢ length kinds)
 
 -- the join of both, place by place: the least kinds above both
-abbrev pub join_all : List Kind → List Kind → List Kind
+abbrev pub join_all : List CellKind → List CellKind → List CellKind
 join_all [] others = []
 join_all (a ∷ kinds) [] = a ∷ kinds
 join_all (a ∷ kinds) (b ∷ others) = join a b ∷ join_all kinds others
@@ -140,7 +140,7 @@ abbrev pub Jumps : Instr → ℕ → PlainFrame → PlainFrames → PlainFrames 
 Jumps instr next come old new = (to : ℕ) → ComesWhere (JumpsTo instr next to) come (old to) (new to)
 
 -- It jumps to a place where another number of kinds is.
-abbrev pub JumpClash : Instr → ℕ → PlainFrames → List Kind → Type 0
+abbrev pub JumpClash : Instr → ℕ → PlainFrames → List CellKind → Type 0
 JumpClash instr next old kinds = (to : ℕ) × JumpsTo instr next to × Clashing (old to) kinds
 
 -- A path comes to where it goes on.
@@ -150,7 +150,7 @@ Falls instr next come old new = (to : ℕ) → ComesWhere (GoesOn instr next to)
 -- The instruction of the image is done on the kinds at its place.
 pub record Visits (image : Image) (instr : Instr) (next : ℕ) (come : PlainFrame)
     (old new : PlainFrames) : Type 0 where
-  pub gives : List Kind
+  pub gives : List CellKind
   pub faultless : fault_of (slots_of image) (length image.timers) instr come.kinds ≡ None
   pub effect : effect (types_of (slots_of image)) (length image.timers) instr come.kinds
       ≡ Some gives
@@ -168,7 +168,7 @@ pub record MisLeads (image : Image) (instr : Instr) (next : ℕ) (come : PlainFr
 -- It is right by itself, but leads to a place where another number of kinds is.
 pub record Collides (image : Image) (instr : Instr) (next : ℕ) (come : PlainFrame)
     (old : PlainFrames) : Type 0 where
-  pub gives : List Kind
+  pub gives : List CellKind
   pub faultless : fault_of (slots_of image) (length image.timers) instr come.kinds ≡ None
   pub effect : effect (types_of (slots_of image)) (length image.timers) instr come.kinds
       ≡ Some gives

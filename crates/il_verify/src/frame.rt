@@ -6,7 +6,7 @@ ghost use Rattle.il_verify.specs.Frames as spec;
 
 use crate::fault::VerifyFault;
 use il_image::instr::Instr;
-use il_image::kind::{Kind, join};
+use il_image::kind::{CellKind, join};
 use il_image::opcode::When;
 use std::alloc::{AllocError, Global};
 
@@ -14,13 +14,13 @@ use std::alloc::{AllocError, Global};
 #[derive(Drop)]
 pub(crate) struct Frame {
     /// The kinds on the stack, the top last.
-    pub kinds: Vec<Kind>,
+    pub kinds: Vec<CellKind>,
     /// The number of places on a longest path from the first place to this one.
     pub longest: u32,
 }
 
 // A copy of the kinds on a stack.
-fn copy_of(alloc: Global, kinds: &[Kind]) -> Result<Vec<Kind>, AllocError>
+fn copy_of(alloc: Global, kinds: &[CellKind]) -> Result<Vec<CellKind>, AllocError>
     ensures { IfOk result (λ v. v.items ≡ kinds.now) }
 {
     let mut copy = Vec::new(alloc);
@@ -29,7 +29,7 @@ fn copy_of(alloc: Global, kinds: &[Kind]) -> Result<Vec<Kind>, AllocError>
 }
 
 // Joins each kind with the other at its place: the least kind above both.
-fn join_all(kinds: &mut Vec<Kind>, others: &[Kind])
+fn join_all(kinds: &mut Vec<CellKind>, others: &[CellKind])
     requires { length kinds.old.items ≡ length others.now }
     ensures { kinds.new.items ≡ join_all kinds.old.items others.now }
 {
@@ -40,7 +40,7 @@ fn join_all(kinds: &mut Vec<Kind>, others: &[Kind])
 
 // Joins a frame with what another path brings to its place. A frame of another depth stays as it
 // was.
-fn join_frame(frame: &mut Frame, kinds: &[Kind], longest: u32) -> Result<(), VerifyFault>
+fn join_frame(frame: &mut Frame, kinds: &[CellKind], longest: u32) -> Result<(), VerifyFault>
     ensures ok { OnOk result
         (Grows (record { kinds = reverse kinds.now; longest = longest })
         (Some (plain_frame frame.old)) (plain_frame frame.new)) }
@@ -72,7 +72,7 @@ fn grow(pending: &mut Vec<Option<Frame>>, place: usize) -> Result<(), AllocError
 fn arrive(
     alloc: Global,
     slot: &mut Option<Frame>,
-    kinds: &[Kind],
+    kinds: &[CellKind],
     longest: u32,
 ) -> Result<(), VerifyFault>
     ensures ok { OnOk result
@@ -97,7 +97,7 @@ fn pend(
     alloc: Global,
     pending: &mut Vec<Option<Frame>>,
     place: usize,
-    kinds: &[Kind],
+    kinds: &[CellKind],
     longest: u32,
 ) -> Result<(), VerifyFault>
     requires { place < 2 ^ 64 - 1 }
@@ -118,7 +118,7 @@ pub(crate) fn jump(
     alloc: Global,
     instr: Instr,
     next: usize,
-    kinds: &[Kind],
+    kinds: &[CellKind],
     longest: u32,
     pending: &mut Vec<Option<Frame>>,
 ) -> Result<(), VerifyFault>

@@ -1,6 +1,6 @@
 use Rattle.std.proofs.Common.{List, Option, Some, reverse, refl, sym, subst, ◌∙◌}
 use Rattle.std.specs.Prelude.{option_map}
-use Rattle.il_image.specs.declared.kind.Kind.{Kind}
+use Rattle.il_image.specs.declared.kind.CellKind.{CellKind}
 use Rattle.il_verify.specs.declared.frame.Frame.{Frame}
 use Rattle.il_verify.specs.Frames.{Clashing, Grows, plain_frame}
 use Rattle.il_verify.proofs.FrameLemmas.{begun_grows, clash_of, plain}
@@ -27,7 +27,7 @@ pub returns-in-Ok-clause-ok : goal.returns-in-Ok-clause-ok
 returns-in-Ok-clause-ok c =
     let come = plain_frame c.args.frame in
     let grows =
-    subst (λ (kinds : List Kind). Grows (plain kinds c.args.frame.longest)
+    subst (λ (kinds : List CellKind). Grows (plain kinds c.args.frame.longest)
     (Some (plain_frame c.in-Some.other)) (plain_frame c.join_frame.new.frame))
     c.as_slice.ensures.value c.in-Ok.ensures.ok in
     falls_to c.args.instr c.args.next come c.args.pending.now.items c.taken-old.new.pending.items
@@ -43,7 +43,7 @@ returns-in-Err-clause-err c =
     let clash =
     clash_of c.taken-old.result c.in-Some.other c.as_slice.result.now c.in-Some.is h.1 in
     let there =
-    subst (λ (kinds : List Kind). Clashing (option_map plain_frame c.taken-old.result)
+    subst (λ (kinds : List CellKind). Clashing (option_map plain_frame c.taken-old.result)
     (reverse kinds)) c.as_slice.ensures.value clash in (
       h.0,
       (

@@ -1,5 +1,5 @@
 use Rattle.std.proofs.Common.{ℕ, List, ◌+◌, reverse, refl, subst, ◌∙◌, None, Some, inr}
-use Rattle.il_image.specs.declared.kind.Kind.{Kind}
+use Rattle.il_image.specs.declared.kind.CellKind.{CellKind}
 use Rattle.il_verify.specs.Frames.{Jumps, LeadsRight, PlainFrame, plain_frames}
 use Rattle.il_verify.proofs.VisitLemmas.{clash_before, effect_so, fault_there}
 use Rattle.il_verify.proofs.visit.visit.Goals as goal
@@ -14,7 +14,7 @@ returns-in-Err-fall-clause-err c = λ ne.
     let old = plain_frames c.args.pending.now.items in
     let mid = plain_frames c.jump.new.pending.items in
     let jumps =
-    subst (λ (items : List Kind). Jumps c.args.instr c.args.next
+    subst (λ (items : List CellKind). Jumps c.args.instr c.args.next
     (record { kinds = reverse items; longest = c.args.frame.longest + 1 }) old mid)
     c.as_slice-3.ensures.value c.in-Ok-jump.ensures.ok in
     let h = c.in-Err-fall.ensures.err in
@@ -55,7 +55,7 @@ returns-clause-ok c =
       right = subst (λ (code : List ℕ). LeadsRight code c.args.instr c.args.next)
           c.code.ensures.value c.in-Ok-check_targets.ensures.ok;
       mid = mid;
-      jumps = subst (λ (items : List Kind). Jumps c.args.instr c.args.next
+      jumps = subst (λ (items : List CellKind). Jumps c.args.instr c.args.next
           (record { kinds = reverse items; longest = c.args.frame.longest + 1 }) old mid)
           c.as_slice-3.ensures.value c.in-Ok-jump.ensures.ok;
       falls = c.in-Ok-fall.ensures.ok;
