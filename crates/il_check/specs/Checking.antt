@@ -16,7 +16,8 @@ initial_standing program = first (map (λ l. unreached) (labels_from 0 program.i
 -- all faults of a program
 abbrev pub faults_of : List Point → text.PlainProgram → List CheckFault
 faults_of points program =
-    declarations_faults points [] program.declarations ++ items_faults (names_in points program) program.items (initial_standing program)
+    declarations_faults points [] program.declarations
+    ++ items_faults (names_in points program) program.items (initial_standing program)
 
 -- what is left of a program without a fault
 abbrev pub checked_program : List Point → text.PlainProgram → Checked
@@ -33,4 +34,5 @@ TakesMemory program = 0 < length program.declarations + length program.items
 
 -- the checked program, or the fault that is answered
 abbrev pub checked_of : List Point → text.PlainProgram → Result Checked CheckFault
-checked_of points program = judged (least_fault (faults_of points program)) (checked_program points program)
+checked_of points program =
+    judged (least_fault (faults_of points program)) (checked_program points program)

@@ -89,7 +89,8 @@ is_writable (Some p) = p.writable
 -- the external that a name with a type and a point is
 abbrev pub external_at : List ℕ → ElementaryType → Option Point → Option given.External
 external_at name kind None = None
-external_at name kind (Some p) = Some (record { name = upper name; kind = kind; writable = p.writable; source = p.source })
+external_at name kind (Some p) =
+    Some (record { name = upper name; kind = kind; writable = p.writable; source = p.source })
 
 -- what a declaration adds to the externals, the variables and the timers
 abbrev pub external_in : List Point → text.Declared → Scope → DeclaredType → Option given.External
@@ -137,15 +138,19 @@ counts_of points declared = record {
 
 -- what a name means that is declared behind so many others
 abbrev pub meaning_at : Counts → Scope → DeclaredType → Option Point → Meaning
-meaning_at counts Local (Elementary kind) point = meaning.Variable (slot.Variable counts.variables) kind true
-meaning_at counts External (Elementary kind) point = meaning.Variable (slot.External counts.externals) kind (is_writable point)
+meaning_at counts Local (Elementary kind) point =
+    meaning.Variable (slot.Variable counts.variables) kind true
+meaning_at counts External (Elementary kind) point =
+    meaning.Variable (slot.External counts.externals) kind (is_writable point)
 meaning_at counts scope (Timer kind) point = meaning.Timer counts.timers
 
 -- what each declared name means, behind others
-abbrev pub meanings_from : List Point → List text.Declared → List text.Declared → List (List ℕ × Meaning)
+abbrev pub meanings_from : List Point → List text.Declared → List text.Declared
+    → List (List ℕ × Meaning)
 meanings_from points before [] = []
 meanings_from points before (d ∷ ds) =
-    (upper d.name, meaning_at (counts_of points before) d.scope d.kind (point_of points d.name)) ∷ meanings_from points (before ++ d ∷ []) ds
+    (upper d.name, meaning_at (counts_of points before) d.scope d.kind (point_of points d.name))
+    ∷ meanings_from points (before ++ d ∷ []) ds
 
 -- what each declared name means
 abbrev pub meanings_of : List Point → List text.Declared → List (List ℕ × Meaning)
@@ -175,7 +180,8 @@ abbrev pub is_full : Counts → DeclaredType → Bool
 is_full counts (Elementary kind) = nat_le 512 (counts.externals + counts.variables)
 is_full counts (Timer kind) = nat_le 64 counts.timers
 
--- the faults of a declaration, of which it is known whether its name is declared before, and whether it is one too many
+-- the faults of a declaration, of which it is known whether its name is declared before, and
+-- whether it is one too many
 abbrev pub name_faults : Option Point → Bool → Bool → text.Declared → List CheckFault
 name_faults point is_known is_beyond d =
     fault_if (is_external d.scope && is_none point) (UnknownName d.line)
@@ -186,9 +192,13 @@ name_faults point is_known is_beyond d =
 -- the faults of a declaration behind others
 abbrev pub declaration_faults : List Point → List text.Declared → text.Declared → List CheckFault
 declaration_faults points before d =
-    name_faults (point_of points d.name) (is_some (looked_up (meanings_of points before) (upper d.name))) (is_full (counts_of points before) d.kind) d
+    name_faults (point_of points d.name)
+    (is_some (looked_up (meanings_of points before) (upper d.name)))
+    (is_full (counts_of points before) d.kind) d
 
 -- the faults of declarations behind others
-abbrev pub declarations_faults : List Point → List text.Declared → List text.Declared → List CheckFault
+abbrev pub declarations_faults : List Point → List text.Declared → List text.Declared
+    → List CheckFault
 declarations_faults points before [] = []
-declarations_faults points before (d ∷ ds) = declaration_faults points before d ++ declarations_faults points (before ++ d ∷ []) ds
+declarations_faults points before (d ∷ ds) =
+    declaration_faults points before d ++ declarations_faults points (before ++ d ∷ []) ds

@@ -59,7 +59,8 @@ literal_given (literal.Time n) = known (typed_value (literal.Time n))
 -- a name as a variable; a timer's is none
 abbrev pub variable_given : Option Meaning → Given
 variable_given None = Missing
-variable_given (Some (meaning.Variable slot kind writable)) = Known (record { operand = operand.Slot slot; kind = kind; writable = writable })
+variable_given (Some (meaning.Variable slot kind writable)) =
+    Known (record { operand = operand.Slot slot; kind = kind; writable = writable })
 variable_given (Some (meaning.Timer timer)) = Misused
 
 -- Q is a BOOL, and ET a TIME
@@ -71,7 +72,12 @@ output_type output.Et = elementary.Time
 abbrev pub output_given : Option Meaning → Output → Given
 output_given None gives = Missing
 output_given (Some (meaning.Variable slot kind writable)) gives = Misused
-output_given (Some (meaning.Timer timer)) gives = Known (record { operand = operand.Output timer gives; kind = output_type gives; writable = false })
+output_given (Some (meaning.Timer timer)) gives =
+    Known (record {
+      operand = operand.Output timer gives;
+      kind = output_type gives;
+      writable = false;
+    })
 
 -- a variable, or an output of a timer, by its name
 abbrev pub place_given : Names → text.Place → Given
@@ -116,15 +122,18 @@ argument_given names a = record { input = a.0; given = source_given names a.1 }
 abbrev pub arguments_given : Names → List (Input × text.Source) → GivenArguments
 arguments_given names [] = arguments.None
 arguments_given names (a ∷ []) = arguments.One (argument_given names a)
-arguments_given names (a ∷ b ∷ more) = arguments.Two (argument_given names a) (argument_given names b)
+arguments_given names (a ∷ b ∷ more) =
+    arguments.Two (argument_given names a) (argument_given names b)
 
 -- an instruction, with what its names mean
 abbrev pub resolved : Names → text.Action → Resolved
 resolved names (text.load negated source) = Load negated (source_given names source)
 resolved names (text.store kind place) = Store kind (place_given names place)
-resolved names (text.combine operator negated source) = Combine operator negated (source_given names source) (is_nonzero source)
+resolved names (text.combine operator negated source) =
+    Combine operator negated (source_given names source) (is_nonzero source)
 resolved names text.invert = Not
 resolved names (text.convert conversion) = Convert conversion
 resolved names (text.jump condition name) = Jump condition (names.label name)
 resolved names (text.leave condition) = Return condition
-resolved names (text.call timer arguments) = Call (called_of (names.meaning timer)) (arguments_given names arguments)
+resolved names (text.call timer arguments) =
+    Call (called_of (names.meaning timer)) (arguments_given names arguments)

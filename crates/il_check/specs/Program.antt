@@ -9,7 +9,8 @@ use Rattle.il_check.specs.declared.typed.SimpleOperation.{SimpleOperation}
 use Rattle.il_check.specs.declared.typed.Transfer.{Transfer}
 
 mutual
-  -- an operation; an operator, the type of both sides, whether it is negated, and the entries in its parenthesis
+  -- an operation; an operator, the type of both sides, whether it is negated, and the entries in
+  -- its parenthesis
   pub data Entry : Type 0 where
     operation : SimpleOperation → Entry
     block : Operator → ElementaryType → Bool → Entries → Entry
@@ -25,7 +26,8 @@ pub data Item : Type 0 where
   transfer : Transfer → Item
   plain : Entry → Item
 
--- externals, variables and timers in the order of their declarations, and the items in that of the text
+-- externals, variables and timers in the order of their declarations, and the items in that of the
+-- text
 pub record Checked : Type 0 where
   pub externals : List External
   pub variables : List Variable

@@ -1,4 +1,5 @@
--- What an instruction wants of the current result, and what it leaves (IEC 61131-3:2003, 3.2.2 and table 52).
+-- What an instruction wants of the current result, and what it leaves (IEC 61131-3:2003, 3.2.2 and
+-- table 52).
 use Rattle.std.specs.Prelude.{ℕ, ℤ, Bool, true, false, not, ◌&&◌, ◌||◌, is_some, is_none, nat_lt, Option, None, Some, option_map, if◌then◌else◌}
 use Rattle.bay_base.specs.declared.types.ElementaryType.{ElementaryType}
 use Rattle.bay_base.specs.declared.types.ElementaryType.TheVariants as elementary
@@ -170,7 +171,8 @@ may_load negated (Some kind) = may_negate negated kind
 abbrev pub allows : Resolved → ElementaryType → Bool
 allows (Load negated given) kind = may_load negated (load_type given)
 allows (Store how target) kind = fits kind target && may_negate (not (is_plain how)) kind
-allows (Combine operator negated given is_nonzero) kind = works operator negated kind && fits kind given
+allows (Combine operator negated given is_nonzero) kind =
+    works operator negated kind && fits kind given
 allows Not kind = is_boolean kind
 allows (Convert conversion) kind = same_type kind (converted_from conversion)
 allows (Jump condition label) kind = may_negate (is_conditional condition) kind
@@ -190,7 +192,9 @@ uses_result (Call called arguments) = false
 
 -- some type passes the test
 abbrev pub any_type : (ElementaryType → Bool) → Bool
-any_type test = test elementary.Bool || test elementary.Int || test elementary.Dint || test elementary.Lint || test elementary.Time
+any_type test =
+    test elementary.Bool || test elementary.Int || test elementary.Dint || test elementary.Lint
+    || test elementary.Time
 
 -- no type that the result may have makes the instruction right
 abbrev pub is_wrong : Resolved → Option ElementaryType → Bool

@@ -52,27 +52,32 @@ stored kind None = None
 stored kind (Some slot) = Some (op.Store kind slot)
 
 -- an operator with its operand, if there is one
-abbrev pub combined : Operator → ElementaryType → Bool → Option TypedOperand → Option SimpleOperation
+abbrev pub combined : Operator → ElementaryType → Bool → Option TypedOperand
+    → Option SimpleOperation
 combined operator kind negated None = None
 combined operator kind negated (Some o) = Some (op.Combine operator kind negated o)
 
 -- an operator on a result of this type, with the operand as one of the type
 abbrev pub combine_in : Operator → Bool → Given → Option ElementaryType → Option SimpleOperation
 combine_in operator negated given None = None
-combine_in operator negated given (Some kind) = combined operator kind negated (operand_in kind given)
+combine_in operator negated given (Some kind) =
+    combined operator kind negated (operand_in kind given)
 
 -- the operation on a result of this type
 abbrev pub operation_in : Resolved → Option ElementaryType → Option SimpleOperation
 operation_in (Load negated given) result = load_in negated given (load_type given)
 operation_in (Store kind target) result = stored kind (target_slot target)
-operation_in (Combine operator negated given is_nonzero) result = combine_in operator negated given result
+operation_in (Combine operator negated given is_nonzero) result =
+    combine_in operator negated given result
 operation_in Not result = Some op.Not
 operation_in (Convert conversion) result = Some (op.Convert conversion)
 operation_in other result = None
 
 -- an argument as one of its input's type
 abbrev pub typed_argument : GivenArgument → Option TypedArgument
-typed_argument a = option_map (λ o. record { input = a.input; operand = o }) (operand_in (input_type a.input) a.given)
+typed_argument a =
+    option_map (λ o. record { input = a.input; operand = o })
+    (operand_in (input_type a.input) a.given)
 
 -- the arguments of a call, if each is right
 abbrev pub one_argument : Option TypedArgument → Option TypedArguments

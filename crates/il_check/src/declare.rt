@@ -140,7 +140,8 @@ fn is_kind_of(point: Option<&Point>, kind: ElementaryType) -> bool
 
 /// Whether an external has its point's type, and a variable's literal fits it.
 fn is_typed(declaration: Declaration<'_>, point: Option<&Point>) -> bool
-    ensures { result ≡ spec.is_typed declaration.entry.scope declaration.entry.kind (option_copied point.entry) declaration.entry.initial }
+    ensures { result ≡ spec.is_typed declaration.entry.scope declaration.entry.kind
+        (option_copied point.entry) declaration.entry.initial }
 {
     match (declaration.scope, declaration.kind) {
         (Scope::Local, DeclaredType::Elementary(kind)) => {
@@ -162,8 +163,8 @@ fn is_writable(point: Option<&Point>) -> bool
     }
 }
 
-/// The fault that is answered after a declaration, of which it is known whether its name is declared before,
-/// and whether there is room for one more.
+/// The fault that is answered after a declaration, of which it is known whether its name is
+/// declared before, and whether there is room for one more.
 fn declaration_fault(
     found: Option<CheckFault>,
     point: Option<&Point>,
@@ -171,7 +172,9 @@ fn declaration_fault(
     is_full: bool,
     declaration: Declaration<'_>,
 ) -> Option<CheckFault>
-    ensures { result ≡ noted found (spec.name_faults (option_copied point.entry) is_known is_full (declared_of declaration.entry)) }
+    ensures { result ≡ noted found
+        (spec.name_faults (option_copied point.entry) is_known is_full
+        (declared_of declaration.entry)) }
 {
     let line = declaration.line;
     let is_missing = is_external(declaration.scope) && point.is_none();
@@ -212,7 +215,8 @@ impl Declarations {
 
     /// What a name means that is declared next.
     fn next_meaning(&self, scope: Scope, kind: DeclaredType, point: Option<&Point>) -> Meaning
-        ensures { result ≡ spec.meaning_at (counts_in self.now) scope kind (option_copied point.entry) }
+        ensures { result ≡ spec.meaning_at (counts_in self.now) scope kind
+            (option_copied point.entry) }
     {
         match (scope, kind) {
             (Scope::Local, DeclaredType::Elementary(kind)) => Meaning::Variable {
@@ -237,7 +241,8 @@ impl Declarations {
         point: Option<&Point>,
     ) -> Result<(), AllocError>
         ensures externals { OnOk result (self.new.externals.items
-            ≡ self.old.externals.items ++ option_to_list (external_named name kind (option_copied point.entry))) }
+            ≡ self.old.externals.items
+            ++ option_to_list (external_named name kind (option_copied point.entry))) }
         ensures others { OnOk result (SameButExternals self.old self.new) }
     {
         if let Some(point) = point {
@@ -253,7 +258,9 @@ impl Declarations {
 
     /// Adds a variable, if its initial value is right.
     fn add_variable(&mut self, name: Text, initial: Option<Value>) -> Result<(), AllocError>
-        ensures variables { OnOk result (self.new.variables.items ≡ self.old.variables.items ++ option_to_list (variable_named name initial)) }
+        ensures variables { OnOk result
+            (self.new.variables.items
+            ≡ self.old.variables.items ++ option_to_list (variable_named name initial)) }
         ensures others { OnOk result (SameButVariables self.old self.new) }
     {
         if let Some(initial) = initial {
@@ -264,7 +271,9 @@ impl Declarations {
 
     /// Adds a timer.
     fn add_timer(&mut self, name: Text, kind: TimerKind) -> Result<(), AllocError>
-        ensures timers { OnOk result (self.new.timers.items ≡ self.old.timers.items ++ record { name = name; kind = kind } ∷ []) }
+        ensures timers { OnOk result
+            (self.new.timers.items
+            ≡ self.old.timers.items ++ record { name = name; kind = kind } ∷ []) }
         ensures others { OnOk result (SameButTimers self.old self.new) }
     {
         self.timers.push(Timer { name, kind })?;
@@ -278,7 +287,8 @@ impl Declarations {
         declaration: Declaration<'_>,
         point: Option<&Point>,
     ) -> Result<(), AllocError>
-        ensures { OnOk result (Adds name (declared_of declaration.entry) (option_copied point.entry) self.old self.new) }
+        ensures { OnOk result (Adds name (declared_of declaration.entry) (option_copied point.entry)
+            self.old self.new) }
     {
         match declaration.kind {
             DeclaredType::Timer(kind) => self.add_timer(name, kind),
@@ -312,7 +322,9 @@ pub(crate) fn declare_all(
     declarations: &[Declaration<'_>],
 ) -> Result<Declarations, AllocError>
     ensures stands { IfOk result (λ d. StandsFor points.now (map declared_of declarations.now) d) }
-    ensures found { IfOk result (λ d. d.found ≡ least_fault (spec.declarations_faults points.now [] (map declared_of declarations.now))) }
+    ensures found { IfOk result
+        (λ d. d.found ≡ least_fault
+        (spec.declarations_faults points.now [] (map declared_of declarations.now))) }
     ensures memory { IfErr result (λ e. 0 < length declarations.now) }
 {
     let mut declared = Declarations::new(alloc);

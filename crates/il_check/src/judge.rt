@@ -7,7 +7,7 @@ use crate::fault::CheckFault;
 use crate::given::Resolved;
 use crate::note::note_if;
 use crate::rules::{
-    divides, is_unset, is_wrong, combines_wrong, jumps_back, may_divide_by_zero, misses_label,
+    combines_wrong, divides, is_unset, is_wrong, jumps_back, may_divide_by_zero, misses_label,
     misses_name, writes_fixed,
 };
 use bay_base::types::ElementaryType;
@@ -26,8 +26,8 @@ fn is_first(passed: usize, number: Option<usize>) -> bool
 /// The most labels that a program may have.
 const MAX_LABELS: usize = 256;
 
-/// Where an instruction stands: whether it can be reached, behind how many labels, and how many parentheses
-/// may yet stand around it within one another.
+/// Where an instruction stands: whether it can be reached, behind how many labels, and how many
+/// parentheses may yet stand around it within one another.
 #[derive(Clone, Copy)]
 pub(crate) struct Place {
     pub(crate) is_reached: bool,
@@ -43,7 +43,8 @@ fn note_typing(
     resolved: Resolved,
     kind: Option<ElementaryType>,
 ) -> Option<CheckFault>
-    ensures { result ≡ noted found (spec.typing_faults place.is_reached place.passed line resolved kind) }
+    ensures { result ≡ noted found
+        (spec.typing_faults place.is_reached place.passed line resolved kind) }
 {
     let is_wrong = place.is_reached && is_wrong(resolved, kind);
     let is_unset = place.is_reached && is_unset(resolved, kind);
@@ -58,7 +59,8 @@ fn note_typing(
     note_if(found, is_back, CheckFault::BackwardJump { line })
 }
 
-/// The fault that is answered after where an instruction stands, and what it jumps to, writes and divides by.
+/// The fault that is answered after where an instruction stands, and what it jumps to, writes and
+/// divides by.
 fn note_others(
     found: Option<CheckFault>,
     is_reached: bool,
@@ -87,7 +89,8 @@ pub(crate) fn note_instruction(
     resolved: Resolved,
     kind: Option<ElementaryType>,
 ) -> Option<CheckFault>
-    ensures { result ≡ noted found (spec.instruction_faults place.is_reached place.passed line resolved kind) }
+    ensures { result ≡ noted found
+        (spec.instruction_faults place.is_reached place.passed line resolved kind) }
 {
     let found = note_typing(found, place, line, resolved, kind);
     note_others(found, place.is_reached, line, resolved)
@@ -123,7 +126,8 @@ pub(crate) fn note_closing(
     closing: Closing,
     kind: Option<ElementaryType>,
 ) -> Option<CheckFault>
-    ensures { result ≡ noted found (spec.closing_faults is_reached line closing.operator closing.negated closing.inner kind) }
+    ensures { result ≡ noted found
+        (spec.closing_faults is_reached line closing.operator closing.negated closing.inner kind) }
 {
     let Closing {
         operator,
@@ -137,7 +141,8 @@ pub(crate) fn note_closing(
     note_if(found, !is_reached, CheckFault::Unreachable { line })
 }
 
-/// The fault that is answered after a label behind so many others, of which the first of its name is given.
+/// The fault that is answered after a label behind so many others, of which the first of its name
+/// is given.
 #[tactic(auto, using(crate::proofs::NotedLemmas::note_rules))]
 pub(crate) fn note_label(
     found: Option<CheckFault>,

@@ -32,7 +32,10 @@ fn same_result(first: Option<ElementaryType>, second: Option<ElementaryType>) ->
 }
 
 /// The type of a result that has the first type on one way and the second on the other.
-fn join_types(first: Option<ElementaryType>, second: Option<ElementaryType>) -> Option<ElementaryType>
+fn join_types(
+    first: Option<ElementaryType>,
+    second: Option<ElementaryType>,
+) -> Option<ElementaryType>
     ensures { result ≡ spec.join_types first second }
 {
     if same_result(first, second) {

@@ -6,12 +6,14 @@ ghost use Rattle.il_text.specs.Listing as text;
 ghost use Rattle.il_check.specs.Given as spec;
 ghost use Rattle.il_check.specs.NamesView.{names_of};
 
-use crate::given::{Called, Given, GivenArgument, GivenArguments, Meaning, Resolved, KnownOperand};
+use crate::given::{Called, Given, GivenArgument, GivenArguments, KnownOperand, Meaning, Resolved};
 use crate::names::Names;
 use crate::typed::TypedOperand;
 use bay_base::types::ElementaryType;
 use il_image::value::Value;
-use il_text::program::{Argument, Arguments, Instruction, Literal, Operand, Output, SymbolicVariable};
+use il_text::program::{
+    Argument, Arguments, Instruction, Literal, Operand, Output, SymbolicVariable,
+};
 use std::alloc::AllocError;
 
 /// The value of a literal that has a type, if its number is one of the type's. A TIME is at most
@@ -29,7 +31,8 @@ pub(crate) fn typed_value(literal: Literal) -> Option<Value>
     }
 }
 
-/// A literal's value as an operand, which may only be read; a number that is none of its type's is misused.
+/// A literal's value as an operand, which may only be read; a number that is none of its type's is
+/// misused.
 fn known(value: Option<Value>) -> Given
     ensures { result ≡ spec.known value }
 {
@@ -147,8 +150,13 @@ fn called_of(meaning: Option<Meaning>) -> Called
 
 impl Names {
     /// What a symbolic variable means: a variable, or an output of a timer.
-    fn place(&self, buffer: &mut String, variable: SymbolicVariable<'_>) -> Result<Given, AllocError>
-        ensures { IfOk result (λ given. given ≡ spec.place_given (names_of self.now) (place_of variable.entry)) }
+    fn place(
+        &self,
+        buffer: &mut String,
+        variable: SymbolicVariable<'_>,
+    ) -> Result<Given, AllocError>
+        ensures { IfOk result (λ given. given
+            ≡ spec.place_given (names_of self.now) (place_of variable.entry)) }
     {
         match variable {
             SymbolicVariable::Name(name) => Ok(variable_given(self.meaning(buffer, name)?)),
@@ -160,7 +168,8 @@ impl Names {
 
     /// What an operand means.
     fn operand(&self, buffer: &mut String, operand: Operand<'_>) -> Result<Given, AllocError>
-        ensures { IfOk result (λ given. given ≡ spec.source_given (names_of self.now) (source_of operand.entry)) }
+        ensures { IfOk result (λ given. given
+            ≡ spec.source_given (names_of self.now) (source_of operand.entry)) }
     {
         match operand {
             Operand::Literal(literal) => Ok(literal_given(literal)),
@@ -174,7 +183,8 @@ impl Names {
         buffer: &mut String,
         argument: Argument<'_>,
     ) -> Result<GivenArgument, AllocError>
-        ensures { IfOk result (λ given. given ≡ spec.argument_given (names_of self.now) (argument_of argument.entry)) }
+        ensures { IfOk result (λ given. given
+            ≡ spec.argument_given (names_of self.now) (argument_of argument.entry)) }
     {
         Ok(GivenArgument {
             input: argument.input,
@@ -188,7 +198,8 @@ impl Names {
         buffer: &mut String,
         arguments: Arguments<'_>,
     ) -> Result<GivenArguments, AllocError>
-        ensures { IfOk result (λ given. given ≡ spec.arguments_given (names_of self.now) (arguments_of arguments.entry)) }
+        ensures { IfOk result (λ given. given
+            ≡ spec.arguments_given (names_of self.now) (arguments_of arguments.entry)) }
     {
         match arguments {
             Arguments::None => Ok(GivenArguments::None),
@@ -208,20 +219,24 @@ impl Names {
         timer: &str,
         arguments: Arguments<'_>,
     ) -> Result<Resolved, AllocError>
-        ensures { IfOk result (λ r. r ≡ spec.resolved (names_of self.now) (text.call timer.now (arguments_of arguments.entry))) }
+        ensures { IfOk result (λ r. r
+            ≡ spec.resolved (names_of self.now)
+            (text.call timer.now (arguments_of arguments.entry))) }
     {
         let called = called_of(self.meaning(buffer, timer)?);
         let arguments = self.arguments(buffer, arguments)?;
         Ok(Resolved::Call { called, arguments })
     }
 
-    /// An instruction with what its names mean. No memory is taken for a name of at most 64 characters.
+    /// An instruction with what its names mean. No memory is taken for a name of at most 64
+    /// characters.
     pub(crate) fn resolve(
         &self,
         buffer: &mut String,
         instruction: Instruction<'_>,
     ) -> Result<Resolved, AllocError>
-        ensures { IfOk result (λ r. r ≡ spec.resolved (names_of self.now) (action_of instruction.entry)) }
+        ensures { IfOk result (λ r. r
+            ≡ spec.resolved (names_of self.now) (action_of instruction.entry)) }
     {
         match instruction {
             Instruction::Load { negated, operand } => {

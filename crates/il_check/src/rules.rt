@@ -1,4 +1,5 @@
-// What instructions want of the current result, and what they leave (IEC 61131-3:2003, 3.2.2 and table 52).
+// What instructions want of the current result, and what they leave (IEC 61131-3:2003, 3.2.2 and
+// table 52).
 ghost use Rattle.std.specs.Prelude.{◌≡◌, option_map};
 ghost use Rattle.il_check.specs.Rules as spec;
 

@@ -57,7 +57,10 @@ fn combine_in(
 }
 
 /// The operation on a result of this type.
-pub(crate) fn operation_in(resolved: Resolved, kind: Option<ElementaryType>) -> Option<SimpleOperation>
+pub(crate) fn operation_in(
+    resolved: Resolved,
+    kind: Option<ElementaryType>,
+) -> Option<SimpleOperation>
     ensures { result ≡ spec.operation_in resolved kind }
 {
     match resolved {

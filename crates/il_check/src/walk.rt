@@ -28,8 +28,8 @@ use std::alloc::{AllocError, Global};
 /// The most parentheses that may stand within one another.
 const MAX_DEPTH: usize = 16;
 
-/// What is kept from item to item: the fault that is answered, if there is one so far, and a buffer for
-/// names that are looked up.
+/// What is kept from item to item: the fault that is answered, if there is one so far, and a buffer
+/// for names that are looked up.
 #[derive(Drop)]
 pub(crate) struct Judge {
     pub(crate) alloc: Global,
@@ -70,9 +70,12 @@ impl Judge {
         instruction: Instruction<'_>,
         kind: Option<ElementaryType>,
     ) -> Result<Resolved, AllocError>
-        ensures resolved { IfOk result (λ r. r ≡ resolved (names_of names.now) (action_of instruction.entry)) }
+        ensures resolved { IfOk result
+            (λ r. r ≡ resolved (names_of names.now) (action_of instruction.entry)) }
         ensures found { OnOk result (self.new.found
-            ≡ noted self.old.found (spec.instruction_faults place.is_reached place.passed line (resolved (names_of names.now) (action_of instruction.entry)) kind)) }
+            ≡ noted self.old.found
+            (spec.instruction_faults place.is_reached place.passed line
+            (resolved (names_of names.now) (action_of instruction.entry)) kind)) }
     {
         let resolved = names.resolve(&mut self.buffer, instruction)?;
         self.found = note_instruction(self.found, place, line, resolved, kind);
@@ -88,10 +91,16 @@ impl Judge {
         instruction: Instruction<'_>,
         kind: Option<ElementaryType>,
     ) -> Result<EntryLeft, AllocError>
-        ensures kind { IfOk result (λ l. l.kind ≡ spec.type_behind (names_of names.now) (text.action line (action_of instruction.entry)) kind) }
-        ensures left { IfOk result (λ l. option_map entry_view l.entry ≡ spec.entry_left (names_of names.now) place.room (text.action line (action_of instruction.entry)) kind) }
+        ensures kind { IfOk result
+            (λ l. l.kind ≡ spec.type_behind (names_of names.now)
+            (text.action line (action_of instruction.entry)) kind) }
+        ensures left { IfOk result
+            (λ l. option_map entry_view l.entry
+            ≡ spec.entry_left (names_of names.now) place.room
+            (text.action line (action_of instruction.entry)) kind) }
         ensures found { OnOk result (self.new.found
-            ≡ noted self.old.found (spec.entry_faults (names_of names.now) place.room place.is_reached place.passed
+            ≡ noted self.old.found
+            (spec.entry_faults (names_of names.now) place.room place.is_reached place.passed
             (text.action line (action_of instruction.entry)) kind)) }
     {
         let resolved = self.instruction(names, place, line, instruction, kind)?;
@@ -109,10 +118,17 @@ impl Judge {
         place: Place,
         items: &[Item<'_>],
     ) -> Result<Passed, AllocError>
-        ensures kind { IfOk result (λ p. p.kind ≡ spec.type_behind_all (names_of names.now) (text.entries_of (map entry_of items.now)) None) }
-        ensures left { IfOk result (λ p. plain.entries_of (map entry_view p.entries.items) ≡ spec.entries_left (names_of names.now) place.room (text.entries_of (map entry_of items.now)) None) }
+        ensures kind { IfOk result
+            (λ p. p.kind ≡ spec.type_behind_all (names_of names.now)
+            (text.entries_of (map entry_of items.now)) None) }
+        ensures left { IfOk result
+            (λ p. plain.entries_of (map entry_view p.entries.items)
+            ≡ spec.entries_left (names_of names.now) place.room
+            (text.entries_of (map entry_of items.now)) None) }
         ensures found { OnOk result (self.new.found
-            ≡ noted self.old.found (spec.entries_faults (names_of names.now) place.room place.is_reached place.passed (text.entries_of (map entry_of items.now)) None)) }
+            ≡ noted self.old.found
+            (spec.entries_faults (names_of names.now) place.room place.is_reached place.passed
+            (text.entries_of (map entry_of items.now)) None)) }
     {
         let mut passed = Passed {
             entries: Vec::new(self.alloc),
@@ -135,10 +151,15 @@ impl Judge {
         item: &Item<'_>,
         kind: Option<ElementaryType>,
     ) -> Result<EntryLeft, AllocError>
-        ensures kind { IfOk result (λ l. l.kind ≡ spec.type_behind (names_of names.now) (entry_of item.now) kind) }
-        ensures left { IfOk result (λ l. option_map entry_view l.entry ≡ spec.entry_left (names_of names.now) place.room (entry_of item.now) kind) }
+        ensures kind { IfOk result
+            (λ l. l.kind ≡ spec.type_behind (names_of names.now) (entry_of item.now) kind) }
+        ensures left { IfOk result
+            (λ l. option_map entry_view l.entry
+            ≡ spec.entry_left (names_of names.now) place.room (entry_of item.now) kind) }
         ensures found { OnOk result (self.new.found
-            ≡ noted self.old.found (spec.entry_faults (names_of names.now) place.room place.is_reached place.passed (entry_of item.now) kind)) }
+            ≡ noted self.old.found
+            (spec.entry_faults (names_of names.now) place.room place.is_reached place.passed
+            (entry_of item.now) kind)) }
     {
         match item {
             Item::Label { .. } => Ok(EntryLeft { entry: None, kind }),
@@ -167,8 +188,8 @@ impl Judge {
         }
     }
 
-    /// A parenthesis: what is left of it on a result of this type, if that is set. One that is too deep isn't
-    /// looked into.
+    /// A parenthesis: what is left of it on a result of this type, if that is set. One that is too
+    /// deep isn't looked into.
     #[cycle(entries)]
     fn block(
         &mut self,
@@ -179,10 +200,14 @@ impl Judge {
         kind: Option<ElementaryType>,
     ) -> Result<Option<TypedEntry>, AllocError>
         ensures left { IfOk result (λ b. option_map entry_view b
-            ≡ spec.entry_left (names_of names.now) place.room (text.block parenthesis.line parenthesis.operator parenthesis.negated (text.entries_of (map entry_of items.now)) parenthesis.end) kind) }
+            ≡ spec.entry_left (names_of names.now) place.room
+            (text.block parenthesis.line parenthesis.operator parenthesis.negated
+            (text.entries_of (map entry_of items.now)) parenthesis.end) kind) }
         ensures found { OnOk result (self.new.found
-            ≡ noted self.old.found (spec.entry_faults (names_of names.now) place.room place.is_reached place.passed
-            (text.block parenthesis.line parenthesis.operator parenthesis.negated (text.entries_of (map entry_of items.now)) parenthesis.end) kind)) }
+            ≡ noted self.old.found
+            (spec.entry_faults (names_of names.now) place.room place.is_reached place.passed
+            (text.block parenthesis.line parenthesis.operator parenthesis.negated
+            (text.entries_of (map entry_of items.now)) parenthesis.end) kind)) }
     {
         let Parenthesis {
             line,
@@ -219,7 +244,8 @@ fn block_of(
     entries: Vec<TypedEntry>,
     kind: Option<ElementaryType>,
 ) -> Option<TypedEntry>
-    ensures { option_map entry_view result ≡ typing.block_in operator negated (plain.entries_of (map entry_view entries.items)) kind }
+    ensures { option_map entry_view result
+        ≡ typing.block_in operator negated (plain.entries_of (map entry_view entries.items)) kind }
 {
     match kind {
         Some(kind) => Some(TypedEntry::Block {
@@ -262,7 +288,8 @@ impl Passed {
     fn add(&mut self, left: EntryLeft) -> Result<(), AllocError>
         ensures kind { OnOk result (self.new.kind ≡ left.kind) }
         ensures left { OnOk result (map entry_view self.new.entries.items
-            ≡ map entry_view self.old.entries.items ++ option_to_list (option_map entry_view left.entry)) }
+            ≡ map entry_view self.old.entries.items
+            ++ option_to_list (option_map entry_view left.entry)) }
     {
         let EntryLeft { entry, kind } = left;
         if let Some(entry) = entry {
@@ -285,7 +312,8 @@ pub(crate) struct Walk {
 impl Walk {
     /// Where the next item stands: in no parenthesis.
     fn place(&self) -> Place
-        ensures { result ≡ record { is_reached = self.now.reach.is_reached; passed = self.now.passed; room = 16 } }
+        ensures { result ≡ record
+            { is_reached = self.now.reach.is_reached; passed = self.now.passed; room = 16 } }
     {
         Place {
             is_reached: self.reach.is_reached,
@@ -306,7 +334,8 @@ impl Walk {
 
     /// Notes what a jump brings to its label.
     fn arrive(&mut self, label: Option<usize>)
-        ensures arrivals { self.new.arrivals.items ≡ spec.arrived label self.old.reach self.old.arrivals.items }
+        ensures arrivals { self.new.arrivals.items
+            ≡ spec.arrived label self.old.reach self.old.arrivals.items }
         ensures reach { self.new.reach ≡ self.old.reach }
         ensures passed { self.new.passed ≡ self.old.passed }
         ensures items { self.new.items ≡ self.old.items }
@@ -367,7 +396,8 @@ impl Walk {
     /// What is left of an instruction.
     fn add_instruction(&mut self, resolved: Resolved) -> Result<(), AllocError>
         ensures items { OnOk result (map item_view self.new.items.items
-            ≡ map item_view self.old.items.items ++ option_to_list (typing.item_in resolved self.old.reach.kind)) }
+            ≡ map item_view self.old.items.items
+            ++ option_to_list (typing.item_in resolved self.old.reach.kind)) }
         ensures standing { OnOk result (standing_of self.new ≡ standing_of self.old) }
     {
         self.add(item_in(resolved, self.reach.kind))
@@ -376,8 +406,11 @@ impl Walk {
     /// A label, by its number.
     fn add_label(&mut self) -> Result<(), AllocError>
         requires { self.old.passed < usize.MAX }
-        ensures items { OnOk result (map item_view self.new.items.items ≡ map item_view self.old.items.items ++ plain.label self.old.passed ∷ []) }
-        ensures standing { OnOk result (standing_of self.new ≡ spec.behind_label (standing_of self.old)) }
+        ensures items { OnOk result
+            (map item_view self.new.items.items
+            ≡ map item_view self.old.items.items ++ plain.label self.old.passed ∷ []) }
+        ensures standing { OnOk result
+            (standing_of self.new ≡ spec.behind_label (standing_of self.old)) }
     {
         self.items.push(TypedItem::Label(self.passed))?;
         self.enter_label();
@@ -388,9 +421,14 @@ impl Walk {
     #[tactic(auto, using(crate::proofs::ViewLemmas::view_rules))]
     fn add_block(&mut self, left: EntryLeft) -> Result<(), AllocError>
         ensures items { OnOk result (map item_view self.new.items.items
-            ≡ map item_view self.old.items.items ++ option_to_list (option_map (λ e. plain.plain (entry_view e)) left.entry)) }
+            ≡ map item_view self.old.items.items
+            ++ option_to_list (option_map (λ e. plain.plain (entry_view e)) left.entry)) }
         ensures standing { OnOk result (standing_of self.new
-            ≡ record { now = record { is_reached = self.old.reach.is_reached; kind = left.kind }; arrivals = self.old.arrivals.items; passed = self.old.passed }) }
+            ≡ record {
+              now = record { is_reached = self.old.reach.is_reached; kind = left.kind };
+              arrivals = self.old.arrivals.items;
+              passed = self.old.passed;
+            }) }
     {
         let EntryLeft { entry, kind } = left;
         if let Some(entry) = entry {
@@ -411,9 +449,16 @@ impl Judge {
         walk: &mut Walk,
     ) -> Result<(), AllocError>
         requires { walk.old.passed < usize.MAX }
-        ensures standing { OnOk result (standing_of walk.new ≡ spec.behind (names_of names.now) (text.label line name.now) (standing_of walk.old)) }
-        ensures items { OnOk result (map item_view walk.new.items.items ≡ map item_view walk.old.items.items ++ plain.label walk.old.passed ∷ []) }
-        ensures found { OnOk result (self.new.found ≡ noted self.old.found (spec.item_faults (names_of names.now) (text.label line name.now) (standing_of walk.old))) }
+        ensures standing { OnOk result
+            (standing_of walk.new ≡ spec.behind (names_of names.now) (text.label line name.now)
+            (standing_of walk.old)) }
+        ensures items { OnOk result
+            (map item_view walk.new.items.items
+            ≡ map item_view walk.old.items.items ++ plain.label walk.old.passed ∷ []) }
+        ensures found { OnOk result
+            (self.new.found ≡ noted self.old.found
+            (spec.item_faults (names_of names.now) (text.label line name.now)
+            (standing_of walk.old))) }
     {
         let number = names.label(&mut self.buffer, name)?;
         self.found = note_label(self.found, line, number, walk.passed);
@@ -428,11 +473,17 @@ impl Judge {
         instruction: Instruction<'_>,
         walk: &mut Walk,
     ) -> Result<(), AllocError>
-        ensures standing { OnOk result (standing_of walk.new ≡ spec.behind (names_of names.now) (text.action line (action_of instruction.entry)) (standing_of walk.old)) }
+        ensures standing { OnOk result
+            (standing_of walk.new ≡ spec.behind (names_of names.now)
+            (text.action line (action_of instruction.entry)) (standing_of walk.old)) }
         ensures items { OnOk result (map item_view walk.new.items.items
-            ≡ map item_view walk.old.items.items ++ option_to_list (spec.item_left (names_of names.now) (text.action line (action_of instruction.entry)) (standing_of walk.old))) }
+            ≡ map item_view walk.old.items.items
+            ++ option_to_list (spec.item_left (names_of names.now)
+            (text.action line (action_of instruction.entry)) (standing_of walk.old))) }
         ensures found { OnOk result (self.new.found
-            ≡ noted self.old.found (spec.item_faults (names_of names.now) (text.action line (action_of instruction.entry)) (standing_of walk.old))) }
+            ≡ noted self.old.found
+            (spec.item_faults (names_of names.now)
+            (text.action line (action_of instruction.entry)) (standing_of walk.old))) }
     {
         let resolved = self.instruction(names, walk.place(), line, instruction, walk.reach.kind)?;
         walk.add_instruction(resolved)?;
@@ -441,19 +492,25 @@ impl Judge {
     }
 
     /// A parenthesis that stands in no other.
-    fn enclose(
-        &mut self,
-        names: &Names,
-        item: &Item<'_>,
-        walk: &mut Walk,
-    ) -> Result<(), AllocError>
+    fn enclose(&mut self, names: &Names, item: &Item<'_>, walk: &mut Walk) -> Result<(), AllocError>
         ensures standing { OnOk result (standing_of walk.new
-            ≡ record { now = record { is_reached = walk.old.reach.is_reached; kind = spec.type_behind (names_of names.now) (entry_of item.now) walk.old.reach.kind }; arrivals = walk.old.arrivals.items; passed = walk.old.passed }) }
+            ≡ record {
+              now = record {
+                is_reached = walk.old.reach.is_reached;
+                kind = spec.type_behind (names_of names.now) (entry_of item.now)
+                    walk.old.reach.kind;
+              };
+              arrivals = walk.old.arrivals.items;
+              passed = walk.old.passed;
+            }) }
         ensures items { OnOk result (map item_view walk.new.items.items
             ≡ map item_view walk.old.items.items
-            ++ option_to_list (option_map plain.plain (spec.entry_left (names_of names.now) 16 (entry_of item.now) walk.old.reach.kind))) }
+            ++ option_to_list (option_map plain.plain
+            (spec.entry_left (names_of names.now) 16 (entry_of item.now) walk.old.reach.kind))) }
         ensures found { OnOk result (self.new.found
-            ≡ noted self.old.found (spec.entry_faults (names_of names.now) 16 walk.old.reach.is_reached walk.old.passed (entry_of item.now) walk.old.reach.kind)) }
+            ≡ noted self.old.found
+            (spec.entry_faults (names_of names.now) 16 walk.old.reach.is_reached walk.old.passed
+            (entry_of item.now) walk.old.reach.kind)) }
     {
         let left = self.entry(names, walk.place(), item, walk.reach.kind)?;
         walk.add_block(left)
@@ -463,10 +520,16 @@ impl Judge {
     #[tactic(auto, using(crate::proofs::EntryLemmas::entry_rules))]
     fn item(&mut self, names: &Names, item: &Item<'_>, walk: &mut Walk) -> Result<(), AllocError>
         requires { walk.old.passed < usize.MAX }
-        ensures standing { OnOk result (standing_of walk.new ≡ spec.behind (names_of names.now) (entry_of item.now) (standing_of walk.old)) }
+        ensures standing { OnOk result
+            (standing_of walk.new ≡ spec.behind (names_of names.now) (entry_of item.now)
+            (standing_of walk.old)) }
         ensures items { OnOk result (map item_view walk.new.items.items
-            ≡ map item_view walk.old.items.items ++ option_to_list (spec.item_left (names_of names.now) (entry_of item.now) (standing_of walk.old))) }
-        ensures found { OnOk result (self.new.found ≡ noted self.old.found (spec.item_faults (names_of names.now) (entry_of item.now) (standing_of walk.old))) }
+            ≡ map item_view walk.old.items.items
+            ++ option_to_list (spec.item_left (names_of names.now) (entry_of item.now)
+            (standing_of walk.old))) }
+        ensures found { OnOk result
+            (self.new.found ≡ noted self.old.found
+            (spec.item_faults (names_of names.now) (entry_of item.now) (standing_of walk.old))) }
     {
         match item {
             Item::Label { line, name } => self.label(names, *line, name, walk),
@@ -485,9 +548,13 @@ impl Judge {
         arrivals: Vec<Reach>,
     ) -> Result<Vec<TypedItem>, AllocError>
         ensures left { IfOk result (λ left. self.new.found ≡ None
-            → map item_view left.items ≡ spec.items_left (names_of names.now) (map entry_of items.now) (spec.first arrivals.items)) }
+            → map item_view left.items
+            ≡ spec.items_left (names_of names.now) (map entry_of items.now)
+            (spec.first arrivals.items)) }
         ensures found { OnOk result (self.new.found
-            ≡ noted self.old.found (spec.items_faults (names_of names.now) (map entry_of items.now) (spec.first arrivals.items))) }
+            ≡ noted self.old.found
+            (spec.items_faults (names_of names.now) (map entry_of items.now)
+            (spec.first arrivals.items))) }
         ensures memory { IfErr result (λ e. 0 < length items.now) }
     {
         let mut walk = Walk {

@@ -8,7 +8,9 @@ ghost use Rattle.il_compile.specs.Code as spec;
 ghost use Rattle.il_compile.specs.Senses as senses;
 
 use bay_base::types::ElementaryType;
-use il_check::typed::{SimpleOperation, Slot, TypedArgument, TypedArguments, TypedEntry, TypedOperand};
+use il_check::typed::{
+    SimpleOperation, Slot, TypedArgument, TypedArguments, TypedEntry, TypedOperand,
+};
 use il_image::arithmetic::{Comparison, Operation, Width};
 use il_image::instr::Instr;
 use il_image::opcode::{Connective, SlotUse, TimerUse, When, Widening};
@@ -160,7 +162,8 @@ fn put_operation(
     operation: SimpleOperation,
 ) -> Result<(), AllocError>
     requires { Each IsInstr (spec.operation_code externals operation) }
-    ensures { OnOk result (code.new.items ≡ code.old.items ++ spec.operation_code externals operation) }
+    ensures { OnOk result (code.new.items
+        ≡ code.old.items ++ spec.operation_code externals operation) }
 {
     match operation {
         SimpleOperation::Load { negated, operand } => {
@@ -168,7 +171,11 @@ fn put_operation(
             put(code, fetch(externals, operand))?;
             put_negation(code, negated)
         }
-        SimpleOperation::Store { kind, slot } => put_store(code, kind, slot_number(externals, slot)),
+        SimpleOperation::Store { kind, slot } => put_store(
+            code,
+            kind,
+            slot_number(externals, slot),
+        ),
         SimpleOperation::Combine {
             operator,
             kind,
@@ -190,7 +197,8 @@ pub(crate) fn put_entry(
     entry: &TypedEntry,
 ) -> Result<(), AllocError>
     requires { IsSpellableEntry externals (entry_view entry.now) }
-    ensures { OnOk result (code.new.items ≡ code.old.items ++ spec.entry_code externals (entry_view entry.now)) }
+    ensures { OnOk result (code.new.items
+        ≡ code.old.items ++ spec.entry_code externals (entry_view entry.now)) }
 {
     match entry {
         TypedEntry::Operation(operation) => put_operation(code, externals, *operation),
@@ -217,7 +225,8 @@ fn put_argument(
     argument: TypedArgument,
 ) -> Result<(), AllocError>
     requires { Each IsInstr (spec.argument_code externals timer argument) }
-    ensures { OnOk result (code.new.items ≡ code.old.items ++ spec.argument_code externals timer argument) }
+    ensures { OnOk result (code.new.items
+        ≡ code.old.items ++ spec.argument_code externals timer argument) }
 {
     put(code, fetch(externals, argument.operand))?;
     put(code, Instr::Timer(input_use(argument.input), timer))
@@ -231,7 +240,9 @@ pub(crate) fn put_call(
     arguments: TypedArguments,
 ) -> Result<(), AllocError>
     requires { Each IsInstr (spec.arguments_code externals timer arguments) }
-    ensures { OnOk result (code.new.items ≡ code.old.items ++ (spec.arguments_code externals timer arguments ++ Instr.Timer TimerUse.Run timer ∷ [])) }
+    ensures { OnOk result (code.new.items
+        ≡ code.old.items ++ (spec.arguments_code externals timer arguments
+        ++ Instr.Timer TimerUse.Run timer ∷ [])) }
 {
     match arguments {
         TypedArguments::None => {}

@@ -44,12 +44,14 @@ pub record Lowers (made : Option (List CellKind)) (upper : List CellKind) : Type
   pub is : made ≡ Some lower
   pub within : AreWithin lower upper
 
-lowers_at : (made : Option (List CellKind)) (xs ys upper : List CellKind) → made ≡ Some xs → AreWithin xs ys
+lowers_at : (made : Option (List CellKind)) (xs ys upper : List CellKind) → made ≡ Some xs
+    → AreWithin xs ys
     → Some ys ≡ Some upper → Lowers made upper
 lowers_at made xs ys upper e h is =
     record { lower = xs; is = e; within = subst (AreWithin xs) (some_same ys upper is) h }
 
-below_case : (wanted x y : CellKind) (xs ys rest : List CellKind) (b : Bool) → is_within y wanted ≡ b
+below_case : (wanted x y : CellKind) (xs ys rest : List CellKind) (b : Bool)
+    → is_within y wanted ≡ b
     → is_within x y ≡ true → AreWithin xs ys → cond b (Some ys) None ≡ Some rest
     → Lowers (below wanted (x ∷ xs)) rest
 below_case wanted x y xs ys rest true e h g is =
@@ -184,7 +186,8 @@ truth_lower slots n xs ys upper h e =
         let l = looks_lower (Plain elementary.Bool) xs ys upper h g in
         record { lower = l.lower; is = rw found (rw same l.is); within = l.within }
 
-timer_lower : (timers n : ℕ) (f : List CellKind → Option (List CellKind)) (xs ys upper : List CellKind)
+timer_lower : (timers n : ℕ) (f : List CellKind → Option (List CellKind))
+    (xs ys upper : List CellKind)
     → ((up : List CellKind) → f ys ≡ Some up → Lowers (f xs) up)
     → with_timer timers n (f ys) ≡ Some upper → Lowers (with_timer timers n (f xs)) upper
 timer_lower timers n f xs ys upper lower e = go (nat_lt n timers) refl e
@@ -200,10 +203,12 @@ pushed : (k : CellKind) (xs ys upper : List CellKind) → AreWithin xs ys → So
 pushed k xs ys upper h e =
     lowers_at (Some (k ∷ xs)) (k ∷ xs) (k ∷ ys) upper refl (within_self k, h) e
 
-kept : (xs ys upper : List CellKind) → AreWithin xs ys → Some ys ≡ Some upper → Lowers (Some xs) upper
+kept : (xs ys upper : List CellKind) → AreWithin xs ys → Some ys ≡ Some upper
+    → Lowers (Some xs) upper
 kept xs ys upper h e = lowers_at (Some xs) xs ys upper refl h e
 
-pub effect_lower : (slots : List ElementaryType) (timers : ℕ) (i : Instr) (xs ys upper : List CellKind)
+pub effect_lower : (slots : List ElementaryType) (timers : ℕ) (i : Instr)
+    (xs ys upper : List CellKind)
     → AreWithin xs ys → effect slots timers i ys ≡ Some upper
     → Lowers (effect slots timers i xs) upper
 effect_lower slots timers Halt xs ys upper h e = kept xs ys upper h e

@@ -135,7 +135,8 @@ looks_some wanted kinds gives e =
 one_some : (wanted given : CellKind) (kinds gives : List CellKind)
     → (below wanted kinds >>= (λ rest. Some (given ∷ rest))) ≡ Some gives → 1 ≤ length kinds
 one_some wanted given kinds gives e =
-    let r = bind_some (below wanted kinds) (λ (rest : List CellKind). Some (given ∷ rest)) gives e in
+    let r = bind_some (below wanted kinds) (λ (rest : List CellKind). Some (given ∷ rest)) gives e
+    in
     let size : length kinds ≡ suc (length r.0) = below_some wanted kinds r.0 r.1 in omega arith
 
 two_some : (top second given : CellKind) (kinds gives : List CellKind)
@@ -215,7 +216,8 @@ second_within : (w : Width) (b : Bool)
 second_within w true = same_self (type_of_width w)
 second_within w false = same_self (type_of_width w)
 
-undivided_some : (types : List ElementaryType) (timers : ℕ) (i : Instr) (kinds gives : List CellKind)
+undivided_some : (types : List ElementaryType) (timers : ℕ) (i : Instr)
+    (kinds gives : List CellKind)
     → effect types timers i kinds ≡ Some gives
     → effect types timers (undivided i) kinds ≡ Some gives
 undivided_some types timers (Compute o w) kinds gives e =
@@ -236,7 +238,8 @@ undivided_some types timers (Widen w) kinds gives e = e
 undivided_some types timers (Jump when distance) kinds gives e = e
 undivided_some types timers (Timer timer_use n) kinds gives e = e
 
-fits_all : (a b : Option (List CellKind)) (x y : List CellKind) → a ≡ Some x → b ≡ Some y → unfit a b ≡ None
+fits_all : (a b : Option (List CellKind)) (x y : List CellKind) → a ≡ Some x → b ≡ Some y
+    → unfit a b ≡ None
 fits_all a b x y e f = rw (e, f) refl
 
 -- ---- the faults behind an effect
@@ -260,7 +263,8 @@ allowed_behind slots timers i kinds gives r e last =
     (fits_all _ _ gives gives (undivided_some (types_of slots) timers i kinds gives e) e)
     (rw e last)))
 
-pub allowed_faultless : (slots : List SlotType) (timers : ℕ) (i : Instr) (kinds gives : List CellKind)
+pub allowed_faultless : (slots : List SlotType) (timers : ℕ) (i : Instr)
+    (kinds gives : List CellKind)
     → effect (types_of slots) timers i kinds ≡ Some gives → writes_read_only slots i ≡ false
     → length gives ≤ 32
     → fault_of slots timers i kinds ≡ None
@@ -386,7 +390,8 @@ missing_own slots timers (Compare c) = tt
 missing_own slots timers (Widen w) = tt
 missing_own slots timers (Jump when distance) = tt
 
-pub own_of : (slots : List SlotType) (timers : ℕ) (i : Instr) (kinds : List CellKind) (f : VerifyFault)
+pub own_of : (slots : List SlotType) (timers : ℕ) (i : Instr) (kinds : List CellKind)
+    (f : VerifyFault)
     → fault_of slots timers i kinds ≡ Some f → IsOwn f
 unfolding fault_of
 own_of slots timers i kinds f e =

@@ -86,7 +86,8 @@ comes_alike image t u done to kinds same (inr h) =
       },
     )
 
-join_same : (image : Image) (t u : Table) (done to : ℕ) (kinds others : List CellKind) → Alike t u done
+join_same : (image : Image) (t u : Table) (done to : ℕ) (kinds others : List CellKind)
+    → Alike t u done
     → IsJoin image t done to kinds → IsJoin image u done to others → kinds ≡ others
 join_same image t u done to kinds others same m n =
     kinds_same kinds others

@@ -120,7 +120,8 @@ SameBefore done t u = (q : ℕ) → q < done → t q ≡ u q
 same_back : (done : ℕ) (t u : Table) → SameBefore done t u → SameBefore done u t
 same_back done t u h q less = sym (h q less)
 
-comes_keep : (image : Image) (done to : ℕ) (t u : Table) (kinds : List CellKind) → SameBefore done t u
+comes_keep : (image : Image) (done to : ℕ) (t u : Table) (kinds : List CellKind)
+    → SameBefore done t u
     → Comes image t done to kinds → Comes image u done to kinds
 comes_keep image done to t u kinds same c = elim c [
   | inl e ↦ inl e
@@ -140,7 +141,8 @@ comes_keep image done to t u kinds same c = elim c [
       ))
 ]
 
-join_keep : (image : Image) (done to : ℕ) (t u : Table) (kinds : List CellKind) → SameBefore done t u
+join_keep : (image : Image) (done to : ℕ) (t u : Table) (kinds : List CellKind)
+    → SameBefore done t u
     → IsJoin image t done to kinds → IsJoin image u done to kinds
 join_keep image done to t u kinds same m = record {
   some = (m.some.0, comes_keep image done to t u m.some.0 same m.some.1);

@@ -265,7 +265,8 @@ module _ (image : Image) (table : Table) (done : ℕ) (front : IsFront image tab
       let t = top_at place is in
       (t.0, t.1, m.least t.0 (λ others comes. comes_within place place t.0 others t.1 below comes))
 
-  all_below : (n q : ℕ) (kinds : List CellKind) → q < n → table q ≡ Some kinds → Enters other q kinds
+  all_below : (n q : ℕ) (kinds : List CellKind) → q < n → table q ≡ Some kinds
+      → Enters other q kinds
   all_below zero q kinds h is = absurd (omega arith)
   all_below (suc n) q kinds h is =
       join_enters q kinds (front.only q kinds is).1
@@ -282,7 +283,8 @@ module _ (image : Image) (table : Table) (done : ℕ) (front : IsFront image tab
     enters : (to : ℕ) → LeadsTo a.instr a.next to → Enters other to gives
     room : length gives ≤ 32
 
-  halts_small : (i : Instr) (kinds gives : List CellKind) → i ≡ Halt → after image i kinds ≡ Some gives
+  halts_small : (i : Instr) (kinds gives : List CellKind) → i ≡ Halt
+      → after image i kinds ≡ Some gives
       → kinds ≡ gives
   halts_small i kinds gives e is =
       some_same kinds gives (ap (λ (j : Instr). after image j kinds) (sym e) ∙ is)

@@ -9,7 +9,8 @@ pub all_within_self : (xs : List CellKind) → AreWithin xs xs
 all_within_self [] = tt
 all_within_self (x ∷ xs) = (within_self x, all_within_self xs)
 
-pub all_within_along : (xs ys zs : List CellKind) → AreWithin xs ys → AreWithin ys zs → AreWithin xs zs
+pub all_within_along : (xs ys zs : List CellKind) → AreWithin xs ys → AreWithin ys zs
+    → AreWithin xs zs
 all_within_along [] [] zs h g = g
 all_within_along [] (y ∷ ys) zs h g = absurd h
 all_within_along (x ∷ xs) [] zs h g = absurd h

@@ -40,7 +40,8 @@ Comes image table done to kinds =
     ((to ≡ 0) × (kinds ≡ [])) ⊎ ((from : ℕ) × (from < done) × ComesFrom image table from to kinds)
 
 -- Something comes to the place, and these are the join of all that comes: the least kinds above it.
-pub record IsJoin (image : Image) (table : Table) (done to : ℕ) (kinds : List CellKind) : Type 0 where
+pub record IsJoin (image : Image) (table : Table) (done to : ℕ) (kinds : List CellKind)
+    : Type 0 where
   pub some : (first : List CellKind) × Comes image table done to first
   pub above : (others : List CellKind) → Comes image table done to others → AreWithin others kinds
   pub least : (top : List CellKind)

@@ -28,7 +28,8 @@ pub record IsBudget (code : List ℕ) (budget : ℕ) : Type 0 where
 
 -- the length of a longest list of the table
 pub record IsLongest (table : Table) (depth : ℕ) : Type 0 where
-  pub some : (place : ℕ) × (kinds : List CellKind) × (table place ≡ Some kinds) × (length kinds ≡ depth)
+  pub some : (place : ℕ) × (kinds : List CellKind) × (table place ≡ Some kinds)
+      × (length kinds ≡ depth)
   pub most : (place : ℕ) (kinds : List CellKind) → table place ≡ Some kinds → length kinds ≤ depth
 
 -- A table agrees with the code, and this is the length of a longest list of each that does.

@@ -9,6 +9,11 @@ loop-instr-preserved c =
     let at = c.loop-instr.invariant in
     record {
       bounded = omega (arith, c.bounded_sum-all.ensures);
-      counted = one_counted c.loop-instr.line.items c.pop.new.self.items c.in-Some.instr c.loop-instr.all c.bounded_sum-all.result c.octets_of.result line c.octets_of.ensures c.bounded_sum-all.ensures at.bounded ∙ at.counted;
-      before = one_before c.loop-instr.line.items c.pop.new.self.items c.loop-instr.behind.items c.push.new.self.items c.in-Some.instr line grown ∙ at.before;
+      counted =
+          one_counted c.loop-instr.line.items c.pop.new.self.items c.in-Some.instr c.loop-instr.all
+          c.bounded_sum-all.result c.octets_of.result line c.octets_of.ensures
+          c.bounded_sum-all.ensures at.bounded ∙ at.counted;
+      before =
+          one_before c.loop-instr.line.items c.pop.new.self.items c.loop-instr.behind.items
+          c.push.new.self.items c.in-Some.instr line grown ∙ at.before;
     }
