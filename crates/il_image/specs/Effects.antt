@@ -1,4 +1,5 @@
--- What an instruction does to the kinds on the stack, the top first, where it is allowed.
+-- The transfer function: what an instruction does to the kinds on the stack, the top first, where it
+-- is allowed.
 use Rattle.std.specs.Prelude.{ℕ, ℤ, pos, ◌&&◌, ◌||◌, Bool, not, List, [], ◌∷◌, nat_lt, slice_get, Option, Some, None, if◌then◌else◌}
 use Rattle.std.specs.Ordering.{int_eq}
 use Rattle.bay_base.specs.declared.types.ElementaryType.{ElementaryType}

@@ -103,11 +103,11 @@ with_truths n s act = with_slot n s (λ slot. with_top s.cells (λ top below. as
 abbrev pub with_numbers : Width → State → (ℤ → ℤ → List Value → Turn) → Turn
 with_numbers w s act = with_two s.cells (λ first second below. as_number w second (λ b. as_number w first (λ a. act a b below)))
 
--- a slot or a timer changes
+-- a slot changes
 abbrev pub stores : ℕ → Value → ℕ → State → Turn
 stores n v to s = Goes (record s { place = to; slots = slice_set s.slots n v })
 
--- and the cells with it
+-- a timer changes, and the cells with it
 abbrev pub changes : ℕ → TimerState → ℕ → List Value → State → Turn
 changes n t to cells s = Goes (record s { place = to; cells = cells; timers = slice_set s.timers n t })
 
@@ -153,11 +153,11 @@ abbrev pub stores_top : ℕ → ℕ → State → Turn
 stores_top n next s =
     with_slot n s (λ slot. with_top s.cells (λ top below. if same_type (type_of top) (type_of slot) then stores n top next s else Traps WrongKind))
 
--- The slot becomes TRUE, or FALSE, where the top is TRUE.
+-- The slot becomes TRUE where the top is TRUE.
 abbrev pub sets : ℕ → ℕ → State → Turn
 sets n next s = with_truths n s (λ top old. stores n (Truth (top || old)) next s)
 
--- The same, to FALSE.
+-- The slot becomes FALSE where the top is TRUE.
 abbrev pub resets : ℕ → ℕ → State → Turn
 resets n next s = with_truths n s (λ top old. stores n (Truth (not top && old)) next s)
 

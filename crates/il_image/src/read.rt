@@ -126,8 +126,8 @@ pub(crate) fn instr_from(version: Version, octets: &[u8]) -> Result<(Instr, &[u8
     }
 }
 
-// The instruction that stands first in the last octets of code of this length, and the place behind
-// it.
+// The instruction that stands first in the last octets of code of this length, and the offset
+// behind it.
 fn first_of(size: usize, octets: &[u8]) -> Option<(Instr, usize)>
     requires { length octets.now ≤ size }
     ensures { result ≡ placed size (spec.instr_from Version.Two octets.now) }
@@ -138,13 +138,13 @@ fn first_of(size: usize, octets: &[u8]) -> Option<(Instr, usize)>
     }
 }
 
-/// The instruction that stands at a place of the code, and the place behind it, if there is one.
-pub fn instr_at(code: &[u8], place: usize) -> Option<(Instr, usize)>
-    ensures value { result ≡ spec.instr_at code.now place }
-    ensures forward { IfSome result (λ r. (place < r.1) × (r.1 ≤ length code.now)) }
+/// The instruction that stands at an offset in the code, and the offset behind it, if there is one.
+pub fn instr_at(code: &[u8], offset: usize) -> Option<(Instr, usize)>
+    ensures value { result ≡ spec.instr_at code.now offset }
+    ensures forward { IfSome result (λ r. (offset < r.1) × (r.1 ≤ length code.now)) }
 {
-    if place >= code.len() {
+    if offset >= code.len() {
         return None;
     }
-    first_of(code.len(), &code[place..])
+    first_of(code.len(), &code[offset..])
 }
