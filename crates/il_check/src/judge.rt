@@ -29,7 +29,7 @@ const MAX_LABELS: usize = 256;
 /// Where an instruction stands: whether it can be reached, behind how many labels, and how many
 /// parentheses may yet stand around it within one another.
 #[derive(Clone, Copy)]
-pub(crate) struct Place {
+pub(crate) struct Context {
     pub(crate) is_reached: bool,
     pub(crate) passed: usize,
     pub(crate) room: usize,
@@ -38,17 +38,17 @@ pub(crate) struct Place {
 /// The fault that is answered after what an instruction names and what types it works on.
 fn note_typing(
     found: Option<CheckFault>,
-    place: Place,
+    context: Context,
     line: usize,
     resolved: Resolved,
     kind: Option<ElementaryType>,
 ) -> Option<CheckFault>
     ensures { result ≡ noted found
-        (spec.typing_faults place.is_reached place.passed line resolved kind) }
+        (spec.typing_faults context.is_reached context.passed line resolved kind) }
 {
-    let is_wrong = place.is_reached && is_wrong(resolved, kind);
-    let is_unset = place.is_reached && is_unset(resolved, kind);
-    let is_back = jumps_back(place.passed, resolved);
+    let is_wrong = context.is_reached && is_wrong(resolved, kind);
+    let is_unset = context.is_reached && is_unset(resolved, kind);
+    let is_back = jumps_back(context.passed, resolved);
     let found = note_if(
         found,
         misses_name(resolved),
@@ -84,16 +84,16 @@ fn note_others(
 /// The fault that is answered after an instruction.
 pub(crate) fn note_instruction(
     found: Option<CheckFault>,
-    place: Place,
+    context: Context,
     line: usize,
     resolved: Resolved,
     kind: Option<ElementaryType>,
 ) -> Option<CheckFault>
     ensures { result ≡ noted found
-        (spec.instruction_faults place.is_reached place.passed line resolved kind) }
+        (spec.instruction_faults context.is_reached context.passed line resolved kind) }
 {
-    let found = note_typing(found, place, line, resolved, kind);
-    note_others(found, place.is_reached, line, resolved)
+    let found = note_typing(found, context, line, resolved, kind);
+    note_others(found, context.is_reached, line, resolved)
 }
 
 /// The fault that is answered after an operator with a parenthesis.

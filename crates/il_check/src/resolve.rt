@@ -150,7 +150,7 @@ fn called_of(meaning: Option<Meaning>) -> Called
 
 impl Names {
     /// What a symbolic variable means: a variable, or an output of a timer.
-    fn place(
+    fn variable(
         &self,
         buffer: &mut String,
         variable: SymbolicVariable<'_>,
@@ -173,7 +173,7 @@ impl Names {
     {
         match operand {
             Operand::Literal(literal) => Ok(literal_given(literal)),
-            Operand::Variable(variable) => self.place(buffer, variable),
+            Operand::Variable(variable) => self.variable(buffer, variable),
         }
     }
 
@@ -244,7 +244,7 @@ impl Names {
                 Ok(Resolved::Load { negated, given })
             }
             Instruction::Store { kind, target } => {
-                let target = self.place(buffer, target)?;
+                let target = self.variable(buffer, target)?;
                 Ok(Resolved::Store { kind, target })
             }
             Instruction::Combine {

@@ -14,7 +14,7 @@ ghost use Rattle.il_check.specs.WellTyped as spec;
 
 use crate::fault::CheckFault;
 use crate::given::Resolved;
-use crate::judge::{Closing, Place, note_closing, note_instruction, note_label, note_opening};
+use crate::judge::{Closing, Context, note_closing, note_instruction, note_label, note_opening};
 use crate::names::Names;
 use crate::note::note_if;
 use crate::reach::{Reach, join, unreached};
@@ -65,7 +65,7 @@ impl Judge {
     fn instruction(
         &mut self,
         names: &Names,
-        place: Place,
+        context: Context,
         line: usize,
         instruction: Instruction<'_>,
         kind: Option<ElementaryType>,
@@ -74,11 +74,11 @@ impl Judge {
             (λ r. r ≡ resolved (names_of names.now) (action_of instruction.entry)) }
         ensures found { OnOk result (self.new.found
             ≡ noted self.old.found
-            (spec.instruction_faults place.is_reached place.passed line
+            (spec.instruction_faults context.is_reached context.passed line
             (resolved (names_of names.now) (action_of instruction.entry)) kind)) }
     {
         let resolved = names.resolve(&mut self.buffer, instruction)?;
-        self.found = note_instruction(self.found, place, line, resolved, kind);
+        self.found = note_instruction(self.found, context, line, resolved, kind);
         Ok(resolved)
     }
 
@@ -86,7 +86,7 @@ impl Judge {
     fn operate(
         &mut self,
         names: &Names,
-        place: Place,
+        context: Context,
         line: usize,
         instruction: Instruction<'_>,
         kind: Option<ElementaryType>,
@@ -96,14 +96,14 @@ impl Judge {
             (text.action line (action_of instruction.entry)) kind) }
         ensures left { IfOk result
             (λ l. option_map entry_view l.entry
-            ≡ spec.entry_left (names_of names.now) place.room
+            ≡ spec.entry_left (names_of names.now) context.room
             (text.action line (action_of instruction.entry)) kind) }
         ensures found { OnOk result (self.new.found
             ≡ noted self.old.found
-            (spec.entry_faults (names_of names.now) place.room place.is_reached place.passed
+            (spec.entry_faults (names_of names.now) context.room context.is_reached context.passed
             (text.action line (action_of instruction.entry)) kind)) }
     {
-        let resolved = self.instruction(names, place, line, instruction, kind)?;
+        let resolved = self.instruction(names, context, line, instruction, kind)?;
         Ok(EntryLeft {
             entry: entry_in(resolved, kind),
             kind: type_after(resolved, kind),
@@ -115,7 +115,7 @@ impl Judge {
     fn entries(
         &mut self,
         names: &Names,
-        place: Place,
+        context: Context,
         items: &[Item<'_>],
     ) -> Result<Passed, AllocError>
         ensures kind { IfOk result
@@ -123,11 +123,11 @@ impl Judge {
             (text.entries_of (map entry_of items.now)) None) }
         ensures left { IfOk result
             (λ p. plain.entries_of (map entry_view p.entries.items)
-            ≡ spec.entries_left (names_of names.now) place.room
+            ≡ spec.entries_left (names_of names.now) context.room
             (text.entries_of (map entry_of items.now)) None) }
         ensures found { OnOk result (self.new.found
             ≡ noted self.old.found
-            (spec.entries_faults (names_of names.now) place.room place.is_reached place.passed
+            (spec.entries_faults (names_of names.now) context.room context.is_reached context.passed
             (text.entries_of (map entry_of items.now)) None)) }
     {
         let mut passed = Passed {
@@ -135,7 +135,7 @@ impl Judge {
             kind: None,
         };
         for item in items {
-            let left = self.entry(names, place, item, passed.kind)?;
+            let left = self.entry(names, context, item, passed.kind)?;
             passed.add(left)?;
         }
         Ok(passed)
@@ -147,7 +147,7 @@ impl Judge {
     fn entry(
         &mut self,
         names: &Names,
-        place: Place,
+        context: Context,
         item: &Item<'_>,
         kind: Option<ElementaryType>,
     ) -> Result<EntryLeft, AllocError>
@@ -155,16 +155,16 @@ impl Judge {
             (λ l. l.kind ≡ spec.type_behind (names_of names.now) (entry_of item.now) kind) }
         ensures left { IfOk result
             (λ l. option_map entry_view l.entry
-            ≡ spec.entry_left (names_of names.now) place.room (entry_of item.now) kind) }
+            ≡ spec.entry_left (names_of names.now) context.room (entry_of item.now) kind) }
         ensures found { OnOk result (self.new.found
             ≡ noted self.old.found
-            (spec.entry_faults (names_of names.now) place.room place.is_reached place.passed
+            (spec.entry_faults (names_of names.now) context.room context.is_reached context.passed
             (entry_of item.now) kind)) }
     {
         match item {
             Item::Label { .. } => Ok(EntryLeft { entry: None, kind }),
             Item::Instruction { line, instruction } => {
-                self.operate(names, place, *line, *instruction, kind)
+                self.operate(names, context, *line, *instruction, kind)
             }
             Item::Block {
                 line,
@@ -179,7 +179,7 @@ impl Judge {
                     negated: *negated,
                     end: *end,
                 };
-                let entry = self.block(names, place, parenthesis, items.as_slice(), kind)?;
+                let entry = self.block(names, context, parenthesis, items.as_slice(), kind)?;
                 Ok(EntryLeft {
                     entry,
                     kind: given_type(*operator, kind),
@@ -194,18 +194,18 @@ impl Judge {
     fn block(
         &mut self,
         names: &Names,
-        place: Place,
+        context: Context,
         parenthesis: Parenthesis,
         items: &[Item<'_>],
         kind: Option<ElementaryType>,
     ) -> Result<Option<TypedEntry>, AllocError>
         ensures left { IfOk result (λ b. option_map entry_view b
-            ≡ spec.entry_left (names_of names.now) place.room
+            ≡ spec.entry_left (names_of names.now) context.room
             (text.block parenthesis.line parenthesis.operator parenthesis.negated
             (text.entries_of (map entry_of items.now)) parenthesis.end) kind) }
         ensures found { OnOk result (self.new.found
             ≡ noted self.old.found
-            (spec.entry_faults (names_of names.now) place.room place.is_reached place.passed
+            (spec.entry_faults (names_of names.now) context.room context.is_reached context.passed
             (text.block parenthesis.line parenthesis.operator parenthesis.negated
             (text.entries_of (map entry_of items.now)) parenthesis.end) kind)) }
     {
@@ -215,15 +215,15 @@ impl Judge {
             negated,
             end,
         } = parenthesis;
-        self.found = note_opening(self.found, place.is_reached, line, operator);
-        if place.room == 0 {
+        self.found = note_opening(self.found, context.is_reached, line, operator);
+        if context.room == 0 {
             self.found = note_if(self.found, true, CheckFault::TooMany { line });
             return Ok(block_of(operator, negated, Vec::new(self.alloc), kind));
         }
-        let within = Place {
-            is_reached: place.is_reached,
-            passed: place.passed,
-            room: place.room - 1,
+        let within = Context {
+            is_reached: context.is_reached,
+            passed: context.passed,
+            room: context.room - 1,
         };
         let inner = self.entries(names, within, items)?;
         let closing = Closing {
@@ -231,7 +231,7 @@ impl Judge {
             negated,
             inner: inner.kind,
         };
-        self.found = note_closing(self.found, place.is_reached, end, closing, kind);
+        self.found = note_closing(self.found, context.is_reached, end, closing, kind);
         Ok(block_of(operator, negated, inner.entries, kind))
     }
 }
@@ -311,11 +311,11 @@ pub(crate) struct Walk {
 
 impl Walk {
     /// Where the next item stands: in no parenthesis.
-    fn place(&self) -> Place
+    fn context(&self) -> Context
         ensures { result ≡ record
             { is_reached = self.now.reach.is_reached; passed = self.now.passed; room = 16 } }
     {
-        Place {
+        Context {
             is_reached: self.reach.is_reached,
             passed: self.passed,
             room: MAX_DEPTH,
@@ -485,7 +485,7 @@ impl Judge {
             (spec.item_faults (names_of names.now)
             (text.action line (action_of instruction.entry)) (standing_of walk.old))) }
     {
-        let resolved = self.instruction(names, walk.place(), line, instruction, walk.reach.kind)?;
+        let resolved = self.instruction(names, walk.context(), line, instruction, walk.reach.kind)?;
         walk.add_instruction(resolved)?;
         walk.follow(resolved);
         Ok(())
@@ -512,7 +512,7 @@ impl Judge {
             (spec.entry_faults (names_of names.now) 16 walk.old.reach.is_reached walk.old.passed
             (entry_of item.now) walk.old.reach.kind)) }
     {
-        let left = self.entry(names, walk.place(), item, walk.reach.kind)?;
+        let left = self.entry(names, walk.context(), item, walk.reach.kind)?;
         walk.add_block(left)
     }
 

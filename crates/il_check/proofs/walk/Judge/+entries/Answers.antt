@@ -12,22 +12,22 @@ use Rattle.il_check.proofs.walk.Judge.+entries.Goals as goal
 
 pub block-returns-clause-found : goal.block-returns-clause-found
 block-returns-clause-found t c =
-    looked_found _ _ c.args.place.room c.args.parenthesis.line _ _ c.if-place-eq0.false
+    looked_found _ _ c.args.context.room c.args.parenthesis.line _ _ c.if-context-eq0.false
     (noted-after _ _ _ _ _ _ _ c.note_opening-self.ensures c.in_ok-inner.ensures.found
     (c.note_closing-self.ensures
     ∙ ap (λ k. noted c.entries.new.self.found
-    (closing_faults c.args.place.is_reached c.args.parenthesis.end c.args.parenthesis.operator
+    (closing_faults c.args.context.is_reached c.args.parenthesis.end c.args.parenthesis.operator
     c.args.parenthesis.negated k c.args.kind)) c.in_ok-inner.ensures.kind))
 
-pub block-returns-then-place-eq0-clause-found : goal.block-returns-then-place-eq0-clause-found
-block-returns-then-place-eq0-clause-found t c =
-    deep_found _ _ _ c.args.place.room c.args.parenthesis.line _ _ c.if-place-eq0.true
+pub block-returns-then-context-eq0-clause-found : goal.block-returns-then-context-eq0-clause-found
+block-returns-then-context-eq0-clause-found t c =
+    deep_found _ _ _ c.args.context.room c.args.parenthesis.line _ _ c.if-context-eq0.true
     c.note_opening-self.ensures c.note_if-self.ensures
 
 pub entries-loop-item-preserved : goal.entries-loop-item-preserved
 entries-loop-item-preserved t c =
-    entries-more (names_of c.args.names.now) c.args.place.room c.args.place.is_reached
-    c.args.place.passed c.args.items.now c.args.self.now.found
+    entries-more (names_of c.args.names.now) c.args.context.room c.args.context.is_reached
+    c.args.context.passed c.args.items.now c.args.self.now.found
     c.loop-item.item-index c.item-item.result c.loop-item.self.found c.entry.new.self.found
     c.loop-item.passed c.add.new.self (omega arith) c.item-item.is
     c.loop-item.invariant
@@ -41,8 +41,8 @@ entries-loop-item-preserved t c =
 
 pub entries-returns-clause-left : goal.entries-returns-clause-left
 entries-returns-clause-left t c =
-    entries-left (names_of c.args.names.now) c.args.place.room c.args.place.is_reached
-    c.args.place.passed c.args.items.now c.args.self.now.found
+    entries-left (names_of c.args.names.now) c.args.context.room c.args.context.is_reached
+    c.args.context.passed c.args.items.now c.args.self.now.found
     c.loop-item.item-index c.loop-item.self.found c.loop-item.passed (omega arith)
     c.loop-item.invariant
 
