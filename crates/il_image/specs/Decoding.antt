@@ -25,7 +25,9 @@ behind (m ∷ marks) (octet ∷ octets) = if octet == m then behind marks octets
 -- the version behind the mark
 abbrev pub version_at : List ℕ → Read Version
 version_at [] = Err Truncated
-version_at (octet ∷ rest) = if octet == 0x01 then Ok (One, rest) else (if octet == 0x02 then Ok (Two, rest) else Err BadVersion)
+version_at (octet ∷ rest) =
+    if octet == 0x01 then Ok (One, rest)
+    else (if octet == 0x02 then Ok (Two, rest) else Err BadVersion)
 
 -- LINT is new in version 2.
 abbrev pub newest_type : Version → Option ElementaryType
@@ -62,7 +64,8 @@ access_at octets = do
 -- a name of this length: its first octet that is none of a name comes before its missing end
 abbrev pub name_of_length : ℕ → List ℕ → Read (List ℕ)
 name_of_length n octets =
-    if list_all is_name_octet (take n octets) then (if nat_lt (length octets) n then Err Truncated else Ok (take n octets, drop n octets))
+    if list_all is_name_octet (take n octets)
+    then (if nat_lt (length octets) n then Err Truncated else Ok (take n octets, drop n octets))
     else Err BadOpcode
 
 -- a name behind its length, which is 1 to 64
@@ -87,7 +90,8 @@ variable_at version octets = do
 
 -- the kind of timer that an octet stands for
 abbrev pub kind_of_octet : ℕ → Option TimerKind
-kind_of_octet octet = if octet == 0x01 then Some OnDelay else (if octet == 0x02 then Some OffDelay else None)
+kind_of_octet octet =
+    if octet == 0x01 then Some OnDelay else (if octet == 0x02 then Some OffDelay else None)
 
 -- a timer, of which version 1 says nothing: there all are TON
 unfoldable pub timer_at : Version → List ℕ → Read TimerKind
@@ -121,7 +125,8 @@ fault_behind (Err fault) fault_of = Some fault
 abbrev pub code_fault : Version → ℕ → List ℕ → Option ImageFault
 code_fault version zero octets = None
 code_fault version (suc most) [] = None
-code_fault version (suc most) (octet ∷ octets) = fault_behind (instr_from version (octet ∷ octets)) (λ rest. code_fault version most rest)
+code_fault version (suc most) (octet ∷ octets) =
+    fault_behind (instr_from version (octet ∷ octets)) (λ rest. code_fault version most rest)
 
 -- the fault, if there is one, or else the result
 abbrev pub unless : {A : Type 0} → Option ImageFault → Result A ImageFault → Result A ImageFault
@@ -131,7 +136,8 @@ unless (Some fault) r = Err fault
 -- octets that are code: a fault in them comes before a length that is not theirs
 abbrev pub code_of_length : Version → ℕ → List ℕ → Result (List ℕ) ImageFault
 code_of_length version n octets =
-    unless (code_fault version (length (take n octets)) (take n octets)) (if length octets == n then Ok octets else Err Truncated)
+    unless (code_fault version (length (take n octets)) (take n octets))
+    (if length octets == n then Ok octets else Err Truncated)
 
 -- the octets of the code behind their number, with nothing behind them
 unfoldable pub code_at : Version → List ℕ → Result (List ℕ) ImageFault

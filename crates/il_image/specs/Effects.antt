@@ -1,5 +1,5 @@
--- The transfer function: what an instruction does to the kinds on the stack, the top first, where it
--- is allowed.
+-- The transfer function: what an instruction does to the kinds on the stack, the top first, where
+-- it is allowed.
 use Rattle.std.specs.Prelude.{ℕ, ℤ, pos, ◌&&◌, ◌||◌, Bool, not, List, [], ◌∷◌, nat_lt, slice_get, Option, Some, None, if◌then◌else◌}
 use Rattle.std.specs.Ordering.{int_eq}
 use Rattle.bay_base.specs.declared.types.ElementaryType.{ElementaryType}
@@ -35,7 +35,8 @@ looks_at wanted kinds = below wanted kinds >>= (λ rest. Some kinds)
 
 -- two cells within the wanted kinds, the first of them the top, become one
 abbrev pub two : CellKind → CellKind → CellKind → List CellKind → Option (List CellKind)
-two top second gives kinds = below top kinds >>= (λ more. below second more >>= (λ rest. Some (gives ∷ rest)))
+two top second gives kinds =
+    below top kinds >>= (λ more. below second more >>= (λ rest. Some (gives ∷ rest)))
 
 -- a number of a width: whether it is not zero is known
 abbrev pub kind_of_number : Width → ℤ → CellKind
@@ -66,7 +67,8 @@ are_compared c t u = same_type t u && (not (same_type t elementary.Bool) || tell
 -- two cells that show one type become a BOOL
 abbrev pub compares : Comparison → List CellKind → Option (List CellKind)
 compares c (top ∷ second ∷ rest) =
-    type_of_kind top >>= (λ t. type_of_kind second >>= (λ u. if are_compared c u t then Some (Plain elementary.Bool ∷ rest) else None))
+    type_of_kind top >>= (λ t. type_of_kind second
+    >>= (λ u. if are_compared c u t then Some (Plain elementary.Bool ∷ rest) else None))
 compares c (top ∷ []) = None
 compares c [] = None
 
@@ -74,11 +76,16 @@ compares c [] = None
 abbrev pub widens : Width → Width → List CellKind → Option (List CellKind)
 widens from to [] = None
 widens from to (top ∷ rest) =
-    if is_within top (NotZero from) then Some (NotZero to ∷ rest) else (if is_within top (Plain (type_of_width from)) then Some (Plain (type_of_width to) ∷ rest) else None)
+    if is_within top (NotZero from)
+    then Some (NotZero to ∷ rest)
+    else (if is_within top (Plain (type_of_width from))
+    then Some (Plain (type_of_width to) ∷ rest) else None)
 
 -- a slot's type, which has to be BOOL
 abbrev pub with_truth : List ElementaryType → ℕ → List CellKind → Option (List CellKind)
-with_truth slots n kinds = slice_get slots n >>= (λ t. if same_type t elementary.Bool then looks_at (Plain elementary.Bool) kinds else None)
+with_truth slots n kinds =
+    slice_get slots n >>= (λ t. if same_type t elementary.Bool
+    then looks_at (Plain elementary.Bool) kinds else None)
 
 -- the kinds, where there is a timer of the number
 abbrev pub with_timer : ℕ → ℕ → Option (List CellKind) → Option (List CellKind)
@@ -94,17 +101,24 @@ effect slots timers (Slot Load n) kinds = slice_get slots n >>= (λ t. Some (Pla
 effect slots timers (Slot Store n) kinds = slice_get slots n >>= (λ t. looks_at (Plain t) kinds)
 effect slots timers (Slot SetIf n) kinds = with_truth slots n kinds
 effect slots timers (Slot ResetIf n) kinds = with_truth slots n kinds
-effect slots timers Not kinds = below (Plain elementary.Bool) kinds >>= (λ rest. Some (Plain elementary.Bool ∷ rest))
-effect slots timers (Combine c) kinds = two (Plain elementary.Bool) (Plain elementary.Bool) (Plain elementary.Bool) kinds
-effect slots timers (Compute o w) kinds = two (second_kind o w) (Plain (type_of_width w)) (Plain (type_of_width w)) kinds
+effect slots timers Not kinds =
+    below (Plain elementary.Bool) kinds >>= (λ rest. Some (Plain elementary.Bool ∷ rest))
+effect slots timers (Combine c) kinds =
+    two (Plain elementary.Bool) (Plain elementary.Bool) (Plain elementary.Bool) kinds
+effect slots timers (Compute o w) kinds =
+    two (second_kind o w) (Plain (type_of_width w)) (Plain (type_of_width w)) kinds
 effect slots timers (Compare c) kinds = compares c kinds
 effect slots timers (Widen IntToDint) kinds = widens width.Int width.Dint kinds
 effect slots timers (Widen DintToLint) kinds = widens width.Dint width.Lint kinds
 effect slots timers (Jump Always distance) kinds = Some kinds
 effect slots timers (Jump IfTrue distance) kinds = looks_at (Plain elementary.Bool) kinds
 effect slots timers (Jump IfFalse distance) kinds = looks_at (Plain elementary.Bool) kinds
-effect slots timers (Timer SetInput n) kinds = with_timer timers n (below (Plain elementary.Bool) kinds)
-effect slots timers (Timer SetPreset n) kinds = with_timer timers n (below (Plain elementary.Time) kinds)
+effect slots timers (Timer SetInput n) kinds =
+    with_timer timers n (below (Plain elementary.Bool) kinds)
+effect slots timers (Timer SetPreset n) kinds =
+    with_timer timers n (below (Plain elementary.Time) kinds)
 effect slots timers (Timer Run n) kinds = with_timer timers n (Some kinds)
-effect slots timers (Timer LoadOutput n) kinds = with_timer timers n (Some (Plain elementary.Bool ∷ kinds))
-effect slots timers (Timer LoadElapsed n) kinds = with_timer timers n (Some (Plain elementary.Time ∷ kinds))
+effect slots timers (Timer LoadOutput n) kinds =
+    with_timer timers n (Some (Plain elementary.Bool ∷ kinds))
+effect slots timers (Timer LoadElapsed n) kinds =
+    with_timer timers n (Some (Plain elementary.Time ∷ kinds))

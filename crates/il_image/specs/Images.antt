@@ -33,7 +33,9 @@ Each P (x ∷ xs) = P x × Each P xs
 
 -- an upper-case letter, a digit or an underscore
 abbrev pub is_name_octet : ℕ → Bool
-is_name_octet octet = (nat_le 0x41 octet && nat_le octet 0x5A) || (nat_le 0x30 octet && nat_le octet 0x39) || (octet == 0x5F)
+is_name_octet octet =
+    (nat_le 0x41 octet && nat_le octet 0x5A) || (nat_le 0x30 octet && nat_le octet 0x39)
+    || (octet == 0x5F)
 
 -- The name has 1 to 64 such octets.
 pub record IsName (name : List ℕ) : Type 0 where
@@ -83,7 +85,8 @@ type_octet elementary.Lint = 0x05
 
 -- a point: its type, whether it may be written, and its name behind its length
 abbrev pub point_octets : ImagePoint → List ℕ
-point_octets p = type_octet p.elementary ∷ (if p.writable then 0x01 else 0x00) ∷ length p.name ∷ p.name
+point_octets p =
+    type_octet p.elementary ∷ (if p.writable then 0x01 else 0x00) ∷ length p.name ∷ p.name
 
 -- the size of initial values
 abbrev pub value_size : Version → Size
@@ -92,7 +95,8 @@ value_size Two = size.Eight
 
 -- a variable: its type and its initial value
 abbrev pub variable_octets : Version → Value → List ℕ
-variable_octets version v = type_octet (type_of v) ∷ signed_octets (value_size version) (number_of v)
+variable_octets version v =
+    type_octet (type_of v) ∷ signed_octets (value_size version) (number_of v)
 
 -- In version 1 all timers are TON, and nothing is said of them.
 abbrev pub timer_octets : Version → TimerKind → List ℕ
@@ -121,5 +125,6 @@ version_octet Two = 0x02
 -- the octets of an image in a version of the format
 unfoldable pub encoded : Version → Image → List ℕ
 encoded version i =
-    mark ++ (version_octet version ∷ (counted point_octets i.points ++ (counted (variable_octets version) i.variables ++
+    mark ++ (version_octet version
+    ∷ (counted point_octets i.points ++ (counted (variable_octets version) i.variables ++
     (counted (timer_octets version) i.timers ++ (number_octets (length i.code) ++ i.code)))))

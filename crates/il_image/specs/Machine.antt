@@ -97,11 +97,15 @@ with_timer n s act = elim (slice_get s.timers n) [ None ↦ Traps MissingTimer |
 
 -- the top and a slot, which are BOOLs
 abbrev pub with_truths : ℕ → State → (Bool → Bool → Turn) → Turn
-with_truths n s act = with_slot n s (λ slot. with_top s.cells (λ top below. as_truth top (λ b. as_truth slot (λ old. act b old))))
+with_truths n s act =
+    with_slot n s (λ slot. with_top s.cells
+    (λ top below. as_truth top (λ b. as_truth slot (λ old. act b old))))
 
 -- two numbers of a width
 abbrev pub with_numbers : Width → State → (ℤ → ℤ → List Value → Turn) → Turn
-with_numbers w s act = with_two s.cells (λ first second below. as_number w second (λ b. as_number w first (λ a. act a b below)))
+with_numbers w s act =
+    with_two s.cells (λ first second below. as_number w second
+    (λ b. as_number w first (λ a. act a b below)))
 
 -- a slot changes
 abbrev pub stores : ℕ → Value → ℕ → State → Turn
@@ -109,7 +113,8 @@ stores n v to s = Goes (record s { place = to; slots = slice_set s.slots n v })
 
 -- a timer changes, and the cells with it
 abbrev pub changes : ℕ → TimerState → ℕ → List Value → State → Turn
-changes n t to cells s = Goes (record s { place = to; cells = cells; timers = slice_set s.timers n t })
+changes n t to cells s =
+    Goes (record s { place = to; cells = cells; timers = slice_set s.timers n t })
 
 -- the number of a width as a value
 abbrev pub value_of_width : Width → ℤ → Value
@@ -136,7 +141,9 @@ tells_equality Lt = false
 
 -- Values of one type are compared, BOOLs for equality alone.
 abbrev pub is_comparable : Comparison → Value → Value → Bool
-is_comparable c a b = same_type (type_of a) (type_of b) && (not (same_type (type_of a) elementary.Bool) || tells_equality c)
+is_comparable c a b =
+    same_type (type_of a) (type_of b)
+    && (not (same_type (type_of a) elementary.Bool) || tells_equality c)
 
 -- ---- what each instruction does, with the place behind it
 
@@ -151,7 +158,9 @@ loads n next s = with_slot n s (λ slot. pushes slot next s)
 -- The slot takes the top, which is of its type.
 abbrev pub stores_top : ℕ → ℕ → State → Turn
 stores_top n next s =
-    with_slot n s (λ slot. with_top s.cells (λ top below. if same_type (type_of top) (type_of slot) then stores n top next s else Traps WrongKind))
+    with_slot n s (λ slot. with_top s.cells
+    (λ top below. if same_type (type_of top) (type_of slot) then stores n top next s
+    else Traps WrongKind))
 
 -- The slot becomes TRUE where the top is TRUE.
 abbrev pub sets : ℕ → ℕ → State → Turn
@@ -163,26 +172,33 @@ resets n next s = with_truths n s (λ top old. stores n (Truth (not top && old))
 
 -- The top is negated.
 abbrev pub inverts : ℕ → State → Turn
-inverts next s = with_top s.cells (λ top below. as_truth top (λ b. goes next (Truth (not b) ∷ below) s))
+inverts next s =
+    with_top s.cells (λ top below. as_truth top (λ b. goes next (Truth (not b) ∷ below) s))
 
 -- Two BOOLs become one.
 abbrev pub connects : Connective → ℕ → State → Turn
 connects c next s =
-    with_two s.cells (λ first second below. as_truth second (λ b. as_truth first (λ a. goes next (Truth (connected c a b) ∷ below) s)))
+    with_two s.cells (λ first second below. as_truth second
+    (λ b. as_truth first (λ a. goes next (Truth (connected c a b) ∷ below) s)))
 
 -- Two numbers become their result; the divisor is not 0.
 abbrev pub computes : Operation → Width → ℕ → State → Turn
 computes o w next s =
-    with_numbers w s (λ a b below. if divides o && int_eq b (pos 0) then Traps ZeroDivisor else goes next (value_of_width w (computed o w a b) ∷ below) s)
+    with_numbers w s (λ a b below. if divides o && int_eq b (pos 0) then Traps ZeroDivisor
+    else goes next (value_of_width w (computed o w a b) ∷ below) s)
 
 -- Two values become a BOOL.
 abbrev pub compares : Comparison → ℕ → State → Turn
 compares c next s =
-    with_two s.cells (λ a b below. if is_comparable c a b then goes next (Truth (compared c (number_of a) (number_of b)) ∷ below) s else Traps WrongKind)
+    with_two s.cells (λ a b below. if is_comparable c a b
+    then goes next (Truth (compared c (number_of a) (number_of b)) ∷ below) s
+    else Traps WrongKind)
 
 -- The top becomes a value of the wider type.
 abbrev pub widens : Widening → ℕ → State → Turn
-widens w next s = with_top s.cells (λ top below. elim (widened w top) [ None ↦ Traps WrongKind | Some v ↦ goes next (v ∷ below) s ])
+widens w next s =
+    with_top s.cells (λ top below.
+    elim (widened w top) [ None ↦ Traps WrongKind | Some v ↦ goes next (v ∷ below) s ])
 
 -- A jump looks at the top, and leaves it.
 abbrev pub jumps_where : (Bool → ℕ) → State → Turn
@@ -190,11 +206,15 @@ jumps_where to s = with_top s.cells (λ top below. as_truth top (λ b. goes (to 
 
 -- The top becomes IN of the timer.
 abbrev pub takes_input : ℕ → ℕ → State → Turn
-takes_input n next s = with_timer n s (λ t. with_top s.cells (λ top below. as_truth top (λ b. changes n (record t { input = b }) next below s)))
+takes_input n next s =
+    with_timer n s (λ t. with_top s.cells
+    (λ top below. as_truth top (λ b. changes n (record t { input = b }) next below s)))
 
 -- The top becomes PT of the timer.
 abbrev pub takes_preset : ℕ → ℕ → State → Turn
-takes_preset n next s = with_timer n s (λ t. with_top s.cells (λ top below. as_span top (λ preset. changes n (record t { preset = preset }) next below s)))
+takes_preset n next s =
+    with_timer n s (λ t. with_top s.cells
+    (λ top below. as_span top (λ preset. changes n (record t { preset = preset }) next below s)))
 
 -- The timer is called at the moment.
 abbrev pub runs_timer : ℕ → ℕ → ℕ → State → Turn
@@ -258,7 +278,8 @@ ending_of (Traps trap) s steps rest = Trapped trap
 -- a run of at most so many steps from a state, after this many
 unfoldable pub run : List ℕ → ℕ → ℕ → State → ℕ → Ending
 run code now zero s steps = Unfinished
-run code now (suc most) s steps = ending_of (turn code now s) s (steps + 1) (λ after. run code now most after (steps + 1))
+run code now (suc most) s steps =
+    ending_of (turn code now s) s (steps + 1) (λ after. run code now most after (steps + 1))
 
 -- A run begins at place 0 without cells.
 abbrev pub initial_state : List Value → List TimerState → State

@@ -57,8 +57,10 @@ octet_of (Timer LoadElapsed) = 0x22
 -- every opcode
 abbrev pub opcodes : List Opcode
 opcodes =
-    Halt ∷ Push elementary.Bool ∷ Push elementary.Int ∷ Push elementary.Dint ∷ Push elementary.Time ∷ Drop ∷
-    Slot Load ∷ Slot Store ∷ Slot SetIf ∷ Slot ResetIf ∷ Not ∷ Combine And ∷ Combine Or ∷ Combine Xor ∷
+    Halt ∷ Push elementary.Bool ∷ Push elementary.Int ∷ Push elementary.Dint ∷ Push elementary.Time
+    ∷ Drop ∷
+    Slot Load ∷ Slot Store ∷ Slot SetIf ∷ Slot ResetIf ∷ Not ∷ Combine And ∷ Combine Or
+    ∷ Combine Xor ∷
     Compute Add ∷ Compute Sub ∷ Compute Mul ∷ Compute Div ∷ Compute Mod ∷
     Compare Gt ∷ Compare Ge ∷ Compare Eq ∷ Compare Ne ∷ Compare Le ∷ Compare Lt ∷ Widen IntToDint ∷
     Jump Always ∷ Jump IfTrue ∷ Jump IfFalse ∷
@@ -83,5 +85,9 @@ width_octet width.Lint = 0x05
 
 -- the width that has an octet in a version
 abbrev pub width_of : Version → ℕ → Option Width
-width_of One octet = if octet == 0x02 then Some width.Int else (if octet == 0x03 then Some width.Dint else None)
-width_of Two octet = if octet == 0x02 then Some width.Int else (if octet == 0x03 then Some width.Dint else (if octet == 0x05 then Some width.Lint else None))
+width_of One octet =
+    if octet == 0x02 then Some width.Int else (if octet == 0x03 then Some width.Dint else None)
+width_of Two octet =
+    if octet == 0x02 then Some width.Int
+    else (if octet == 0x03 then Some width.Dint
+    else (if octet == 0x05 then Some width.Lint else None))

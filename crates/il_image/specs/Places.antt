@@ -1,5 +1,5 @@
--- Where the instructions of code begin: the place of an instruction is the offset of its first octet in
--- the code.
+-- Where the instructions of code begin: the place of an instruction is the offset of its first
+-- octet in the code.
 use Rattle.std.specs.Prelude.{ℕ, zero, suc, ◌≡◌, ◌<◌, ◌==◌, ◌&&◌, ◌||◌, Bool, false, List, length, nat_lt, Option, Some, None, option_map, if◌then◌else◌}
 use Rattle.il_image.specs.declared.instr.Instr.{Instr}
 use Rattle.il_image.specs.Reading.{instr_at}

@@ -36,13 +36,17 @@ octet_at (octet ∷ rest) = Ok (octet, rest)
 
 -- a number of 16 bits without a sign
 abbrev pub number_at : List ℕ → Read ℕ
-number_at octets = if nat_lt (length octets) 2 then Err Truncated else Ok (from_be_bytes w16 octets, drop 2 octets)
+number_at octets =
+    if nat_lt (length octets) 2 then Err Truncated else Ok (from_be_bytes w16 octets, drop 2 octets)
 
 -- a number in two's complement
 abbrev pub signed_at : Size → List ℕ → Read ℤ
 signed_at size octets =
     if nat_lt (length octets) (octet_count size) then Err Truncated
-    else Ok (cast_signed (bits_of_size size) (from_be_bytes (bits_of_size size) octets), drop (octet_count size) octets)
+    else Ok (
+      cast_signed (bits_of_size size) (from_be_bytes (bits_of_size size) octets),
+      drop (octet_count size) octets,
+    )
 
 -- a value, whose number has to be one of its type
 abbrev pub value_at : Size → ElementaryType → List ℕ → Read Value

@@ -53,7 +53,8 @@ Enters table place kinds = (most : List CellKind) × (table place ≡ Some most)
 
 -- The instruction at the place is allowed on these kinds, and what it gives enters each of its
 -- successors.
-pub record IsAllowed (image : Image) (table : Table) (place : ℕ) (kinds : List CellKind) : Type 0 where
+pub record IsAllowed (image : Image) (table : Table) (place : ℕ) (kinds : List CellKind)
+    : Type 0 where
   pub instr : Instr
   pub next : ℕ
   pub after : List CellKind
@@ -67,9 +68,11 @@ pub record IsAllowed (image : Image) (table : Table) (place : ℕ) (kinds : List
 pub record Agrees (image : Image) (table : Table) : Type 0 where
   pub starts : table 0 ≡ Some []
   pub places : (place : ℕ) → IsSome (table place) ↔ IsPlace image.code place
-  pub allowed : (place : ℕ) (kinds : List CellKind) → table place ≡ Some kinds → IsAllowed image table place kinds
+  pub allowed : (place : ℕ) (kinds : List CellKind) → table place ≡ Some kinds
+      → IsAllowed image table place kinds
   pub room : (place : ℕ) (kinds : List CellKind) → table place ≡ Some kinds → length kinds ≤ 32
-  pub reached : (place : ℕ) → IsPlace image.code place → place ≢ 0 → (from : ℕ) × IsPlace image.code from × IsSuccessor image.code from place
+  pub reached : (place : ℕ) → IsPlace image.code place → place ≢ 0
+      → (from : ℕ) × IsPlace image.code from × IsSuccessor image.code from place
 
 -- Some table agrees with the image's code.
 abbrev pub HasTable : Image → Type 0

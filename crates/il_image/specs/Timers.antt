@@ -8,7 +8,8 @@ use Rattle.bay_base.specs.declared.types.TimerKind.TheVariants.{OnDelay, OffDela
 
 -- a timer before its first call
 abbrev pub first_state : TimerKind → TimerState
-first_state kind = record { kind = kind; input = false; preset = 0; phase = Idle; output = false; elapsed = 0 }
+first_state kind =
+    record { kind = kind; input = false; preset = 0; phase = Idle; output = false; elapsed = 0 }
 
 -- the phase after a call with this IN at the moment m
 abbrev pub phase_after : TimerKind → Bool → TimerPhase → ℕ → TimerPhase
@@ -38,7 +39,11 @@ elapsed_of preset (Since start) m = min (m - start) preset
 abbrev pub called : TimerState → ℕ → TimerState
 called t m =
     let phase = phase_after t.kind t.input t.phase m in
-    record t { phase = phase; output = output_of t.kind t.preset phase m; elapsed = elapsed_of t.preset phase m }
+    record t {
+      phase = phase;
+      output = output_of t.kind t.preset phase m;
+      elapsed = elapsed_of t.preset phase m;
+    }
 
 -- ---- lists of calls
 
@@ -51,7 +56,8 @@ pub record Call : Type 0 where
 -- a timer after calls, the last of them first in the list
 abbrev pub after : TimerKind → List Call → TimerState
 after kind [] = first_state kind
-after kind (c ∷ earlier) = called (record (after kind earlier) { input = c.input; preset = c.preset }) c.moment
+after kind (c ∷ earlier) =
+    called (record (after kind earlier) { input = c.input; preset = c.preset }) c.moment
 
 -- Each of the calls has this IN.
 abbrev pub AllHave : Bool → List Call → Type 0

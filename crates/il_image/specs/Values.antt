@@ -35,7 +35,8 @@ is_between low high z = int_le low z && int_le z high
 
 -- the values of BOOL
 abbrev pub truth_of : ℤ → Option Value
-truth_of (pos n) = if n == 0 then Some (Truth false) else (if n == 1 then Some (Truth true) else None)
+truth_of (pos n) =
+    if n == 0 then Some (Truth false) else (if n == 1 then Some (Truth true) else None)
 truth_of (negsuc n) = None
 
 -- the values of TIME: 0 to 2,147,483,647 milliseconds
@@ -46,7 +47,11 @@ span_of (negsuc n) = None
 -- the value of a type that has the number, if there is one
 abbrev pub value_of : ElementaryType → ℤ → Option Value
 value_of elementary.Bool z = truth_of z
-value_of elementary.Int z = if is_between (negsuc 0x7FFF) (pos 0x7FFF) z then Some (Short z) else None
-value_of elementary.Dint z = if is_between (negsuc 0x7FFF_FFFF) (pos 0x7FFF_FFFF) z then Some (Long z) else None
-value_of elementary.Lint z = if is_between (negsuc 0x7FFF_FFFF_FFFF_FFFF) (pos 0x7FFF_FFFF_FFFF_FFFF) z then Some (Wide z) else None
+value_of elementary.Int z =
+    if is_between (negsuc 0x7FFF) (pos 0x7FFF) z then Some (Short z) else None
+value_of elementary.Dint z =
+    if is_between (negsuc 0x7FFF_FFFF) (pos 0x7FFF_FFFF) z then Some (Long z) else None
+value_of elementary.Lint z =
+    if is_between (negsuc 0x7FFF_FFFF_FFFF_FFFF) (pos 0x7FFF_FFFF_FFFF_FFFF) z then Some (Wide z)
+    else None
 value_of elementary.Time z = span_of z

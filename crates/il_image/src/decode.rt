@@ -139,7 +139,8 @@ fn point_at(
     version: Version,
     octets: &[u8],
 ) -> Result<(ImagePoint, &[u8]), ImageFault>
-    ensures { Gives ImageFault.OutOfMemory (λ r. (r.0, r.1.now)) result (spec.point_at version octets.now) }
+    ensures { Gives ImageFault.OutOfMemory (λ r. (r.0, r.1.now)) result
+        (spec.point_at version octets.now) }
 {
     let (elementary, rest) = type_at(version, octets)?;
     let (writable, rest) = access_at(rest)?;
@@ -196,7 +197,8 @@ fn points_at(
     version: Version,
     octets: &[u8],
 ) -> Result<(Listing<ImagePoint>, &[u8]), ImageFault>
-    ensures read { Gives ImageFault.OutOfMemory (λ r. (r.0, r.1.now)) result (counted_at (spec.point_at version) octets.now) }
+    ensures read { Gives ImageFault.OutOfMemory (λ r. (r.0, r.1.now)) result
+        (counted_at (spec.point_at version) octets.now) }
     ensures memory { IsErrOf result ImageFault.OutOfMemory → 2 ≤ length octets.now }
 {
     let (count, mut rest) = number_at(octets)?;
@@ -215,7 +217,8 @@ fn variables_at(
     version: Version,
     octets: &[u8],
 ) -> Result<(Listing<Value>, &[u8]), ImageFault>
-    ensures { Gives ImageFault.OutOfMemory (λ r. (r.0, r.1.now)) result (counted_at (spec.variable_at version) octets.now) }
+    ensures { Gives ImageFault.OutOfMemory (λ r. (r.0, r.1.now)) result
+        (counted_at (spec.variable_at version) octets.now) }
 {
     let (count, mut rest) = number_at(octets)?;
     let mut variables = Vec::new(alloc);
@@ -233,7 +236,8 @@ fn timers_at(
     version: Version,
     octets: &[u8],
 ) -> Result<(Listing<TimerKind>, &[u8]), ImageFault>
-    ensures { Gives ImageFault.OutOfMemory (λ r. (r.0, r.1.now)) result (counted_at (spec.timer_at version) octets.now) }
+    ensures { Gives ImageFault.OutOfMemory (λ r. (r.0, r.1.now)) result
+        (counted_at (spec.timer_at version) octets.now) }
 {
     let (count, mut rest) = number_at(octets)?;
     let mut timers = Vec::new(alloc);
@@ -247,7 +251,8 @@ fn timers_at(
 
 // Refuses octets that are not instructions one behind the other.
 fn check_code(version: Version, code: &[u8]) -> Result<(), ImageFault>
-    ensures { MatchResult result (λ _. code_fault version (length code.now) code.now ≡ None) (λ fault. code_fault version (length code.now) code.now ≡ Some fault) }
+    ensures { MatchResult result (λ _. code_fault version (length code.now) code.now ≡ None)
+        (λ fault. code_fault version (length code.now) code.now ≡ Some fault) }
 {
     let mut rest = code;
     while rest.len() > 0 {

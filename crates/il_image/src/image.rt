@@ -34,9 +34,15 @@ impl Model for Image {
 
     ghost Value = { Image };
 
-    ghost view = { λ i. record { points = i.points; variables = i.variables; timers = i.timers; code = i.code } };
+    ghost view = { λ i. record {
+      points = i.points;
+      variables = i.variables;
+      timers = i.timers;
+      code = i.code;
+    } };
 
-    ghost invariant = { λ i. IsImage (record { points = i.points; variables = i.variables; timers = i.timers; code = i.code }) };
+    ghost invariant = { λ i. IsImage
+        (record { points = i.points; variables = i.variables; timers = i.timers; code = i.code }) };
 }
 
 impl Image {
@@ -49,8 +55,10 @@ impl Image {
         timers: Listing<TimerKind>,
         code: Listing<u8>,
     ) -> Self
-        requires { IsImage (record { points = points; variables = variables; timers = timers; code = code }) }
-        ensures { result ≡ record { points = points; variables = variables; timers = timers; code = code } }
+        requires { IsImage
+            (record { points = points; variables = variables; timers = timers; code = code }) }
+        ensures { result ≡ record
+            { points = points; variables = variables; timers = timers; code = code } }
     {
         Image {
             points,

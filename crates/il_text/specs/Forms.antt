@@ -1,4 +1,5 @@
--- The forms of lines, over the tokens of a line (IEC 61131-3:2003, annexes B.1.4.3, B.1.5.3 and B.2).
+-- The forms of lines, over the tokens of a line (IEC 61131-3:2003, annexes B.1.4.3, B.1.5.3 and
+-- B.2).
 use Rattle.std.specs.Prelude.{ℕ, Bool, true, false, not, ◌&&◌, ◌||◌, if◌then◌else◌, List, [], ◌∷◌, take, drop, codes, Option, Some, None, option_map, option_and_then}
 use Rattle.std.specs.List.{position_or_len}
 use Rattle.bay_base.specs.Names.{same_name}
@@ -71,11 +72,15 @@ only_name (s ∷ t ∷ ss) = None
 
 -- `Q` and `ET`, in letters of either case
 unfoldable pub output_named : List ℕ → Option Output
-output_named w = if same_name w (codes "Q") then Some gives.Q else (if same_name w (codes "ET") then Some gives.Et else None)
+output_named w =
+    if same_name w (codes "Q") then Some gives.Q
+    else (if same_name w (codes "ET") then Some gives.Et else None)
 
 -- the output of a timer, by the tokens of both
 unfoldable pub output_by : Symbol → Symbol → Option Place
-output_by s o = option_and_then (λ t. option_map (output t) (option_and_then output_named (name_of o))) (name_of s)
+output_by s o =
+    option_and_then (λ t. option_map (output t) (option_and_then output_named (name_of o)))
+    (name_of s)
 
 -- a name, or a name with `.Q` or `.ET`
 unfoldable pub place : List Symbol → Option Place
@@ -102,14 +107,19 @@ operand ss = literal_or (only_literal ss) (place ss)
 
 -- `IN` and `PT`, in letters of either case
 unfoldable pub input_named : List ℕ → Option Input
-input_named w = if same_name w (codes "IN") then Some input.In else (if same_name w (codes "PT") then Some input.Pt else None)
+input_named w =
+    if same_name w (codes "IN") then Some input.In
+    else (if same_name w (codes "PT") then Some input.Pt else None)
 
 -- arg ::= ("IN" | "PT") ":=" operand
 unfoldable pub argument : List Symbol → Option (Input × Source)
 argument [] = None
 argument (i ∷ []) = None
 argument (i ∷ a ∷ ss) =
-    if is_mark mark.Assign a then option_and_then (λ k. option_map (λ x. (k, x)) (operand ss)) (option_and_then input_named (name_of i)) else None
+    if is_mark mark.Assign a
+    then option_and_then (λ k. option_map (λ x. (k, x)) (operand ss))
+    (option_and_then input_named (name_of i))
+    else None
 
 -- the inputs are one
 abbrev pub same_input : Input → Input → Bool
@@ -136,9 +146,11 @@ abbrev pub parted : Mark → List Symbol → Option (List Symbol × List Symbol)
 parted m ss = parts_at (position_or_len (is_mark m) ss) ss
 
 -- one argument, or two where a comma parts them
-abbrev pub argument_list : List Symbol → Option (List Symbol × List Symbol) → Option (List (Input × Source))
+abbrev pub argument_list : List Symbol → Option (List Symbol × List Symbol)
+    → Option (List (Input × Source))
 argument_list ss None = option_map (λ a. a ∷ []) (argument ss)
-argument_list ss (Some p) = option_and_then (λ a. option_and_then (both a) (argument p.1)) (argument p.0)
+argument_list ss (Some p) =
+    option_and_then (λ a. option_and_then (both a) (argument p.1)) (argument p.0)
 
 -- [arg {"," arg}]: as there are two inputs, there are two arguments at most
 unfoldable pub arguments : List Symbol → Option (List (Input × Source))
@@ -163,7 +175,9 @@ closed_arguments ss = closed_by (parted mark.Close ss)
 unfoldable pub called : List Symbol → Option Action
 called [] = None
 called (t ∷ []) = None
-called (t ∷ o ∷ ss) = if is_mark mark.Open o then option_and_then (λ n. option_map (call n) (closed_arguments ss)) (name_of t) else None
+called (t ∷ o ∷ ss) =
+    if is_mark mark.Open o then option_and_then (λ n. option_map (call n) (closed_arguments ss))
+    (name_of t) else None
 
 -- the one part of an instruction
 abbrev pub one_part : Option Action → Option (List Part)
@@ -177,12 +191,15 @@ alone a (s ∷ ss) = None
 -- "(" [operand]: the operand is loaded as the first of the parenthesis
 abbrev pub entered : Operator → Bool → List Symbol → Option (List Part)
 entered o n [] = Some (entering o n ∷ [])
-entered o n (s ∷ ss) = option_map (λ x. entering o n ∷ acting (load false x) ∷ []) (operand (s ∷ ss))
+entered o n (s ∷ ss) =
+    option_map (λ x. entering o n ∷ acting (load false x) ∷ []) (operand (s ∷ ss))
 
 -- an operator that combines, with its operand or with `(`
 abbrev pub combined : Operator → Bool → List Symbol → Option (List Part)
 combined o n [] = None
-combined o n (s ∷ ss) = if is_mark mark.Open s then entered o n ss else one_part (option_map (combine o n) (operand (s ∷ ss)))
+combined o n (s ∷ ss) =
+    if is_mark mark.Open s then entered o n ss
+    else one_part (option_map (combine o n) (operand (s ∷ ss)))
 
 -- an operator, and what belongs to it
 unfoldable pub statement : Mnemonic → List Symbol → Option (List Part)
@@ -199,18 +216,23 @@ statement mnemonic.Call ss = one_part (called ss)
 unfoldable pub tail : List Symbol → Option Tail
 tail [] = None
 tail (k ∷ []) = None
-tail (k ∷ e ∷ []) = if is_mark mark.Semicolon e then option_map (λ t. record { kind = t; initial = None }) (type_of k) else None
+tail (k ∷ e ∷ []) =
+    if is_mark mark.Semicolon e
+    then option_map (λ t. record { kind = t; initial = None }) (type_of k) else None
 tail (k ∷ a ∷ v ∷ []) = None
 tail (k ∷ a ∷ v ∷ e ∷ []) =
     if is_mark mark.Assign a && is_mark mark.Semicolon e
-    then option_and_then (λ t. option_map (λ x. record { kind = t; initial = Some x }) (literal_of v)) (elementary_of k) else None
+    then option_and_then (λ t. option_map (λ x. record { kind = t; initial = Some x })
+    (literal_of v)) (elementary_of k)
+    else None
 tail (k ∷ a ∷ v ∷ e ∷ f ∷ ts) = None
 
 -- name {"," name}, from a name on, or after one
 unfoldable pub names_from : Bool → List Symbol → Option (List (List ℕ))
 names_from false [] = None
 names_from true [] = Some []
-names_from false (s ∷ ss) = option_and_then (λ n. option_map (λ ns. n ∷ ns) (names_from true ss)) (name_of s)
+names_from false (s ∷ ss) =
+    option_and_then (λ n. option_map (λ ns. n ∷ ns) (names_from true ss)) (name_of s)
 names_from true (s ∷ ss) = if is_mark mark.Comma s then names_from false ss else None
 
 -- the names of a declaration, and what follows them

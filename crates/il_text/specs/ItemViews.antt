@@ -50,7 +50,8 @@ action_of (i.Call timer arguments) = call timer.now (arguments_of arguments)
 abbrev pub entry_step : Item-F Entry → Entry
 entry_step (Item-F.Label line name) = label line name.now
 entry_step (Item-F.Instruction line instruction) = action line (action_of instruction)
-entry_step (Item-F.Block line operator negated items end) = block line operator negated (entries_of items.items) end
+entry_step (Item-F.Block line operator negated items end) =
+    block line operator negated (entries_of items.items) end
 
 -- an item with all that it holds
 abbrev pub entry_of : Item → Entry
@@ -58,4 +59,5 @@ entry_of = fold-Item Entry entry_step
 
 -- a declared name
 abbrev pub declared_of : Declaration → Declared
-declared_of d = record { line = d.line; scope = d.scope; name = d.name.now; kind = d.kind; initial = d.initial }
+declared_of d =
+    record { line = d.line; scope = d.scope; name = d.name.now; kind = d.kind; initial = d.initial }

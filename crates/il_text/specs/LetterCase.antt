@@ -35,7 +35,8 @@ abbrev mutual
   pub upper_entry : Entry → Entry
   upper_entry (label line name) = label line (upper name)
   upper_entry (action line a) = action line (upper_action a)
-  upper_entry (block line operator negated es end) = block line operator negated (upper_entries es) end
+  upper_entry (block line operator negated es end) =
+      block line operator negated (upper_entries es) end
 
   pub upper_entries : Entries → Entries
   upper_entries no_entries = no_entries
@@ -43,18 +44,31 @@ abbrev mutual
 
 -- a declared name in upper case
 abbrev pub upper_declared : Declared → Declared
-upper_declared d = record { line = d.line; scope = d.scope; name = upper d.name; kind = d.kind; initial = d.initial }
+upper_declared d =
+    record {
+      line = d.line;
+      scope = d.scope;
+      name = upper d.name;
+      kind = d.kind;
+      initial = d.initial;
+    }
 
 -- a program with its names in upper case
 abbrev pub upper_listing : PlainProgram → PlainProgram
-upper_listing l = record { name = upper l.name; declarations = map upper_declared l.declarations; items = map upper_entry l.items }
+upper_listing l =
+    record {
+      name = upper l.name;
+      declarations = map upper_declared l.declarations;
+      items = map upper_entry l.items;
+    }
 
 -- the same of a text's program; a fault stays as it is
 abbrev pub upper_program : Result PlainProgram TextFault → Result PlainProgram TextFault
 upper_program (Ok l) = Ok (upper_listing l)
 upper_program (Err e) = Err e
 
--- What a text reads as, its upper case reads as with the names in upper case; its fault is the same. So letters may be
--- spelled in either case.
+-- What a text reads as, its upper case reads as with the names in upper case; its fault is the
+-- same. So letters may be spelled in either case.
 abbrev pub LettersMayBeRespelled : Type 0
-LettersMayBeRespelled = (text : List ℕ) (read : Result PlainProgram TextFault) → ReadsAs text read → ReadsAs (upper text) (upper_program read)
+LettersMayBeRespelled = (text : List ℕ) (read : Result PlainProgram TextFault) → ReadsAs text read
+    → ReadsAs (upper text) (upper_program read)

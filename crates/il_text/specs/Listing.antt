@@ -20,8 +20,9 @@ pub data Source : Type 0 where
   constant : Literal → Source
   variable : Place → Source
 
--- An instruction: LD, or LDN where the truth value says so; a store of some kind; an operator with its operand, negated
--- where the truth value says so; NOT; a conversion; a jump to a label; a return; a call of a timer with its arguments.
+-- An instruction: LD, or LDN where the truth value says so; a store of some kind; an operator with
+-- its operand, negated where the truth value says so; NOT; a conversion; a jump to a label; a
+-- return; a call of a timer with its arguments.
 pub data Action : Type 0 where
   load : Bool → Source → Action
   store : StoreKind → Place → Action
@@ -33,8 +34,8 @@ pub data Action : Type 0 where
   call : List ℕ → List (Input × Source) → Action
 
 mutual
-  -- a label with its line; an instruction with its line; an operator, and whether it is negated, with the entries in its
-  -- parenthesis and the lines of both ends
+  -- a label with its line; an instruction with its line; an operator, and whether it is negated,
+  -- with the entries in its parenthesis and the lines of both ends
   pub data Entry : Type 0 where
     label : ℕ → List ℕ → Entry
     action : ℕ → Action → Entry

@@ -8,7 +8,13 @@ use Rattle.il_text.specs.declared.listing.Open.{Open}
 
 -- an open parenthesis
 abbrev pub opened_of : Open → Opened
-opened_of f = record { line = f.line; operator = f.operator; negated = f.negated; outer = map entry_of f.outer.items }
+opened_of f =
+    record {
+      line = f.line;
+      operator = f.operator;
+      negated = f.negated;
+      outer = map entry_of f.outer.items;
+    }
 
 -- what the lines so far make; the innermost parenthesis comes first
 abbrev pub reached_of : code.Draft → Reached

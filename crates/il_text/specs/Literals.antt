@@ -29,12 +29,16 @@ is_integer radix wanted (x ∷ xs) =
 -- the number that digits write, with single underscores between them
 unfoldable pub number : ℕ → List ℕ → Option ℕ
 number radix ds =
-    if is_integer radix true ds then Some (digits_value radix (filter (λ x. not (is_underscore x)) ds)) else None
+    if is_integer radix true ds
+    then Some (digits_value radix (filter (λ x. not (is_underscore x)) ds))
+    else None
 
 -- the parts before and after the first `#`
 unfoldable pub halves : List ℕ → Option (List ℕ × List ℕ)
 halves w =
-    if nat_lt (position_or_len is_hash w) (length w) then Some (before_first is_hash w, after_first is_hash w) else None
+    if nat_lt (position_or_len is_hash w) (length w)
+    then Some (before_first is_hash w, after_first is_hash w)
+    else None
 
 -- the base that is written before `#`
 unfoldable pub base_of : List ℕ → Option ℕ
@@ -57,7 +61,8 @@ decimal w =
 
 -- binary_integer, octal_integer and hex_integer, of which none has a sign
 unfoldable pub based : List ℕ → List ℕ → Option Signed
-based base digits = option_and_then (λ radix. option_map (λ n. (false, n)) (number radix digits)) (base_of base)
+based base digits =
+    option_and_then (λ radix. option_map (λ n. (false, n)) (number radix digits)) (base_of base)
 
 -- a number by whether a `#` parts it
 abbrev decimal_or_based : List ℕ → Option (List ℕ × List ℕ) → Option Signed
@@ -73,7 +78,11 @@ abbrev pub signed : Option Signed → Result ℤ LiteralFault
 signed None = Err Malformed
 signed (Some (false, n)) = if nat_le n 9223372036854775807 then Ok (pos n) else Err OutOfRange
 signed (Some (true, n)) =
-    if n == 0 then Ok (pos 0) else if nat_le n 9223372036854775808 then Ok (negsuc (n - 1)) else Err OutOfRange
+    if n == 0
+    then Ok (pos 0)
+    else if nat_le n 9223372036854775808
+    then Ok (negsuc (n - 1))
+    else Err OutOfRange
 
 -- a number without a type
 unfoldable pub untyped : Option Signed → Result Literal LiteralFault
@@ -85,7 +94,8 @@ is_between low high z = int_le low z && int_le z high
 
 -- the literals of BOOL, INT and DINT that have this value
 abbrev pub bool_literal : ℤ → Result Literal LiteralFault
-bool_literal (pos n) = if n == 0 then Ok (Truth false) else (if n == 1 then Ok (Truth true) else Err OutOfRange)
+bool_literal (pos n) =
+    if n == 0 then Ok (Truth false) else (if n == 1 then Ok (Truth true) else Err OutOfRange)
 bool_literal (negsuc n) = Err OutOfRange
 
 -- an INT is of 16 bits with a sign
@@ -94,11 +104,14 @@ int_literal z = if is_between (negsuc 32767) (pos 32767) z then Ok (Int z) else 
 
 -- a DINT is of 32 bits with a sign
 abbrev pub dint_literal : ℤ → Result Literal LiteralFault
-dint_literal z = if is_between (negsuc 2147483647) (pos 2147483647) z then Ok (Dint z) else Err OutOfRange
+dint_literal z =
+    if is_between (negsuc 2147483647) (pos 2147483647) z then Ok (Dint z) else Err OutOfRange
 
 -- TRUE and FALSE, in letters of either case
 abbrev pub truth_of : List ℕ → Option Bool
-truth_of w = if same_name w (codes "TRUE") then Some true else (if same_name w (codes "FALSE") then Some false else None)
+truth_of w =
+    if same_name w (codes "TRUE") then Some true
+    else (if same_name w (codes "FALSE") then Some false else None)
 
 -- TRUE and FALSE are literals that no type of numbers holds
 abbrev pub number_or_truth : List ℕ → Option Bool → Result ℤ LiteralFault
@@ -146,13 +159,18 @@ unit_len w = prefix_len is_ascii_alphabetic (drop (number_len w) w)
 
 -- the number of a part: after the first part of a duration an `_` may stand before it
 abbrev pub number_of_part : Bool → List ℕ → Option ℕ
-number_of_part begun ds = if begun && is_underscore (slice_index ds 0) then number 10 (drop 1 ds) else number 10 ds
+number_of_part begun ds =
+    if begun && is_underscore (slice_index ds 0) then number 10 (drop 1 ds) else number 10 ds
 
 -- a duration with one part more, where the part has a number
 abbrev pub with_part : ℕ → Duration → Option ℕ → Option Duration
 with_part factor d None = None
 with_part factor d (Some n) =
-    Some (record { rest = drop (unit_len d.rest) (drop (number_len d.rest) d.rest); total = d.total + n * factor; begun = true })
+    Some (record {
+      rest = drop (unit_len d.rest) (drop (number_len d.rest) d.rest);
+      total = d.total + n * factor;
+      begun = true;
+    })
 
 -- Takes the part in this unit, if one stands first; its number may pass the unit above.
 unfoldable pub part : List ℕ → ℕ → Duration → Option Duration

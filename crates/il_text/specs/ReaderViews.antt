@@ -10,14 +10,16 @@ use Rattle.il_text.specs.TokenViews.{symbols_of}
 use Rattle.il_text.specs.declared.fault.TextFault.{TextFault}
 use Rattle.il_text.specs.declared.read.Reader as code
 
--- the program that pieces make after the tokens of an unfinished line and what the lines before it reached
+-- the program that pieces make after the tokens of an unfinished line and what the lines before it
+-- reached
 unfoldable pub read_on : ℕ → Read → ℕ → List Symbol → List Piece → Result PlainProgram TextFault
 read_on last r line ss ps = reading last r line (lines (map token ss ++ ps))
 
 -- the program that what is read and what is left of a text make
 abbrev pub left_of : code.Reader → Result PlainProgram TextFault
 left_of r =
-    read_on r.last (read_of r.listing) r.line (symbols_of r.tokens.items) (cut r.in_comment (drop r.at r.text.now))
+    read_on r.last (read_of r.listing) r.line (symbols_of r.tokens.items)
+    (cut r.in_comment (drop r.at r.text.now))
 
 -- the same where the line ends here
 abbrev pub ended_of : code.Reader → Result PlainProgram TextFault
@@ -28,4 +30,5 @@ ended_of r =
 -- and where the text does
 abbrev pub whole_of : code.Reader → Result PlainProgram TextFault
 whole_of r =
-    after_line r.line r.last (read_of r.listing) (symbols_of r.tokens.items) >>= (λ s. whole r.last s.reached)
+    after_line r.line r.last (read_of r.listing) (symbols_of r.tokens.items)
+    >>= (λ s. whole r.last s.reached)

@@ -58,24 +58,32 @@ abbrev pub has_instruction : List Part → Bool
 has_instruction [] = false
 has_instruction (p ∷ ps) = is_instruction p || has_instruction ps
 
--- A line past a limit. Where it is the last line, the text ends early there too, and that fault comes first.
+-- A line past a limit. Where it is the last line, the text ends early there too, and that fault
+-- comes first.
 abbrev pub past_limit : ℕ → ℕ → TextFault → TextFault
 past_limit line last fault = if line == last then BadLine line else fault
 
 -- one line with an instruction more, of which 4,000 may be
 abbrev pub counted : ℕ → ℕ → ℕ → Reached → Result Read TextFault
 counted line last before s =
-    if nat_lt before 4000 then Ok (record { reached = s; instructions = before + 1 }) else Err (past_limit line last (TooLong line))
+    if nat_lt before 4000
+    then Ok (record { reached = s; instructions = before + 1 })
+    else Err (past_limit line last (TooLong line))
 
--- what a line with an instruction leaves, within the limits of 16 open parentheses and 4,000 such lines
+-- what a line with an instruction leaves, within the limits of 16 open parentheses and 4,000 such
+-- lines
 unfoldable pub bounded : ℕ → ℕ → ℕ → Reached → Result Read TextFault
 bounded line last before s =
-    if nat_le (length s.parentheses) 16 then counted line last before s else Err (past_limit line last (TooDeep line))
+    if nat_le (length s.parentheses) 16
+    then counted line last before s
+    else Err (past_limit line last (TooDeep line))
 
 -- what a line leaves, where the limits count only one with an instruction
 abbrev pub limited : ℕ → ℕ → ℕ → List Part → Reached → Result Read TextFault
 limited line last before ps s =
-    if has_instruction ps then bounded line last before s else Ok (record { reached = s; instructions = before })
+    if has_instruction ps
+    then bounded line last before s
+    else Ok (record { reached = s; instructions = before })
 
 -- the same of a line that may not stand here
 abbrev pub stepped : ℕ → ℕ → ℕ → List Part → Option Reached → Result Read TextFault
@@ -104,7 +112,8 @@ whole_at last s other = Err (BadLine last)
 abbrev pub whole : ℕ → Reached → Result PlainProgram TextFault
 whole last s = whole_at last s s.place
 
--- the program that lines make after others, the first of them at this number: its first faulty line decides
+-- the program that lines make after others, the first of them at this number: its first faulty line
+-- decides
 unfoldable pub reading : ℕ → Read → ℕ → List (List Piece) → Result PlainProgram TextFault
 reading last r line [] = whole last r.reached
 reading last r line (l ∷ ls) =

@@ -6,11 +6,13 @@ use Rattle.il_text.specs.Pieces.{pieces, blanked}
 use Rattle.il_text.specs.Characters.{linked}
 use Rattle.il_text.specs.Literals.{Signed}
 
--- from start to end each character belongs to the one before it, and that at end, if there is one, does not
+-- from start to end each character belongs to the one before it, and that at end, if there is one,
+-- does not
 pub record IsRun (bytes : List ℕ) (start end : ℕ) : Type 0 where
   pub after : start < end
   pub within : end ≤ length bytes
-  pub inner : (k : ℕ) → start < k → k < end → linked (slice_index bytes (k - 1)) (slice_index bytes k) ≡ true
+  pub inner : (k : ℕ) → start < k → k < end
+      → linked (slice_index bytes (k - 1)) (slice_index bytes k) ≡ true
   pub last : linked (slice_index bytes (end - 1)) (slice_index bytes end) ≡ false
 
 -- numbers past those of every type count as one
@@ -30,4 +32,5 @@ is_negated_and bytes at =
 -- the first piece from start on ends at end
 abbrev pub IsPiece : List ℕ → ℕ → ℕ → Type 0
 IsPiece bytes start end =
-    pieces (blanked false (drop start bytes)) ≡ slice_range bytes start end ∷ pieces (blanked false (drop end bytes))
+    pieces (blanked false (drop start bytes))
+    ≡ slice_range bytes start end ∷ pieces (blanked false (drop end bytes))

@@ -18,8 +18,8 @@ pub record Opened : Type 0 where
   pub negated : Bool
   pub outer : List Entry
 
--- where the next line stands; the name; the declarations; the items of the innermost open parenthesis, or of the body; and
--- the open parentheses, the innermost first
+-- where the next line stands; the name; the declarations; the items of the innermost open
+-- parenthesis, or of the body; and the open parentheses, the innermost first
 pub record Reached : Type 0 where
   pub place : Stage
   pub name : List ℕ
@@ -29,28 +29,57 @@ pub record Reached : Type 0 where
 
 -- before the first line
 abbrev pub nothing_read : Reached
-nothing_read = record { place = place.Start; name = []; declarations = []; items = []; parentheses = [] }
+nothing_read =
+    record { place = place.Start; name = []; declarations = []; items = []; parentheses = [] }
 
 -- the same at another place of the program
 abbrev pub at_place : Stage → Reached → Reached
-at_place p r = record { place = p; name = r.name; declarations = r.declarations; items = r.items; parentheses = r.parentheses }
+at_place p r =
+    record {
+      place = p;
+      name = r.name;
+      declarations = r.declarations;
+      items = r.items;
+      parentheses = r.parentheses;
+    }
 
 -- behind the line of PROGRAM
 abbrev pub with_name : List ℕ → Reached → Reached
-with_name n r = record { place = place.Declarations; name = n; declarations = r.declarations; items = r.items; parentheses = r.parentheses }
+with_name n r =
+    record {
+      place = place.Declarations;
+      name = n;
+      declarations = r.declarations;
+      items = r.items;
+      parentheses = r.parentheses;
+    }
 
 -- one name of a line of declarations
 abbrev pub declared_in : ℕ → Scope → DeclaredType → Option Literal → List ℕ → Declared
-declared_in line scope kind initial name = record { line = line; scope = scope; name = name; kind = kind; initial = initial }
+declared_in line scope kind initial name =
+    record { line = line; scope = scope; name = name; kind = kind; initial = initial }
 
 -- with these names declared besides
 abbrev pub with_declarations : List Declared → Reached → Reached
 with_declarations ds r =
-    record { place = r.place; name = r.name; declarations = r.declarations ++ ds; items = r.items; parentheses = r.parentheses }
+    record {
+      place = r.place;
+      name = r.name;
+      declarations = r.declarations ++ ds;
+      items = r.items;
+      parentheses = r.parentheses;
+    }
 
 -- the items with one more, in the body
 abbrev pub with_item : Entry → Reached → Reached
-with_item e r = record { place = place.Body; name = r.name; declarations = r.declarations; items = r.items ++ e ∷ []; parentheses = r.parentheses }
+with_item e r =
+    record {
+      place = place.Body;
+      name = r.name;
+      declarations = r.declarations;
+      items = r.items ++ e ∷ [];
+      parentheses = r.parentheses;
+    }
 
 -- within a parenthesis that begins on this line
 abbrev pub with_opened : ℕ → Operator → Bool → Reached → Reached
@@ -60,7 +89,9 @@ with_opened line operator negated r =
       name = r.name;
       declarations = r.declarations;
       items = [];
-      parentheses = record { line = line; operator = operator; negated = negated; outer = r.items } ∷ r.parentheses;
+      parentheses =
+          record { line = line; operator = operator; negated = negated; outer = r.items }
+          ∷ r.parentheses;
     }
 
 -- behind the innermost parenthesis, which ends on this line
@@ -117,10 +148,13 @@ may_begin_with External None = true
 may_begin_with External (Some value) = false
 
 -- declares names in the open block, if there is one
-abbrev pub declared_here : ℕ → List (List ℕ) → DeclaredType → Option Literal → Reached → Option Scope → Option Reached
+abbrev pub declared_here : ℕ → List (List ℕ) → DeclaredType → Option Literal → Reached
+    → Option Scope → Option Reached
 declared_here n ns kind initial r None = None
 declared_here n ns kind initial r (Some scope) =
-    if may_begin_with scope initial then Some (with_declarations (map (declared_in n scope kind initial) ns) r) else None
+    if may_begin_with scope initial
+    then Some (with_declarations (map (declared_in n scope kind initial) ns) r)
+    else None
 
 -- ends the open block, if there is one
 abbrev pub closed_block : Reached → Option Scope → Option Reached
@@ -133,7 +167,8 @@ may_stand r = is_body r.place && is_outside r.parentheses
 
 -- an instruction may stand here: in a parenthesis the first is a load, and none leaves it
 unfoldable pub may_act : Reached → Action → Bool
-may_act r a = is_body r.place && (is_outside r.parentheses || (is_plain a && (is_some r.items || is_load a)))
+may_act r a =
+    is_body r.place && (is_outside r.parentheses || (is_plain a && (is_some r.items || is_load a)))
 
 -- a parenthesis may begin here
 unfoldable pub may_enter : Reached → Bool
@@ -151,12 +186,14 @@ left_here n r (f ∷ fs) = Some (with_closed n r f fs)
 -- one part, of the line of this number
 unfoldable pub step : ℕ → Reached → Part → Option Reached
 step n r (heading name) = if is_start r.place then Some (with_name name r) else None
-step n r (opening scope) = if is_between_blocks r.place then Some (at_place (place.Block scope) r) else None
+step n r (opening scope) =
+    if is_between_blocks r.place then Some (at_place (place.Block scope) r) else None
 step n r (declaring ns kind initial) = declared_here n ns kind initial r (block_scope r.place)
 step n r closing = closed_block r (block_scope r.place)
 step n r (labelling name) = if may_stand r then Some (with_item (label n name) r) else None
 step n r (acting a) = if may_act r a then Some (with_item (action n a) r) else None
-step n r (entering operator negated) = if may_enter r then Some (with_opened n operator negated r) else None
+step n r (entering operator negated) =
+    if may_enter r then Some (with_opened n operator negated r) else None
 step n r leaving = if may_leave r then left_here n r r.parentheses else None
 step n r ending = if may_stand r then Some (at_place place.Finished r) else None
 

@@ -1,4 +1,5 @@
--- What a piece of a text is: a blank, a line end, a token, or none (IEC 61131-3:2003, 2.1 and annex B).
+-- What a piece of a text is: a blank, a line end, a token, or none (IEC 61131-3:2003, 2.1 and annex
+-- B).
 use Rattle.std.specs.Prelude.{ℕ, Bool, true, false, ◌||◌, nat_le, if◌then◌else◌, List, [], ◌∷◌, length, slice_index, codes, map, Option, Some, None, Result, Ok, Err}
 use Rattle.std.specs.Str.{bytes_eq}
 use Rattle.bay_base.specs.Names.{same_name}
@@ -32,7 +33,8 @@ plain_word w = name_or_reserved w (reserved_symbol w)
 -- a word by whether a `#` parts it
 abbrev word_by_halves : List ℕ → Option (List ℕ × List ℕ) → Piece
 word_by_halves w (Some h) = literal_piece (prefixed h.0 h.1)
-word_by_halves w None = if begins_name (slice_index w 0) then plain_word w else literal_piece (untyped (decimal w))
+word_by_halves w None =
+    if begins_name (slice_index w 0) then plain_word w else literal_piece (untyped (decimal w))
 
 -- a name, a reserved word or a literal
 unfoldable pub word : List ℕ → Piece

@@ -6,4 +6,9 @@ use Rattle.il_text.specs.declared.program.Program.{Program}
 
 -- a program
 abbrev pub plain_program : Program → PlainProgram
-plain_program p = record { name = p.name.now; declarations = map declared_of p.declarations.items; items = map entry_of p.items.items }
+plain_program p =
+    record {
+      name = p.name.now;
+      declarations = map declared_of p.declarations.items;
+      items = map entry_of p.items.items;
+    }

@@ -135,7 +135,8 @@ fn output_named(word: &str) -> Option<Output>
 /// The output of a timer, by the tokens of both names.
 #[tactic(auto, unfolding(crate::specs::Forms::output_by))]
 fn output_by<'a>(timer: Token<'a>, output: Token<'a>) -> Option<SymbolicVariable<'a>>
-    ensures { option_map place_of result ≡ spec.output_by (symbol_of timer.entry) (symbol_of output.entry) }
+    ensures { option_map place_of result
+        ≡ spec.output_by (symbol_of timer.entry) (symbol_of output.entry) }
 {
     let timer = name_of(timer)?;
     let output = output_named(name_of(output)?)?;
@@ -207,7 +208,8 @@ fn argument<'a>(tokens: &[Token<'a>]) -> Option<Argument<'a>>
 
 /// Two arguments, which are not given to one input.
 fn both<'a>(first: Argument<'a>, second: Argument<'a>) -> Option<Arguments<'a>>
-    ensures { option_map arguments_of result ≡ spec.both (argument_of first.entry) (argument_of second.entry) }
+    ensures { option_map arguments_of result
+        ≡ spec.both (argument_of first.entry) (argument_of second.entry) }
 {
     if first.input == second.input {
         None
@@ -221,7 +223,10 @@ fn mark_at(tokens: &[Token<'_>], mark: Mark) -> usize
     ensures place { result ≡ position_or_len (λ t. spec.is_mark mark (symbol_of t)) tokens.now }
     ensures within { result ≤ length tokens.now }
 {
-    tokens.iter().take_while(|token| !is_mark(**token, mark)).count()
+    tokens
+        .iter()
+        .take_while(|token| !is_mark(**token, mark))
+        .count()
 }
 
 /// What stands before and after the token at this place.
@@ -247,7 +252,9 @@ fn parted<'t, 'a>(tokens: &'t [Token<'a>], mark: Mark) -> Option<Halves<'t, 'a>>
 
 /// One argument or two.
 fn argument_list<'a>(tokens: &[Token<'a>]) -> Option<Arguments<'a>>
-    ensures { option_map arguments_of result ≡ spec.argument_list (symbols_of tokens.now) (spec.parted Mark.Comma (symbols_of tokens.now)) }
+    ensures { option_map arguments_of result
+        ≡ spec.argument_list (symbols_of tokens.now)
+        (spec.parted Mark.Comma (symbols_of tokens.now)) }
 {
     match parted(tokens, Mark::Comma) {
         None => argument(tokens).map(Arguments::One),
@@ -299,7 +306,8 @@ fn called<'a>(tokens: &[Token<'a>]) -> Option<Instruction<'a>>
 
 /// An instruction behind whose operator nothing stands.
 fn alone<'a>(instruction: Instruction<'a>, tokens: &[Token<'a>]) -> Option<Statement<'a>>
-    ensures { option_map statement_parts result ≡ spec.alone (action_of instruction.entry) (symbols_of tokens.now) }
+    ensures { option_map statement_parts result
+        ≡ spec.alone (action_of instruction.entry) (symbols_of tokens.now) }
 {
     if tokens.is_empty() {
         Some(Statement::Plain(instruction))
@@ -310,7 +318,8 @@ fn alone<'a>(instruction: Instruction<'a>, tokens: &[Token<'a>]) -> Option<State
 
 /// What stands behind the `(` of an operator.
 fn entered<'a>(operator: Operator, negated: bool, tokens: &[Token<'a>]) -> Option<Statement<'a>>
-    ensures { option_map statement_parts result ≡ spec.entered operator negated (symbols_of tokens.now) }
+    ensures { option_map statement_parts result
+        ≡ spec.entered operator negated (symbols_of tokens.now) }
 {
     let operand = match tokens {
         [] => None,
@@ -325,7 +334,8 @@ fn entered<'a>(operator: Operator, negated: bool, tokens: &[Token<'a>]) -> Optio
 
 /// What stands behind an operator that combines.
 fn combined<'a>(operator: Operator, negated: bool, tokens: &[Token<'a>]) -> Option<Statement<'a>>
-    ensures { option_map statement_parts result ≡ spec.combined operator negated (symbols_of tokens.now) }
+    ensures { option_map statement_parts result
+        ≡ spec.combined operator negated (symbols_of tokens.now) }
 {
     match tokens {
         [] => None,
@@ -343,7 +353,8 @@ fn combined<'a>(operator: Operator, negated: bool, tokens: &[Token<'a>]) -> Opti
 
 /// `LD` or `LDN` with its operand.
 fn load<'a>(negated: bool, tokens: &[Token<'a>]) -> Option<Instruction<'a>>
-    ensures { option_map action_of result ≡ option_map (text.load negated) (spec.operand (symbols_of tokens.now)) }
+    ensures { option_map action_of result
+        ≡ option_map (text.load negated) (spec.operand (symbols_of tokens.now)) }
 {
     let operand = operand(tokens)?;
     Some(Instruction::Load { negated, operand })
@@ -351,7 +362,8 @@ fn load<'a>(negated: bool, tokens: &[Token<'a>]) -> Option<Instruction<'a>>
 
 /// A store with the variable that it writes.
 fn store<'a>(kind: StoreKind, tokens: &[Token<'a>]) -> Option<Instruction<'a>>
-    ensures { option_map action_of result ≡ option_map (text.store kind) (spec.place (symbols_of tokens.now)) }
+    ensures { option_map action_of result
+        ≡ option_map (text.store kind) (spec.place (symbols_of tokens.now)) }
 {
     let target = place(tokens)?;
     Some(Instruction::Store { kind, target })
@@ -359,7 +371,8 @@ fn store<'a>(kind: StoreKind, tokens: &[Token<'a>]) -> Option<Instruction<'a>>
 
 /// A jump with its label.
 fn jump<'a>(condition: Condition, tokens: &[Token<'a>]) -> Option<Instruction<'a>>
-    ensures { option_map action_of result ≡ option_map (text.jump condition) (spec.only_name (symbols_of tokens.now)) }
+    ensures { option_map action_of result
+        ≡ option_map (text.jump condition) (spec.only_name (symbols_of tokens.now)) }
 {
     let label = only_name(tokens)?;
     Some(Instruction::Jump { condition, label })
@@ -392,7 +405,8 @@ fn tail_of(tokens: &[Token<'_>]) -> Option<Tail>
             kind: type_of(*kind)?,
             initial: None,
         }),
-        [kind, assign, value, end] if is_mark(*assign, Mark::Assign) && is_mark(*end, Mark::Semicolon) => {
+        [kind, assign, value, end]
+            if is_mark(*assign, Mark::Assign) && is_mark(*end, Mark::Semicolon) => {
             let kind = elementary_of(*kind)?;
             let value = literal_of(*value)?;
             Some(Tail {
@@ -431,7 +445,8 @@ fn may_follow_label(tokens: &[Token<'_>]) -> bool
 /// What stands behind the colon of a label.
 #[tactic(auto, unfolding(crate::specs::Forms::label_rest))]
 fn label_rest<'t, 'a>(tokens: &'t [Token<'a>]) -> Option<&'t [Token<'a>]>
-    ensures { option_map (λ ts. symbols_of ts.now) result ≡ spec.label_rest (symbols_of tokens.now) }
+    ensures { option_map (λ ts. symbols_of ts.now) result
+        ≡ spec.label_rest (symbols_of tokens.now) }
 {
     match tokens {
         [colon, rest @ ..] if is_mark(*colon, Mark::Colon) && may_follow_label(rest) => Some(rest),
@@ -441,7 +456,8 @@ fn label_rest<'t, 'a>(tokens: &'t [Token<'a>]) -> Option<&'t [Token<'a>]>
 
 /// An operator as a token, and what belongs to it.
 fn statement_by<'a>(first: Token<'a>, tokens: &[Token<'a>]) -> Option<Statement<'a>>
-    ensures { option_map statement_parts result ≡ spec.statement_by (symbol_of first.entry) (symbols_of tokens.now) }
+    ensures { option_map statement_parts result
+        ≡ spec.statement_by (symbol_of first.entry) (symbols_of tokens.now) }
 {
     match first {
         Token::Mnemonic(mnemonic) => statement_of(mnemonic, tokens),
@@ -485,7 +501,8 @@ fn named_line<'t, 'a>(
     rest: &'t [Token<'a>],
     tokens: &'t [Token<'a>],
 ) -> Option<Line<'t, 'a>>
-    ensures { option_and_then line_parts result ≡ spec.named_line name.now (symbols_of rest.now) (symbols_of tokens.now) }
+    ensures { option_and_then line_parts result
+        ≡ spec.named_line name.now (symbols_of rest.now) (symbols_of tokens.now) }
 {
     match label_rest(rest) {
         Some(behind) => labelled(name, behind),

@@ -137,7 +137,8 @@ fn may_begin_with(scope: Scope, initial: Option<Literal>) -> bool
 
 /// Whether a line counts towards the limit of lines: it holds an instruction or `)`.
 fn has_instruction(line: Line<'_, '_>) -> bool
-    ensures { (ps : List Part) → line_parts line.entry ≡ Some ps → result ≡ spec.has_instruction ps }
+    ensures { (ps : List Part) → line_parts line.entry ≡ Some ps
+        → result ≡ spec.has_instruction ps }
 {
     match line {
         Line::Labelled(_, _) | Line::Statement(_) | Line::Leaving => true,
@@ -150,7 +151,8 @@ fn has_instruction(line: Line<'_, '_>) -> bool
     }
 }
 
-/// A line past a limit; where it is the last one, the text ends early there too, and that comes first.
+/// A line past a limit; where it is the last one, the text ends early there too, and that comes
+/// first.
 fn past_limit(position: Position, fault: TextFault) -> TextFault
     ensures { result ≡ spec.past_limit position.line position.last fault }
 {
@@ -185,8 +187,12 @@ impl<'a> Draft<'a> {
         tokens: &[Token<'a>],
         position: Position,
     ) -> Result<(), TextFault>
-        ensures ok { OnOk result (spec.after_line position.line position.last (read_of self.old) (symbols_of tokens.now) ≡ Ok (read_of self.new)) }
-        ensures refused { IfErr result (λ e. e ≢ OutOfMemory → spec.after_line position.line position.last (read_of self.old) (symbols_of tokens.now) ≡ Err e) }
+        ensures ok { OnOk result
+            (spec.after_line position.line position.last (read_of self.old) (symbols_of tokens.now)
+            ≡ Ok (read_of self.new)) }
+        ensures refused { IfErr result
+            (λ e. e ≢ OutOfMemory → spec.after_line position.line position.last (read_of self.old)
+            (symbols_of tokens.now) ≡ Err e) }
     {
         let line = position.line;
         if tokens.is_empty() {
@@ -205,8 +211,12 @@ impl<'a> Draft<'a> {
     /// Counts a line that holds an instruction or `)`.
     #[tactic(auto, using(crate::proofs::ListingLemmas::length_opened), unfolding(crate::specs::Reading::bounded))]
     fn count(&mut self, position: Position) -> Result<(), TextFault>
-        ensures ok { OnOk result (spec.bounded position.line position.last self.old.instructions (reached_of self.old) ≡ Ok (read_of self.new)) }
-        ensures refused { IfErr result (λ e. spec.bounded position.line position.last self.old.instructions (reached_of self.old) ≡ Err e) }
+        ensures ok { OnOk result
+            (spec.bounded position.line position.last self.old.instructions (reached_of self.old)
+            ≡ Ok (read_of self.new)) }
+        ensures refused { IfErr result
+            (λ e. spec.bounded position.line position.last self.old.instructions
+            (reached_of self.old) ≡ Err e) }
     {
         let line = position.line;
         if self.parentheses.len() > MAX_OPEN {
@@ -222,10 +232,14 @@ impl<'a> Draft<'a> {
     /// Takes the parts of a line.
     #[tactic(auto, using(crate::proofs::ListingLemmas::steps_rules))]
     fn take_form(&mut self, form: Line<'_, 'a>, line: usize) -> Result<(), TextFault>
-        ensures ok { OnOk result (option_and_then (steps line (reached_of self.old)) (line_parts form.entry) ≡ Some (reached_of self.new)) }
+        ensures ok { OnOk result
+            (option_and_then (steps line (reached_of self.old)) (line_parts form.entry)
+            ≡ Some (reached_of self.new)) }
         ensures count { OnOk result (self.new.instructions ≡ self.old.instructions) }
         ensures bad { IfErr result (λ e. e ≢ OutOfMemory → e ≡ BadLine line) }
-        ensures none { IfErr result (λ e. e ≢ OutOfMemory → option_and_then (steps line (reached_of self.old)) (line_parts form.entry) ≡ None) }
+        ensures none { IfErr result
+            (λ e. e ≢ OutOfMemory → option_and_then (steps line (reached_of self.old))
+            (line_parts form.entry) ≡ None) }
     {
         match form {
             Line::Heading(name) => self.take_heading(name, line),
@@ -278,10 +292,12 @@ impl<'a> Draft<'a> {
     /// Takes the line of PROGRAM.
     #[tactic(auto, unfolding(crate::specs::Steps::step))]
     fn take_heading(&mut self, name: &'a str, line: usize) -> Result<(), TextFault>
-        ensures ok { OnOk result (step line (reached_of self.old) (heading name.now) ≡ Some (reached_of self.new)) }
+        ensures ok { OnOk result
+            (step line (reached_of self.old) (heading name.now) ≡ Some (reached_of self.new)) }
         ensures count { OnOk result (self.new.instructions ≡ self.old.instructions) }
         ensures bad { IfErr result (λ e. e ≡ BadLine line) }
-        ensures none { IfErr result (λ e. step line (reached_of self.old) (heading name.now) ≡ None) }
+        ensures none { IfErr result
+            (λ e. step line (reached_of self.old) (heading name.now) ≡ None) }
     {
         if !is_start(self.place) {
             return Err(TextFault::BadLine { line });
@@ -294,7 +310,8 @@ impl<'a> Draft<'a> {
     /// Takes VAR or VAR_EXTERNAL.
     #[tactic(auto, unfolding(crate::specs::Steps::step))]
     fn take_opening(&mut self, scope: Scope, line: usize) -> Result<(), TextFault>
-        ensures ok { OnOk result (step line (reached_of self.old) (opening scope) ≡ Some (reached_of self.new)) }
+        ensures ok { OnOk result
+            (step line (reached_of self.old) (opening scope) ≡ Some (reached_of self.new)) }
         ensures count { OnOk result (self.new.instructions ≡ self.old.instructions) }
         ensures bad { IfErr result (λ e. e ≡ BadLine line) }
         ensures none { IfErr result (λ e. step line (reached_of self.old) (opening scope) ≡ None) }
@@ -309,7 +326,8 @@ impl<'a> Draft<'a> {
     /// Takes END_VAR.
     #[tactic(auto, unfolding(crate::specs::Steps::step))]
     fn take_closing(&mut self, line: usize) -> Result<(), TextFault>
-        ensures ok { OnOk result (step line (reached_of self.old) closing ≡ Some (reached_of self.new)) }
+        ensures ok { OnOk result
+            (step line (reached_of self.old) closing ≡ Some (reached_of self.new)) }
         ensures count { OnOk result (self.new.instructions ≡ self.old.instructions) }
         ensures bad { IfErr result (λ e. e ≡ BadLine line) }
         ensures none { IfErr result (λ e. step line (reached_of self.old) closing ≡ None) }
@@ -328,10 +346,14 @@ impl<'a> Draft<'a> {
         tail: Tail,
         line: usize,
     ) -> Result<(), TextFault>
-        ensures ok { OnOk result (option_and_then (steps line (reached_of self.old)) (declared_names tail (symbols_of names.now)) ≡ Some (reached_of self.new)) }
+        ensures ok { OnOk result
+            (option_and_then (steps line (reached_of self.old))
+            (declared_names tail (symbols_of names.now)) ≡ Some (reached_of self.new)) }
         ensures count { OnOk result (self.new.instructions ≡ self.old.instructions) }
         ensures bad { IfErr result (λ e. e ≢ OutOfMemory → e ≡ BadLine line) }
-        ensures none { IfErr result (λ e. e ≢ OutOfMemory → option_and_then (steps line (reached_of self.old)) (declared_names tail (symbols_of names.now)) ≡ None) }
+        ensures none { IfErr result
+            (λ e. e ≢ OutOfMemory → option_and_then (steps line (reached_of self.old))
+            (declared_names tail (symbols_of names.now)) ≡ None) }
     {
         let Some(scope) = block_scope(self.place) else {
             return Err(TextFault::BadLine { line });
@@ -347,10 +369,12 @@ impl<'a> Draft<'a> {
     /// Takes a label.
     #[tactic(auto, unfolding(crate::specs::Steps::step))]
     fn take_label(&mut self, name: &'a str, line: usize) -> Result<(), TextFault>
-        ensures ok { OnOk result (step line (reached_of self.old) (labelling name.now) ≡ Some (reached_of self.new)) }
+        ensures ok { OnOk result
+            (step line (reached_of self.old) (labelling name.now) ≡ Some (reached_of self.new)) }
         ensures count { OnOk result (self.new.instructions ≡ self.old.instructions) }
         ensures bad { IfErr result (λ e. e ≢ OutOfMemory → e ≡ BadLine line) }
-        ensures none { IfErr result (λ e. e ≢ OutOfMemory → step line (reached_of self.old) (labelling name.now) ≡ None) }
+        ensures none { IfErr result
+            (λ e. e ≢ OutOfMemory → step line (reached_of self.old) (labelling name.now) ≡ None) }
     {
         if !self.may_stand() {
             return Err(TextFault::BadLine { line });
@@ -363,10 +387,14 @@ impl<'a> Draft<'a> {
     /// Takes an instruction. In a parenthesis the first is a load, and none leaves it.
     #[tactic(auto, unfolding(crate::specs::Steps::step))]
     fn take_acting(&mut self, instruction: Instruction<'a>, line: usize) -> Result<(), TextFault>
-        ensures ok { OnOk result (step line (reached_of self.old) (acting (action_of instruction.entry)) ≡ Some (reached_of self.new)) }
+        ensures ok { OnOk result
+            (step line (reached_of self.old) (acting (action_of instruction.entry))
+            ≡ Some (reached_of self.new)) }
         ensures count { OnOk result (self.new.instructions ≡ self.old.instructions) }
         ensures bad { IfErr result (λ e. e ≢ OutOfMemory → e ≡ BadLine line) }
-        ensures none { IfErr result (λ e. e ≢ OutOfMemory → step line (reached_of self.old) (acting (action_of instruction.entry)) ≡ None) }
+        ensures none { IfErr result
+            (λ e. e ≢ OutOfMemory → step line (reached_of self.old)
+            (acting (action_of instruction.entry)) ≡ None) }
     {
         if !self.may_act(instruction) {
             return Err(TextFault::BadLine { line });
@@ -384,10 +412,14 @@ impl<'a> Draft<'a> {
         negated: bool,
         line: usize,
     ) -> Result<(), TextFault>
-        ensures ok { OnOk result (step line (reached_of self.old) (entering operator negated) ≡ Some (reached_of self.new)) }
+        ensures ok { OnOk result
+            (step line (reached_of self.old) (entering operator negated)
+            ≡ Some (reached_of self.new)) }
         ensures count { OnOk result (self.new.instructions ≡ self.old.instructions) }
         ensures bad { IfErr result (λ e. e ≢ OutOfMemory → e ≡ BadLine line) }
-        ensures none { IfErr result (λ e. e ≢ OutOfMemory → step line (reached_of self.old) (entering operator negated) ≡ None) }
+        ensures none { IfErr result
+            (λ e. e ≢ OutOfMemory → step line (reached_of self.old) (entering operator negated)
+            ≡ None) }
     {
         if !self.may_enter() {
             return Err(TextFault::BadLine { line });
@@ -406,10 +438,12 @@ impl<'a> Draft<'a> {
     /// Takes a `)`, before which something has to stand in the parenthesis.
     #[tactic(auto, unfolding(crate::specs::Steps::step))]
     fn take_leaving(&mut self, line: usize) -> Result<(), TextFault>
-        ensures ok { OnOk result (step line (reached_of self.old) leaving ≡ Some (reached_of self.new)) }
+        ensures ok { OnOk result
+            (step line (reached_of self.old) leaving ≡ Some (reached_of self.new)) }
         ensures count { OnOk result (self.new.instructions ≡ self.old.instructions) }
         ensures bad { IfErr result (λ e. e ≢ OutOfMemory → e ≡ BadLine line) }
-        ensures none { IfErr result (λ e. e ≢ OutOfMemory → step line (reached_of self.old) leaving ≡ None) }
+        ensures none { IfErr result
+            (λ e. e ≢ OutOfMemory → step line (reached_of self.old) leaving ≡ None) }
     {
         if !self.may_leave() {
             return Err(TextFault::BadLine { line });
@@ -438,7 +472,8 @@ impl<'a> Draft<'a> {
     /// Takes END_PROGRAM.
     #[tactic(auto, unfolding(crate::specs::Steps::step))]
     fn take_ending(&mut self, line: usize) -> Result<(), TextFault>
-        ensures ok { OnOk result (step line (reached_of self.old) ending ≡ Some (reached_of self.new)) }
+        ensures ok { OnOk result
+            (step line (reached_of self.old) ending ≡ Some (reached_of self.new)) }
         ensures count { OnOk result (self.new.instructions ≡ self.old.instructions) }
         ensures bad { IfErr result (λ e. e ≡ BadLine line) }
         ensures none { IfErr result (λ e. step line (reached_of self.old) ending ≡ None) }
@@ -453,10 +488,14 @@ impl<'a> Draft<'a> {
     /// Takes an instruction, or an operator with `(` and its operand.
     #[tactic(auto, using(crate::proofs::ListingLemmas::steps_rules))]
     fn take_statement(&mut self, statement: Statement<'a>, line: usize) -> Result<(), TextFault>
-        ensures ok { OnOk result (steps line (reached_of self.old) (statement_parts statement.entry) ≡ Some (reached_of self.new)) }
+        ensures ok { OnOk result
+            (steps line (reached_of self.old) (statement_parts statement.entry)
+            ≡ Some (reached_of self.new)) }
         ensures count { OnOk result (self.new.instructions ≡ self.old.instructions) }
         ensures bad { IfErr result (λ e. e ≢ OutOfMemory → e ≡ BadLine line) }
-        ensures none { IfErr result (λ e. e ≢ OutOfMemory → steps line (reached_of self.old) (statement_parts statement.entry) ≡ None) }
+        ensures none { IfErr result
+            (λ e. e ≢ OutOfMemory → steps line (reached_of self.old)
+            (statement_parts statement.entry) ≡ None) }
     {
         match statement {
             Statement::Plain(instruction) => self.take_acting(instruction, line),
@@ -482,10 +521,14 @@ impl<'a> Draft<'a> {
         operand: Operand<'a>,
         line: usize,
     ) -> Result<(), TextFault>
-        ensures ok { OnOk result (steps line (reached_of self.old) (opened_parts operator negated (Some operand.entry)) ≡ Some (reached_of self.new)) }
+        ensures ok { OnOk result
+            (steps line (reached_of self.old) (opened_parts operator negated (Some operand.entry))
+            ≡ Some (reached_of self.new)) }
         ensures count { OnOk result (self.new.instructions ≡ self.old.instructions) }
         ensures bad { IfErr result (λ e. e ≢ OutOfMemory → e ≡ BadLine line) }
-        ensures none { IfErr result (λ e. e ≢ OutOfMemory → steps line (reached_of self.old) (opened_parts operator negated (Some operand.entry)) ≡ None) }
+        ensures none { IfErr result
+            (λ e. e ≢ OutOfMemory → steps line (reached_of self.old)
+            (opened_parts operator negated (Some operand.entry)) ≡ None) }
     {
         self.take_entering(operator, negated, line)?;
         let load = Instruction::Load {
@@ -504,10 +547,14 @@ impl<'a> Draft<'a> {
         statement: Statement<'a>,
         line: usize,
     ) -> Result<(), TextFault>
-        ensures ok { OnOk result (steps line (reached_of self.old) (labelling name.now ∷ statement_parts statement.entry) ≡ Some (reached_of self.new)) }
+        ensures ok { OnOk result
+            (steps line (reached_of self.old) (labelling name.now ∷ statement_parts statement.entry)
+            ≡ Some (reached_of self.new)) }
         ensures count { OnOk result (self.new.instructions ≡ self.old.instructions) }
         ensures bad { IfErr result (λ e. e ≢ OutOfMemory → e ≡ BadLine line) }
-        ensures none { IfErr result (λ e. e ≢ OutOfMemory → steps line (reached_of self.old) (labelling name.now ∷ statement_parts statement.entry) ≡ None) }
+        ensures none { IfErr result
+            (λ e. e ≢ OutOfMemory → steps line (reached_of self.old)
+            (labelling name.now ∷ statement_parts statement.entry) ≡ None) }
     {
         self.take_label(name, line)?;
         self.take_statement(statement, line)?;

@@ -290,8 +290,10 @@ fn add_capped(total: u64, number: u64, factor: u64) -> u64
 fn part<'a>(duration: Option<Duration<'a>>, unit: &[u8], factor: u64) -> Option<Duration<'a>>
     requires some { 0 < factor }
     requires small { factor < 2 ^ 31 }
-    ensures { (before : Option spec.Duration) → capped_duration before ≡ option_map seen duration.entry
-        → capped_duration (option_and_then (spec.part unit.now factor) before) ≡ option_map seen result }
+    ensures { (before : Option spec.Duration)
+        → capped_duration before ≡ option_map seen duration.entry
+        → capped_duration (option_and_then (spec.part unit.now factor) before)
+        ≡ option_map seen result }
 {
     let duration = duration?;
     let (digits, tail) = duration.rest.split_at(number_len(duration.rest));
@@ -307,7 +309,8 @@ fn part<'a>(duration: Option<Duration<'a>>, unit: &[u8], factor: u64) -> Option<
     })
 }
 
-/// The milliseconds of a duration: parts in falling units, of which the first may pass the next unit.
+/// The milliseconds of a duration: parts in falling units, of which the first may pass the next
+/// unit.
 fn milliseconds(word: &[u8]) -> Option<u64>
     ensures { result ≡ capped_time (spec.milliseconds word.now) }
 {

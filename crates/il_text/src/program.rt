@@ -173,8 +173,8 @@ pub enum Instruction<'a> {
         kind: StoreKind,
         target: SymbolicVariable<'a>,
     },
-    /// An operator: the current result is combined with the operand, which is negated first where it
-    /// says so.
+    /// An operator: the current result is combined with the operand, which is negated first where
+    /// it says so.
     Combine {
         operator: Operator,
         negated: bool,
@@ -210,9 +210,9 @@ pub enum Item<'a> {
         line: usize,
         instruction: Instruction<'a>,
     },
-    /// The line of `operator(`, the items of the parenthesis, and the line of its `)`. The result of the
-    /// items is negated first where it says so. An operand behind the parenthesis is a load of it on the
-    /// same line, which is the first item.
+    /// The line of `operator(`, the items of the parenthesis, and the line of its `)`. The result
+    /// of the items is negated first where it says so. An operand behind the parenthesis is a load
+    /// of it on the same line, which is the first item.
     Block {
         line: usize,
         operator: Operator,
