@@ -182,7 +182,7 @@ fn replay_command<'a>(alloc: Global) -> Command<'a>
     Command::new(alloc, "replay").about("Replays the scenario on standard input")
 }
 
-/// The program, with all its commands.
+/// The program, before its commands.
 fn program_command<'a>(alloc: Global) -> Result<Command<'a>, AllocError>
     ensures { IfOk result (λ c. app_of c ≡ program_app) }
 {
