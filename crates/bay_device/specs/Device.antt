@@ -11,7 +11,7 @@ use Rattle.bay_config.specs.declared.bay.MeterField.{MeterField}
 use Rattle.bay_config.specs.declared.bay.Source.{Source}
 use Rattle.bay_config.specs.declared.bay.Source.TheVariants as source
 use Rattle.il_image.specs.Machine.{Ending, Halted, Trapped, Unfinished, run}
-use Rattle.il_image.specs.declared.timer.Timer.{Timer}
+use Rattle.il_image.specs.declared.timer.TimerState.{TimerState}
 use Rattle.il_image.specs.declared.value.Value.{Value}
 use Rattle.il_image.specs.declared.value.Value.TheVariants.{Truth, Long}
 use Rattle.il_scan.specs.Scans.{Held, outputs_of, started}
@@ -175,7 +175,7 @@ inputs_of s = map (point_value s) s.reads
 -- what a run leaves in slots and timers, and how many steps it takes
 pub record Ran : Type 0 where
   pub slots : List Value
-  pub timers : List Timer
+  pub timers : List TimerState
   pub steps : ℕ
 
 -- a run that halts; no run of verified code ends otherwise

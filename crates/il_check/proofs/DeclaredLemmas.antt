@@ -20,12 +20,12 @@ use Rattle.il_text.specs.declared.program.Literal.TheVariants as literal
 use Rattle.il_text.specs.declared.program.Scope.{Scope}
 use Rattle.il_text.specs.declared.program.Scope.TheVariants as scope
 use Rattle.il_image.specs.Images.{Each, IsName, IsValue, is_name_octet}
-use Rattle.il_image.specs.Values.{number_of, type_of, value_of}
+use Rattle.il_image.specs.Values.{default_value, number_of, type_of, value_of}
 use Rattle.il_image.specs.declared.value.Value.{Value}
 use Rattle.il_image.specs.declared.value.Value.TheVariants as value
 use Rattle.il_image.proofs.KindLemmas.{same_is}
-use Rattle.il_image.proofs.ValueLemmas.{value_is}
-use Rattle.il_check.specs.Declaring.{may_stand, is_name, point_of, of_type, value_in, default_value, initial_in, is_typed, is_external, is_writable, external_at, external_in, variable_at, variable_in, timer_in, externals_of, variables_of, timers_of, counts_of, meaning_at, meanings_of, looked_up, is_full, declaration_faults, declarations_faults}
+use Rattle.il_image.proofs.ValueLemmas.{default_typed, value_is}
+use Rattle.il_check.specs.Declaring.{may_stand, is_name, point_of, of_type, value_in, initial_in, is_typed, is_external, is_writable, external_at, external_in, variable_at, variable_in, timer_in, externals_of, variables_of, timers_of, counts_of, meaning_at, meanings_of, looked_up, is_full, declaration_faults, declarations_faults}
 use Rattle.il_check.specs.Given.{typed_value}
 use Rattle.il_check.specs.Rules.{number_in}
 use Rattle.il_check.specs.TypedProgram.{HasName, BeginsRight}
@@ -83,15 +83,8 @@ value_in_is kind (literal.Dint z) v e = of_literal kind (literal.Dint z) v e
 value_in_is kind (literal.Lint z) v e = of_literal kind (literal.Lint z) v e
 value_in_is kind (literal.Time n) v e = of_literal kind (literal.Time n) v e
 
-default_is : (kind : ElementaryType) → IsValue (default_value kind) × (type_of (default_value kind) ≡ kind)
-default_is elementary.Bool = (refl, refl)
-default_is elementary.Int = (refl, refl)
-default_is elementary.Dint = (refl, refl)
-default_is elementary.Lint = (refl, refl)
-default_is elementary.Time = (refl, refl)
-
 pub initial_is : (kind : ElementaryType) (o : Option Literal) (v : Value) → initial_in kind o ≡ Some v → IsValue v × (type_of v ≡ kind)
-initial_is kind None v e = subst (λ (x : Value). IsValue x × (type_of x ≡ kind)) (some_is (default_value kind) v e) (default_is kind)
+initial_is kind None v e = subst (λ (x : Value). IsValue x × (type_of x ≡ kind)) (some_is (default_value kind) v e) (let h = default_typed kind in (h.1, h.0))
 initial_is kind (Some l) v e = value_in_is kind l v e
 
 -- ---- names of points

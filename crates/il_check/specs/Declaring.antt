@@ -1,12 +1,11 @@
 -- What the declarations of a program mean (IEC 61131-3:2003, 2.4.3), and their faults.
-use Rattle.std.specs.Prelude.{ℕ, ◌+◌, pos, Bool, true, false, not, ◌&&◌, nat_lt, nat_le, is_some, is_none, List, [], ◌∷◌, ◌++◌, length, find, filter_map, Option, None, Some, if◌then◌else◌}
+use Rattle.std.specs.Prelude.{ℕ, ◌+◌, Bool, true, false, not, ◌&&◌, nat_lt, nat_le, is_some, is_none, List, [], ◌∷◌, ◌++◌, length, find, filter_map, Option, None, Some, if◌then◌else◌}
 use Rattle.std.specs.Char.{to_ascii_uppercase}
 use Rattle.std.specs.List.{list_all}
 use Rattle.std.specs.Str.{bytes_eq}
 use Rattle.bay_base.specs.Names.{upper, same_name}
 use Rattle.bay_base.specs.Types.{same_type}
 use Rattle.bay_base.specs.declared.types.ElementaryType.{ElementaryType}
-use Rattle.bay_base.specs.declared.types.ElementaryType.TheVariants as elementary
 use Rattle.bay_config.specs.declared.bay.Point.{Point}
 use Rattle.il_text.specs.Listing as text
 use Rattle.il_text.specs.declared.program.DeclaredType.{DeclaredType}
@@ -16,9 +15,8 @@ use Rattle.il_text.specs.declared.program.Literal.TheVariants as literal
 use Rattle.il_text.specs.declared.program.Scope.{Scope}
 use Rattle.il_text.specs.declared.program.Scope.TheVariants.{Local, External}
 use Rattle.il_image.specs.declared.value.Value.{Value}
-use Rattle.il_image.specs.declared.value.Value.TheVariants as value
 use Rattle.il_image.specs.Images.{is_name_octet}
-use Rattle.il_image.specs.Values.{type_of}
+use Rattle.il_image.specs.Values.{default_value, type_of}
 use Rattle.il_check.specs.Faults.{fault_if}
 use Rattle.il_check.specs.Given.{Names, typed_value}
 use Rattle.il_check.specs.Rules.{number_in}
@@ -62,14 +60,6 @@ value_in kind (literal.Int z) = of_type kind (typed_value (literal.Int z))
 value_in kind (literal.Dint z) = of_type kind (typed_value (literal.Dint z))
 value_in kind (literal.Lint z) = of_type kind (typed_value (literal.Lint z))
 value_in kind (literal.Time n) = of_type kind (typed_value (literal.Time n))
-
--- FALSE, 0, or T#0ms
-abbrev pub default_value : ElementaryType → Value
-default_value elementary.Bool = value.Truth false
-default_value elementary.Int = value.Short (pos 0)
-default_value elementary.Dint = value.Long (pos 0)
-default_value elementary.Lint = value.Wide (pos 0)
-default_value elementary.Time = value.Span 0
 
 -- the value that a variable of a type begins with, if the literal fits it
 abbrev pub initial_in : ElementaryType → Option Literal → Option Value

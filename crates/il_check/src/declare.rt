@@ -19,10 +19,10 @@ use crate::rules::number_in;
 use crate::typed::{External, Slot, Timer, Variable};
 use bay_base::names::same_name;
 use bay_base::text::Text;
-use bay_base::types::ElementaryType;
+use bay_base::types::{ElementaryType, TimerKind};
 use bay_config::bay::Point;
 use il_image::value::Value;
-use il_text::program::{Declaration, DeclaredType, Literal, Scope, TimerKind};
+use il_text::program::{Declaration, DeclaredType, Literal, Scope};
 use std::alloc::{AllocError, Global};
 use std::collections::BTreeMap;
 
@@ -114,25 +114,13 @@ fn value_in(kind: ElementaryType, literal: Literal) -> Option<Value>
     }
 }
 
-fn default_value(kind: ElementaryType) -> Value
-    ensures { result ≡ spec.default_value kind }
-{
-    match kind {
-        ElementaryType::Bool => Value::Truth(false),
-        ElementaryType::Int => Value::Short(0),
-        ElementaryType::Dint => Value::Long(0),
-        ElementaryType::Lint => Value::Wide(0),
-        ElementaryType::Time => Value::Span(0),
-    }
-}
-
 /// The value that a variable of a type begins with, if the literal fits it.
 fn initial_in(kind: ElementaryType, literal: Option<Literal>) -> Option<Value>
     ensures { result ≡ spec.initial_in kind literal }
 {
     match literal {
         Some(literal) => value_in(kind, literal),
-        None => Some(default_value(kind)),
+        None => Some(Value::default_of(kind)),
     }
 }
 

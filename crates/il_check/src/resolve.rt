@@ -11,7 +11,7 @@ use crate::names::Names;
 use crate::typed::TypedOperand;
 use bay_base::types::ElementaryType;
 use il_image::value::Value;
-use il_text::program::{Argument, Arguments, Instruction, Literal, Operand, Output, Variable};
+use il_text::program::{Argument, Arguments, Instruction, Literal, Operand, Output, SymbolicVariable};
 use std::alloc::AllocError;
 
 /// The value of a literal that has a type, if its number is one of the type's. A TIME is at most
@@ -138,12 +138,12 @@ fn called_of(meaning: Option<Meaning>) -> Called
 }
 
 impl Names {
-    fn place(&self, buffer: &mut String, variable: Variable<'_>) -> Result<Given, AllocError>
+    fn place(&self, buffer: &mut String, variable: SymbolicVariable<'_>) -> Result<Given, AllocError>
         ensures { IfOk result (λ given. given ≡ spec.place_given (names_of self.now) (place_of variable.entry)) }
     {
         match variable {
-            Variable::Name(name) => Ok(variable_given(self.meaning(buffer, name)?)),
-            Variable::Output { timer, output } => {
+            SymbolicVariable::Name(name) => Ok(variable_given(self.meaning(buffer, name)?)),
+            SymbolicVariable::Output { timer, output } => {
                 Ok(output_given(self.meaning(buffer, timer)?, output))
             }
         }

@@ -2,10 +2,10 @@
 ghost use Rattle.std.specs.Prelude.{◌≡◌};
 
 use bay_base::text::Text;
-use bay_base::types::ElementaryType;
+use bay_base::types::{ElementaryType, TimerKind};
 use bay_config::bay::Source;
 use il_image::value::Value;
-use il_text::program::{Condition, Conversion, Input, Operator, Output, StoreKind, TimerKind};
+use il_text::program::{Condition, Conversion, Input, Operator, Output, StoreKind};
 
 /// A variable that is given to the program (IEC 61131-3:2003, 2.4.3, VAR_EXTERNAL): a point of the bay.
 #[derive(Drop)]

@@ -8,7 +8,7 @@ use Rattle.il_image.specs.Values.{type_of}
 use Rattle.il_image.specs.declared.instr.Instr.{Instr}
 use Rattle.il_image.specs.declared.instr.Instr.TheVariants.{Timer}
 use Rattle.il_image.specs.declared.opcode.TimerUse.TheVariants.{Run}
-use Rattle.il_image.specs.declared.timer.Timer.{Timer as TimerState}
+use Rattle.il_image.specs.declared.timer.TimerState.{TimerState}
 use Rattle.il_image.specs.declared.value.Value.{Value}
 use Rattle.il_image.specs.declared.value.Value.TheVariants.{Truth, Short, Long, Wide, Span}
 use Rattle.il_check.specs.Program.{Checked}

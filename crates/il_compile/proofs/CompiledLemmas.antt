@@ -3,12 +3,12 @@ use Rattle.std.proofs.Common.{◌≡◌, ℕ, ◌+◌, ◌*◌, ◌<◌, ◌≤�
 use Rattle.std.proofs.lemmas.Bool.{le-leb, leb-true}
 use Rattle.std.proofs.lemmas.List.{length-map}
 use Rattle.il_image.specs.Images.{Each, HasName, Image, IsImage, IsValue, all_spelled}
-use Rattle.il_image.specs.Machine.{start}
+use Rattle.il_image.specs.Machine.{initial_state}
 use Rattle.il_image.specs.Tables.{HasTable}
 use Rattle.il_image.proofs.BegunLemmas.{closed_by, first_place, loose_is_run}
 use Rattle.il_image.specs.declared.instr.Instr.TheVariants.{Halt}
 use Rattle.il_image.specs.declared.image.ImagePoint.{ImagePoint}
-use Rattle.il_image.specs.declared.timer.TimerKind.{TimerKind}
+use Rattle.bay_base.specs.declared.types.TimerKind.{TimerKind}
 use Rattle.il_image.specs.declared.value.Value.{Value}
 use Rattle.il_check.specs.Program.{Checked}
 use Rattle.il_check.specs.TypedProgram as typed
@@ -18,7 +18,6 @@ use Rattle.il_check.specs.declared.typed.Variable.{Variable}
 use Rattle.il_compile.specs.Behind.{IsSettled}
 use Rattle.il_compile.specs.Code.{items_code, octets, program_code, unset}
 use Rattle.il_compile.specs.Compiled.{compiled_of, image_of, image_size, point_of, points_octets}
-use Rattle.il_compile.specs.Senses.{timer_of}
 use Rattle.il_compile.specs.declared.behind.Behind.{Behind}
 use Rattle.il_compile.specs.declared.fault.CompileFault.TheVariants.{CodeTooLong}
 use Rattle.il_compile.specs.Correct.{DoesTheText, Follows}
@@ -53,7 +52,7 @@ is_image c ok short =
     record {
       points = (let l = length-map c.externals point_of in omega arith);
       variables = (let l = length-map c.variables (λ v. v.initial) in omega arith);
-      timers = (let l = length-map c.timers (λ t. timer_of t.kind) in omega arith);
+      timers = (let l = length-map c.timers (λ t. t.kind) in omega arith);
       size = omega arith;
       names = names_are c.externals ok.names;
       values = values_are c.variables ok.initial;
@@ -113,7 +112,7 @@ followed : (c : Checked) → HasTable (image_of c) → (now : ℕ) (m : Memory) 
 followed c table now m f = record {
   means = f.means;
   steps = f.steps;
-  halts = sym (loose_is_run (image_of c).code now (closed_by (image_of c) table.0 table.1) (length (image_of c).code) (start (m.externals ++ m.variables) m.timers) 0 (first_place (image_of c) table.0 table.1)) ∙ f.halts;
+  halts = sym (loose_is_run (image_of c).code now (closed_by (image_of c) table.0 table.1) (length (image_of c).code) (initial_state (m.externals ++ m.variables) m.timers) 0 (first_place (image_of c) table.0 table.1)) ∙ f.halts;
 }
 
 pub does_the_text : (c : Checked) (i : Image) → IsTyped c → compiled_of c ≡ Ok i → DoesTheText c i.code

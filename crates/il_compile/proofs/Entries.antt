@@ -2,6 +2,7 @@
 use Rattle.std.proofs.Common.{◌≡◌, ℕ, pos, ◌+◌, ◌<◌, ◌≤◌, ◌&&◌, Bool, true, false, not, List, [], ◌∷◌, length, Option, Some, None, option_map, refl, sym, ap, subst, ◌∙◌, arith}
 use Rattle.std.specs.Prelude.{slice_get, slice_set}
 use Rattle.std.specs.Ordering.{int_eq}
+use Rattle.bay_base.specs.Options.{◌>>=◌}
 use Rattle.bay_base.specs.Types.{same_type}
 use Rattle.bay_base.specs.declared.types.ElementaryType.{ElementaryType}
 use Rattle.bay_base.specs.declared.types.ElementaryType.TheVariants as elementary
@@ -9,7 +10,6 @@ use Rattle.il_text.specs.declared.program.Operator.{Operator}
 use Rattle.il_text.specs.declared.program.Output.TheVariants.{Q, Et}
 use Rattle.il_text.specs.declared.program.StoreKind.{StoreKind}
 use Rattle.il_text.specs.declared.program.StoreKind.TheVariants as store
-use Rattle.il_image.specs.Effects.{◌>>=◌}
 use Rattle.il_image.specs.Values.{number_of, type_of}
 use Rattle.il_image.specs.declared.instr.Instr.{Instr}
 use Rattle.il_image.specs.declared.instr.Instr.TheVariants.{Slot, Not}

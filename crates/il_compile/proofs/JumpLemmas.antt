@@ -1,9 +1,9 @@
 -- A jump goes on behind its label.
 use Rattle.std.proofs.Common.{◌≡◌, ℕ, ◌==◌, Bool, true, false, if◌then◌else◌, List, [], ◌∷◌, Option, Some, None, refl, ap, ◌∙◌}
+use Rattle.bay_base.specs.Options.{◌>>=◌}
 use Rattle.il_text.specs.declared.program.Condition.{Condition}
 use Rattle.il_check.specs.Program.{Item, label, transfer, plain}
 use Rattle.il_check.specs.declared.typed.Transfer.TheVariants as go
-use Rattle.il_image.specs.Effects.{◌>>=◌}
 use Rattle.il_compile.specs.Laws.{items_behind, mean_behind}
 use Rattle.il_compile.specs.Meaning.{State, goes, mean_from}
 

@@ -4,7 +4,7 @@ use Rattle.std.specs.Prelude.{slice_get, slice_set}
 use Rattle.std.proofs.lemmas.List.{length-map}
 use Rattle.bay_base.specs.declared.types.ElementaryType.{ElementaryType}
 use Rattle.il_image.specs.Values.{type_of}
-use Rattle.il_image.specs.declared.timer.Timer.{Timer}
+use Rattle.il_image.specs.declared.timer.TimerState.{TimerState}
 use Rattle.il_image.specs.declared.value.Value.{Value}
 use Rattle.il_check.specs.Program.{Checked}
 use Rattle.il_check.specs.TypedProgram.{slot_type}
@@ -13,7 +13,6 @@ use Rattle.il_check.specs.declared.typed.Slot.TheVariants.{External, Variable}
 use Rattle.il_compile.specs.Code.{slot_number}
 use Rattle.il_compile.specs.Correct.{HasTypes}
 use Rattle.il_compile.specs.Meaning.{Memory, slot_value, with_value}
-use Rattle.il_compile.specs.Senses.{timer_of}
 
 -- the slots of a memory: the externals, and then the variables
 abbrev pub flat : Memory → List Value
@@ -122,10 +121,10 @@ changed c m (Variable n) v ty h =
 
 -- ---- timers
 
-pub timer_there : (c : Checked) (m : Memory) (n : ℕ) → HasTypes c m → n < length c.timers → (t : Timer) × (slice_get m.timers n ≡ Some t)
+pub timer_there : (c : Checked) (m : Memory) (n : ℕ) → HasTypes c m → n < length c.timers → (t : TimerState) × (slice_get m.timers n ≡ Some t)
 timer_there c m n ty lt =
-    let same : length m.timers ≡ length c.timers = same_count (λ t. t.kind) (λ t. timer_of t.kind) m.timers c.timers ty.timers in
+    let same : length m.timers ≡ length c.timers = same_count (λ t. t.kind) (λ t. t.kind) m.timers c.timers ty.timers in
     get_below m.timers n (omega arith)
 
-pub timer_changed : (c : Checked) (m : Memory) (n : ℕ) (t u : Timer) → HasTypes c m → slice_get m.timers n ≡ Some t → u.kind ≡ t.kind → HasTypes c (record m { timers = slice_set m.timers n u })
-timer_changed c m n t u ty is same = record { externals = ty.externals; variables = ty.variables; timers = alike_kept (λ (x : Timer). x.kind) m.timers n t u is same ∙ ty.timers }
+pub timer_changed : (c : Checked) (m : Memory) (n : ℕ) (t u : TimerState) → HasTypes c m → slice_get m.timers n ≡ Some t → u.kind ≡ t.kind → HasTypes c (record m { timers = slice_set m.timers n u })
+timer_changed c m n t u ty is same = record { externals = ty.externals; variables = ty.variables; timers = alike_kept (λ (x : TimerState). x.kind) m.timers n t u is same ∙ ty.timers }

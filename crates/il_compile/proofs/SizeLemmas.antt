@@ -4,13 +4,12 @@ use Rattle.std.proofs.lemmas.List.{length-map}
 use Rattle.il_image.specs.Images.{counted, each_spelled, encoded, point_octets, timer_octets, variable_octets}
 use Rattle.il_image.specs.Octets.{number_octets}
 use Rattle.il_image.specs.declared.opcode.Version.TheVariants.{Two}
-use Rattle.il_image.specs.declared.timer.TimerKind.{TimerKind}
-use Rattle.il_image.specs.declared.timer.TimerKind.TheVariants.{OnDelay, OffDelay}
+use Rattle.bay_base.specs.declared.types.TimerKind.{TimerKind}
+use Rattle.bay_base.specs.declared.types.TimerKind.TheVariants.{OnDelay, OffDelay}
 use Rattle.il_image.specs.declared.value.Value.{Value}
 use Rattle.il_check.specs.Program.{Checked}
 use Rattle.il_check.specs.declared.typed.External.{External}
 use Rattle.il_compile.specs.Code.{octets, program_code}
-use Rattle.il_compile.specs.Senses.{timer_of}
 use Rattle.il_compile.specs.Compiled.{image_of, image_size, point_of, points_octets}
 
 points_long : (es : List External) → length (each_spelled point_octets (map point_of es)) ≡ points_octets es
@@ -43,7 +42,7 @@ size_is c =
     let v = values_long i.variables in
     let t = timers_long i.timers in
     let vs = length-map c.variables (λ w. w.initial) in
-    let ts = length-map c.timers (λ w. timer_of w.kind) in
+    let ts = length-map c.timers (λ w. w.kind) in
     let a = length-append (counted point_octets i.points) (counted (variable_octets Two) i.variables ++ (counted (timer_octets Two) i.timers ++ (number_octets (length i.code) ++ i.code))) in
     let b = length-append (counted (variable_octets Two) i.variables) (counted (timer_octets Two) i.timers ++ (number_octets (length i.code) ++ i.code)) in
     let d = length-append (counted (timer_octets Two) i.timers) (number_octets (length i.code) ++ i.code) in

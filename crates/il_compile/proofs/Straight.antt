@@ -4,7 +4,7 @@ use Rattle.std.specs.Prelude.{slice_get, slice_set, nat_lt, if◌then◌else◌,
 use Rattle.std.specs.Ordering.{int_eq}
 use Rattle.std.proofs.lemmas.Bool.{lt-ltb}
 use Rattle.bay_base.specs.Types.{same_type}
-use Rattle.il_image.specs.Machine.{State, Goes, Traps, WrongKind, ZeroDivisor, act, goes, is_comparable, divides, value_in}
+use Rattle.il_image.specs.Machine.{State, Goes, Traps, WrongKind, ZeroDivisor, act, goes, is_comparable, divides, value_of_width}
 use Rattle.il_image.specs.Arithmetic.{computed, compared, connected, widened}
 use Rattle.il_image.specs.Timers.{called}
 use Rattle.il_image.specs.Values.{number_of, type_of}
@@ -17,7 +17,7 @@ use Rattle.il_image.specs.declared.opcode.SlotUse.TheVariants.{Load, Store, SetI
 use Rattle.il_image.specs.declared.opcode.TimerUse.TheVariants.{Run, LoadOutput, LoadElapsed}
 use Rattle.il_image.specs.declared.opcode.Widening.{Widening}
 use Rattle.il_image.specs.declared.opcode.Widening.TheVariants.{IntToDint, DintToLint}
-use Rattle.il_image.specs.declared.timer.Timer.{Timer as TimerState}
+use Rattle.il_image.specs.declared.timer.TimerState.{TimerState}
 use Rattle.il_image.specs.declared.value.Value.{Value}
 use Rattle.il_image.specs.declared.value.Value.TheVariants.{Truth, Short, Long, Wide, Span}
 use Rattle.il_text.specs.declared.program.Input.{Input}
@@ -82,10 +82,10 @@ module _ (now : ℕ) (slots : List Value) (timers : List TimerState) where
   wider DintToLint (Span n) x cells e p next = absurd cc
 
   computed_by : (o : Operation) (w : Width) (a b : ℤ) (c : Value) (cells : List Value) (p next : ℕ) (s : State) (zero : Bool) → zero ≡ (divides o && int_eq b (pos 0))
-      → (if zero then None else Some (value_in w (computed o w a b))) ≡ Some c
-      → (if zero then Traps ZeroDivisor else goes next (value_in w (computed o w a b) ∷ cells) s) ≡ goes next (c ∷ cells) s
+      → (if zero then None else Some (value_of_width w (computed o w a b))) ≡ Some c
+      → (if zero then Traps ZeroDivisor else goes next (value_of_width w (computed o w a b) ∷ cells) s) ≡ goes next (c ∷ cells) s
   computed_by o w a b c cells p next s true z e = absurd cc
-  computed_by o w a b c cells p next s false z e = let same : value_in w (computed o w a b) ≡ c = cc in rw same refl
+  computed_by o w a b c cells p next s false z e = let same : value_of_width w (computed o w a b) ≡ c = cc in rw same refl
 
   pub joined : (sense : Sense) (a b c : Value) (cells : List Value) → combined sense a b ≡ Some c
       → Does now (sense_instr sense (type_of a)) (core (b ∷ a ∷ cells) slots timers) (core (c ∷ cells) slots timers)

@@ -6,7 +6,7 @@ use Rattle.il_image.specs.Spelling.{IsInstr, spelling}
 use Rattle.il_image.specs.Tables.{Enters, HasTable, IsPlace, LeadsTo}
 use Rattle.il_image.specs.declared.instr.Instr.{Instr}
 use Rattle.il_image.specs.declared.instr.Instr.TheVariants.{Halt}
-use Rattle.il_image.specs.declared.kind.Kind.TheVariants.{Any, Plain}
+use Rattle.il_image.specs.declared.kind.CellKind.TheVariants.{Any, Plain}
 use Rattle.il_image.specs.declared.value.Value.TheVariants.{Truth}
 use Rattle.il_image.proofs.KindLemmas.{within_any}
 use Rattle.bay_base.specs.declared.types.ElementaryType.TheVariants as elementary

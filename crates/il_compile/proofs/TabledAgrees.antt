@@ -6,7 +6,7 @@ use Rattle.il_image.specs.Images.{Each, Image}
 use Rattle.il_image.specs.Spelling.{spelling}
 use Rattle.il_image.specs.Tables.{Agrees, Enters, IsAllowed, IsPlace, IsSuccessor, LeadsTo, slot_types}
 use Rattle.il_image.specs.declared.instr.Instr.{Instr}
-use Rattle.il_image.specs.declared.kind.Kind.{Kind}
+use Rattle.il_image.specs.declared.kind.CellKind.{CellKind}
 use Rattle.il_compile.specs.Code.{octets}
 use Rattle.il_compile.proofs.Placing.{Stands, octets_both, octets_more}
 use Rattle.il_compile.proofs.TabledRows.{At, Row, at_found, at_place, behind_row, behind_rows, find_row, instrs_both, instrs_of, is_at, lead_off, lead_on, some_row, table_of}
@@ -16,7 +16,7 @@ use Rattle.il_compile.proofs.TabledRows.{At, Row, at_found, at_place, behind_row
 -- The instruction is allowed on its kinds, and what it gives enters the rows behind it where it
 -- leads.
 pub record IsRight (image : Image) (r : Row) (behind : List Row) : Type 0 where
-  pub after : List Kind
+  pub after : List CellKind
   pub effect : effect (slot_types image) (length image.timers) r.instr r.kinds ≡ Some after
   pub enters : (d : ℕ) → LeadsTo r.instr 0 d → Enters (table_of behind) d after
   pub room : length r.kinds ≤ 32
@@ -92,7 +92,7 @@ module _ (code : List ℕ) (is : List Instr) (whole : Stands code 0 is) (size : 
 -- ---- the whole table
 
 module _ (image : Image) (rows : List Row) (whole : Stands image.code 0 (instrs_of rows)) (size : length image.code ≡ octets (instrs_of rows)) where
-  allowed_at : AreRight image rows → (place : ℕ) (kinds : List Kind) → table_of rows place ≡ Some kinds → IsAllowed image (table_of rows) place kinds
+  allowed_at : AreRight image rows → (place : ℕ) (kinds : List CellKind) → table_of rows place ≡ Some kinds → IsAllowed image (table_of rows) place kinds
   allowed_at right place kinds e =
       let f = find_row rows place kinds e in
       let n = length (spelling f.row.instr) in
@@ -115,13 +115,13 @@ module _ (image : Image) (rows : List Row) (whole : Stands image.code 0 (instrs_
             (en.0, same ∙ en.1, en.2));
       }
 
-  room_at : AreRight image rows → (place : ℕ) (kinds : List Kind) → table_of rows place ≡ Some kinds → length kinds ≤ 32
+  room_at : AreRight image rows → (place : ℕ) (kinds : List CellKind) → table_of rows place ≡ Some kinds → length kinds ≤ 32
   room_at right place kinds e =
       let f = find_row rows place kinds e in
       let ok = right_at image f.before f.row f.behind (subst (AreRight image) f.is right) in
       subst (λ ks. length ks ≤ 32) f.same ok.room
 
-  to_place : (place : ℕ) (o : Option (List Kind)) → table_of rows place ≡ o → IsSome o → IsPlace image.code place
+  to_place : (place : ℕ) (o : Option (List CellKind)) → table_of rows place ≡ o → IsSome o → IsPlace image.code place
   to_place place None e h = absurd cc
   to_place place (Some kinds) e h =
       let f = find_row rows place kinds e in

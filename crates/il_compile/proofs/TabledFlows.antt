@@ -11,8 +11,8 @@ use Rattle.il_text.specs.declared.program.StoreKind.TheVariants as store
 use Rattle.il_image.specs.Kinds.{is_within}
 use Rattle.il_image.specs.declared.instr.Instr.{Instr}
 use Rattle.il_image.specs.declared.instr.Instr.TheVariants.{Timer}
-use Rattle.il_image.specs.declared.kind.Kind.{Kind}
-use Rattle.il_image.specs.declared.kind.Kind.TheVariants.{Plain, NotZero}
+use Rattle.il_image.specs.declared.kind.CellKind.{CellKind}
+use Rattle.il_image.specs.declared.kind.CellKind.TheVariants.{Plain, NotZero}
 use Rattle.il_image.specs.declared.opcode.TimerUse.TheVariants.{Run}
 use Rattle.il_image.specs.declared.value.Value.TheVariants.{Truth}
 use Rattle.il_image.proofs.KindLemmas.{within_any}
@@ -30,7 +30,7 @@ use Rattle.il_compile.proofs.TabledSteps.{Flow, Steps, converted, dropped, fetch
 use Rattle.il_compile.proofs.Values.{boolean_is, same_sense, sense_divides, sense_takes}
 
 -- a cell of the result's type, where the result is known to be set
-abbrev pub Fits : Option ElementaryType → Kind → Type 0
+abbrev pub Fits : Option ElementaryType → CellKind → Type 0
 Fits t top = is_within top (kind_at t) ≡ true
 
 both_true : (a b : Bool) → a && b ≡ true → (a ≡ true) × (b ≡ true)
@@ -59,13 +59,13 @@ not_both b e f = absurd cc
 
 module _ (c : Checked) where
   -- what code leaves of the kinds on the stack: a cell of the type on those below
-  pub record Leaves (code : List Instr) (from below : List Kind) (u : Option ElementaryType) : Type 0 where
-    pub top : Kind
+  pub record Leaves (code : List Instr) (from below : List CellKind) (u : Option ElementaryType) : Type 0 where
+    pub top : CellKind
     pub fits : Fits u top
     pub flow : Flow c code from (top ∷ below)
 
   -- N behind an operator or a load
-  negated_flows : (negated : Bool) (kind : ElementaryType) (v : Kind) (below : List Kind) → is_within v (Plain kind) ≡ true → rules.may_negate negated kind ≡ true → length below < 32
+  negated_flows : (negated : Bool) (kind : ElementaryType) (v : CellKind) (below : List CellKind) → is_within v (Plain kind) ≡ true → rules.may_negate negated kind ≡ true → length below < 32
       → Leaves (negation negated) (v ∷ below) below (Some kind)
   negated_flows false kind v below h may room = record { top = v; fits = h; flow = refl }
   negated_flows true kind v below h may room =
@@ -76,7 +76,7 @@ module _ (c : Checked) where
         flow = (_, inverted c v below (subst (λ k. is_within v (Plain k) ≡ true) e h) room, refl);
       }
 
-  operator_flows : (o : Operator) (negated : Bool) (kind : ElementaryType) (v a : Kind) (below : List Kind) → is_within v (Plain kind) ≡ true → is_within a (Plain kind) ≡ true
+  operator_flows : (o : Operator) (negated : Bool) (kind : ElementaryType) (v a : CellKind) (below : List CellKind) → is_within v (Plain kind) ≡ true → is_within a (Plain kind) ≡ true
       → rules.works o negated kind ≡ true → (rules.divides o ≡ true → is_within v (NotZero (width_of kind)) ≡ true) → length below + 2 ≤ 32
       → Leaves (operated o kind negated) (v ∷ a ∷ below) below (Some (rules.gives o kind))
   operator_flows o false kind v a below h g works d room =
@@ -104,7 +104,7 @@ module _ (c : Checked) where
 
   -- ---- operations
 
-  bool_flows : (how : StoreKind) (n : ℕ) (top : Kind) (below : List Kind) → slice_get (slots c) n ≡ Some elementary.Bool → slice_get (writable c) n ≡ Some true → is_within top (Plain elementary.Bool) ≡ true → length below < 32
+  bool_flows : (how : StoreKind) (n : ℕ) (top : CellKind) (below : List CellKind) → slice_get (slots c) n ≡ Some elementary.Bool → slice_get (writable c) n ≡ Some true → is_within top (Plain elementary.Bool) ≡ true → length below < 32
       → Leaves (store_code how n) (top ∷ below) below (Some elementary.Bool)
   bool_flows store.Plain n top below s w h room = record { top = top; fits = h; flow = (_, stored c n elementary.Bool top below s w h room, refl) }
   bool_flows store.Negated n top below s w h room = record {
@@ -116,20 +116,20 @@ module _ (c : Checked) where
   bool_flows store.Reset n top below s w h room = record { top = top; fits = h; flow = (_, reset_if c n top below s w h room, refl) }
 
   -- a store that is not plain is of a BOOL
-  special_flows : (how : StoreKind) (n : ℕ) (kind : ElementaryType) (top : Kind) (below : List Kind) → kind ≡ elementary.Bool → slice_get (slots c) n ≡ Some kind → slice_get (writable c) n ≡ Some true
+  special_flows : (how : StoreKind) (n : ℕ) (kind : ElementaryType) (top : CellKind) (below : List CellKind) → kind ≡ elementary.Bool → slice_get (slots c) n ≡ Some kind → slice_get (writable c) n ≡ Some true
       → is_within top (Plain kind) ≡ true → length below < 32 → Leaves (store_code how n) (top ∷ below) below (Some kind)
   special_flows how n kind top below e s w h room =
       subst (λ k. Leaves (store_code how n) (top ∷ below) below (Some k)) (sym e)
       (bool_flows how n top below (s ∙ ap Some e) w (subst (λ k. is_within top (Plain k) ≡ true) e h) room)
 
-  store_flows : (how : StoreKind) (n : ℕ) (kind : ElementaryType) (top : Kind) (below : List Kind) → rules.may_negate (not (rules.is_plain how)) kind ≡ true → slice_get (slots c) n ≡ Some kind
+  store_flows : (how : StoreKind) (n : ℕ) (kind : ElementaryType) (top : CellKind) (below : List CellKind) → rules.may_negate (not (rules.is_plain how)) kind ≡ true → slice_get (slots c) n ≡ Some kind
       → slice_get (writable c) n ≡ Some true → is_within top (Plain kind) ≡ true → length below < 32 → Leaves (store_code how n) (top ∷ below) below (Some kind)
   store_flows store.Plain n kind top below may s w h room = record { top = top; fits = h; flow = (_, stored c n kind top below s w h room, refl) }
   store_flows store.Negated n kind top below may s w h room = special_flows store.Negated n kind top below (boolean_is kind may) s w h room
   store_flows store.Set n kind top below may s w h room = special_flows store.Set n kind top below (boolean_is kind may) s w h room
   store_flows store.Reset n kind top below may s w h room = special_flows store.Reset n kind top below (boolean_is kind may) s w h room
 
-  operation_flows : (o : Operation) (t u : Option ElementaryType) (top : Kind) (below : List Kind) → IsOperation c o t u → Fits t top → length below + 2 ≤ 32
+  operation_flows : (o : Operation) (t u : Option ElementaryType) (top : CellKind) (below : List CellKind) → IsOperation c o t u → Fits t top → length below + 2 ≤ 32
       → Leaves (operation_code (length c.externals) o) (top ∷ below) below u
   operation_flows (op.Load negated x) t u top below ok fit room =
       let f = fetched c x ok.0 below ok.1 (omega arith) in
@@ -159,7 +159,7 @@ module _ (c : Checked) where
   -- ---- parentheses
 
   mutual
-    pub entry_flows : (e : Entry) (t u : Option ElementaryType) (top : Kind) (below : List Kind) → IsEntry c e t u → Fits t top → length below + entry_depth e + 2 ≤ 32
+    pub entry_flows : (e : Entry) (t u : Option ElementaryType) (top : CellKind) (below : List CellKind) → IsEntry c e t u → Fits t top → length below + entry_depth e + 2 ≤ 32
         → Leaves (entry_code (length c.externals) e) (top ∷ below) below u
     entry_flows (operation o) t u top below ok fit room = operation_flows o t u top below ok fit (omega arith)
     entry_flows (block operator kind negated es) t u top below ok fit room =
@@ -176,7 +176,7 @@ module _ (c : Checked) where
           );
         }
 
-    entries_flow : (es : Entries) (t u : Option ElementaryType) (top : Kind) (below : List Kind) → AreEntries c es t u → Fits t top → length below + entries_depth es + 2 ≤ 32
+    entries_flow : (es : Entries) (t u : Option ElementaryType) (top : CellKind) (below : List CellKind) → AreEntries c es t u → Fits t top → length below + entries_depth es + 2 ≤ 32
         → Leaves (entries_code (length c.externals) es) (top ∷ below) below u
     entries_flow no_entries t u top below ok fit room = record { top = top; fits = subst (λ w. Fits w top) (sym ok) fit; flow = refl }
     entries_flow (entry e es) t u top below ok fit room =
@@ -190,22 +190,22 @@ module _ (c : Checked) where
 
   -- ---- calls
 
-  given : (i : Input) (n : ℕ) (top : Kind) (ks : List Kind) → n < length c.timers → is_within top (Plain (rules.input_type i)) ≡ true → length ks < 32 → Steps c (Timer (input_use i) n) (top ∷ ks) ks
+  given : (i : Input) (n : ℕ) (top : CellKind) (ks : List CellKind) → n < length c.timers → is_within top (Plain (rules.input_type i)) ≡ true → length ks < 32 → Steps c (Timer (input_use i) n) (top ∷ ks) ks
   given In n top ks lt h room = input_set c n top ks lt h room
   given Pt n top ks lt h room = preset_set c n top ks lt h room
 
-  argument_flows : (n : ℕ) (a : TypedArgument) (ks : List Kind) → n < length c.timers → IsArgument c a → length ks < 32 → Flow c (argument_code (length c.externals) n a) ks ks
+  argument_flows : (n : ℕ) (a : TypedArgument) (ks : List CellKind) → n < length c.timers → IsArgument c a → length ks < 32 → Flow c (argument_code (length c.externals) n a) ks ks
   argument_flows n a ks lt ok room =
       let f = fetched c a.operand (rules.input_type a.input) ks ok (omega arith) in
       (f.top ∷ ks, f.step, (ks, given a.input n f.top ks lt f.fits room, refl))
 
-  arguments_flow : (n : ℕ) (args : TypedArguments) (ks : List Kind) → n < length c.timers → AreArguments c args → length ks < 32 → Flow c (arguments_code (length c.externals) n args) ks ks
+  arguments_flow : (n : ℕ) (args : TypedArguments) (ks : List CellKind) → n < length c.timers → AreArguments c args → length ks < 32 → Flow c (arguments_code (length c.externals) n args) ks ks
   arguments_flow n arguments.None ks lt ok room = refl
   arguments_flow n (arguments.One a) ks lt ok room = argument_flows n a ks lt ok room
   arguments_flow n (arguments.Two a b) ks lt ok room =
       flow_both c (argument_code (length c.externals) n a) (argument_code (length c.externals) n b) ks ks ks (argument_flows n a ks lt ok.0 room) (argument_flows n b ks lt ok.1 room)
 
-  pub call_flows : (n : ℕ) (args : TypedArguments) (ks : List Kind) → n < length c.timers → AreArguments c args → length ks < 32
+  pub call_flows : (n : ℕ) (args : TypedArguments) (ks : List CellKind) → n < length c.timers → AreArguments c args → length ks < 32
       → Flow c (arguments_code (length c.externals) n args ++ Timer Run n ∷ []) ks ks
   call_flows n args ks lt ok room =
       flow_both c (arguments_code (length c.externals) n args) (Timer Run n ∷ []) ks ks ks (arguments_flow n args ks lt ok room) (ks, ran c n ks lt (omega arith), refl)

@@ -11,8 +11,8 @@ use Rattle.il_image.specs.Spelling.{spelling}
 use Rattle.il_image.specs.Tables.{Enters, LeadsTo, Table}
 use Rattle.il_image.specs.declared.instr.Instr.{Instr}
 use Rattle.il_image.specs.declared.instr.Instr.TheVariants.{Halt, Jump, Timer}
-use Rattle.il_image.specs.declared.kind.Kind.{Kind}
-use Rattle.il_image.specs.declared.kind.Kind.TheVariants.{Any}
+use Rattle.il_image.specs.declared.kind.CellKind.{CellKind}
+use Rattle.il_image.specs.declared.kind.CellKind.TheVariants.{Any}
 use Rattle.il_image.specs.declared.opcode.TimerUse.TheVariants.{Run}
 use Rattle.il_image.proofs.KindLemmas.{within_along, within_any, within_self}
 use Rattle.il_check.specs.Labelling.{Becomes, Coming, Falls, Labelling, carried, coming_behind_label, is_named}
@@ -33,14 +33,14 @@ each_both : {A : Type 0} (P : A → Type 0) (a b : List A) → Each P a → Each
 each_both P [] b h k = k
 each_both P (x ∷ a) b h k = (h.0, each_both P a b h.1 k)
 
-all_within : (ks : List Kind) → AreWithin ks ks
+all_within : (ks : List CellKind) → AreWithin ks ks
 all_within [] = tt
 all_within (k ∷ ks) = (within_self k, all_within ks)
 
-pub enters_less : (table : Table) (d : ℕ) (j k : Kind) → is_within j k ≡ true → Enters table d (k ∷ []) → Enters table d (j ∷ [])
+pub enters_less : (table : Table) (d : ℕ) (j k : CellKind) → is_within j k ≡ true → Enters table d (k ∷ []) → Enters table d (j ∷ [])
 enters_less table d j k h e = by_most e.0 e.1 e.2
   where
-    by_most : (most : List Kind) → table d ≡ Some most → AreWithin (k ∷ []) most → Enters table d (j ∷ [])
+    by_most : (most : List CellKind) → table d ≡ Some most → AreWithin (k ∷ []) most → Enters table d (j ∷ [])
     by_most [] is w = absurd w
     by_most (m ∷ ms) is w = (m ∷ ms, is, (within_along j k m h w.0, w.1))
 
@@ -50,26 +50,26 @@ become_within t u b =
     (λ (e : u ≡ None). subst (λ w. is_within (kind_at t) (kind_at w) ≡ true) (sym e) (within_any (kind_at t))) b
 
 -- rows behind others
-further : (front rows : List Row) (size d : ℕ) (ks : List Kind) → octets (instrs_of front) ≡ size → Enters (table_of rows) d ks → Enters (table_of (front ++ rows)) (size + d) ks
+further : (front rows : List Row) (size d : ℕ) (ks : List CellKind) → octets (instrs_of front) ≡ size → Enters (table_of rows) d ks → Enters (table_of (front ++ rows)) (size + d) ks
 further front rows size d ks e h = (h.0, ap (λ n. table_of (front ++ rows) (n + d)) (sym e) ∙ behind_rows front rows d ∙ h.1, h.2)
 
 module _ (c : Checked) where
-  pub flow_straight : (code : List Instr) (ks js : List Kind) → Flow c code ks js → Each (λ i. LeadsTo i 0 0) code
+  pub flow_straight : (code : List Instr) (ks js : List CellKind) → Flow c code ks js → Each (λ i. LeadsTo i 0 0) code
   flow_straight [] ks js f = tt
   flow_straight (i ∷ code) ks js f = (f.1.goes, flow_straight code f.0 js f.2)
 
-  flow_keeps : (code : List Instr) (ks js : List Kind) → Flow c code ks js → Each (Keeps c) code
+  flow_keeps : (code : List Instr) (ks js : List CellKind) → Flow c code ks js → Each (Keeps c) code
   flow_keeps [] ks js f = tt
   flow_keeps (i ∷ code) ks js f = (f.1.keeps, flow_keeps code f.0 js f.2)
 
   -- the rows of instructions before others
-  record Put (code : List Instr) (ks : List Kind) (rows : List Row) : Type 0 where
+  record Put (code : List Instr) (ks : List CellKind) (rows : List Row) : Type 0 where
     front : List Row
     same : instrs_of front ≡ code
     right : AreRight (image_of c) (front ++ rows)
     first : Enters (table_of (front ++ rows)) 0 ks
 
-  put : (code : List Instr) (ks js : List Kind) (rows : List Row) → Flow c code ks js → AreRight (image_of c) rows → Enters (table_of rows) 0 js → Put code ks rows
+  put : (code : List Instr) (ks js : List CellKind) (rows : List Row) → Flow c code ks js → AreRight (image_of c) rows → Enters (table_of rows) 0 js → Put code ks rows
   put [] ks js rows f right first = record { front = []; same = refl; right = right; first = subst (λ x. Enters (table_of rows) 0 x) (sym f) first }
   put (i ∷ code) ks js rows f right first =
       let p = put code f.0 js rows f.2 right first in
@@ -130,7 +130,7 @@ module _ (c : Checked) (labels : Labelling) where
     pub right : AreRight (image_of c) rows
     pub first : (t : Option ElementaryType) → now ≡ Some t → Enters (table_of rows) 0 (kind_at t ∷ [])
     pub labelled : (l : ℕ) → is_named named l ≡ true → Enters (table_of rows) (octets_before (length c.externals) l is) (kind_at (labels l) ∷ [])
-    pub ended : (k : Kind) → Enters (table_of rows) (octets (items_code (length c.externals) is)) (k ∷ [])
+    pub ended : (k : CellKind) → Enters (table_of rows) (octets (items_code (length c.externals) is)) (k ∷ [])
     pub keeps : Each (Keeps c) (items_code (length c.externals) is)
 
   end_tail : (named : List ℕ) (now : Coming) → Tail [] named now
@@ -145,7 +145,7 @@ module _ (c : Checked) (labels : Labelling) where
   }
 
   -- an item without jumps
-  straight_tail : (i : Item) (is : List Item) (a : List Instr) (named : List ℕ) (now : Coming) (t u : Option ElementaryType) (top : Kind) → now ≡ Some t
+  straight_tail : (i : Item) (is : List Item) (a : List Instr) (named : List ℕ) (now : Coming) (t u : Option ElementaryType) (top : CellKind) → now ≡ Some t
       → items_code (length c.externals) (i ∷ is) ≡ a ++ items_code (length c.externals) is
       → ((l : ℕ) → octets_before (length c.externals) l (i ∷ is) ≡ octets a + octets_before (length c.externals) l is)
       → Flow c a (kind_at t ∷ []) (top ∷ []) → is_within top (kind_at u) ≡ true → Tail is named (Some u) → Tail (i ∷ is) named now

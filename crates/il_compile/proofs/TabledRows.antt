@@ -6,7 +6,7 @@ use Rattle.il_image.specs.Spelling.{operand_of, spelling}
 use Rattle.il_image.specs.Tables.{IsPlace, LeadsTo, Table, behind_place, place_of}
 use Rattle.il_image.specs.declared.instr.Instr.{Instr}
 use Rattle.il_image.specs.declared.instr.Instr.TheVariants.{Halt, Push, Drop, Slot, Not, Combine, Compute, Compare, Widen, Jump, Timer}
-use Rattle.il_image.specs.declared.kind.Kind.{Kind}
+use Rattle.il_image.specs.declared.kind.CellKind.{CellKind}
 use Rattle.il_image.specs.declared.opcode.When.TheVariants.{Always, IfTrue, IfFalse}
 use Rattle.il_image.proofs.PlaceLemmas.{none_past_end}
 use Rattle.il_compile.specs.Code.{octets}
@@ -15,7 +15,7 @@ use Rattle.il_compile.proofs.Placing.{Stands, back, found, within, octets_both, 
 -- an instruction, and the kinds on the stack before it
 pub record Row : Type 0 where
   pub instr : Instr
-  pub kinds : List Kind
+  pub kinds : List CellKind
 
 abbrev pub instrs_of : List Row → List Instr
 instrs_of [] = []
@@ -79,7 +79,7 @@ lead_off (Timer timer_use n) next d h = omega arith
 
 -- ---- what the table has at a place
 
-pub record FoundRow (rows : List Row) (x : ℕ) (kinds : List Kind) : Type 0 where
+pub record FoundRow (rows : List Row) (x : ℕ) (kinds : List CellKind) : Type 0 where
   pub before : List Row
   pub row : Row
   pub behind : List Row
@@ -87,7 +87,7 @@ pub record FoundRow (rows : List Row) (x : ℕ) (kinds : List Kind) : Type 0 whe
   pub place : x ≡ octets (instrs_of before)
   pub same : row.kinds ≡ kinds
 
-pub find_row : (rows : List Row) (x : ℕ) (kinds : List Kind) → table_of rows x ≡ Some kinds → FoundRow rows x kinds
+pub find_row : (rows : List Row) (x : ℕ) (kinds : List CellKind) → table_of rows x ≡ Some kinds → FoundRow rows x kinds
 find_row [] x kinds e = absurd cc
 find_row (r ∷ rs) zero kinds e = record { before = []; row = r; behind = rs; is = refl; place = refl; same = cc }
 find_row (r ∷ rs) (suc x) kinds e =

@@ -9,7 +9,7 @@ use Rattle.il_text.specs.declared.program.Conversion.TheVariants.{IntToDint, Din
 use Rattle.il_text.specs.declared.program.Operator.{Operator}
 use Rattle.il_text.specs.declared.program.Operator.TheVariants as operator
 use Rattle.il_image.specs.Arithmetic.{compared, computed, connected, widened}
-use Rattle.il_image.specs.Machine.{divides, tells_equality, value_in}
+use Rattle.il_image.specs.Machine.{divides, tells_equality, value_of_width}
 use Rattle.il_image.specs.Values.{number_of, type_of}
 use Rattle.il_image.specs.declared.arithmetic.Comparison.{Comparison}
 use Rattle.il_image.specs.declared.arithmetic.Operation.{Operation}
@@ -96,10 +96,10 @@ inverse_made (Long z) kind e h = absurd (let f : elementary.Dint ≡ elementary.
 inverse_made (Wide z) kind e h = absurd (let f : elementary.Lint ≡ elementary.Bool = e ∙ boolean_is kind h in cc)
 inverse_made (Span n) kind e h = absurd (let f : elementary.Time ≡ elementary.Bool = e ∙ boolean_is kind h in cc)
 
-computed_made : (o : Operation) (w : Width) (a b : ℤ) (zero : Bool) (kind : ElementaryType) → type_of (value_in w (computed o w a b)) ≡ kind → zero ≡ false
-    → Made (if zero then None else Some (value_in w (computed o w a b))) kind
+computed_made : (o : Operation) (w : Width) (a b : ℤ) (zero : Bool) (kind : ElementaryType) → type_of (value_of_width w (computed o w a b)) ≡ kind → zero ≡ false
+    → Made (if zero then None else Some (value_of_width w (computed o w a b))) kind
 computed_made o w a b true kind t z = absurd cc
-computed_made o w a b false kind t z = record { value = value_in w (computed o w a b); is = refl; type = t }
+computed_made o w a b false kind t z = record { value = value_of_width w (computed o w a b); is = refl; type = t }
 
 compared_made : (c : Comparison) (a b : Value) (fits : Bool) → fits ≡ true → Made (if fits then Some (Truth (compared c (number_of a) (number_of b))) else None) elementary.Bool
 compared_made c a b true h = record { value = Truth (compared c (number_of a) (number_of b)); is = refl; type = refl }

@@ -3,6 +3,7 @@
 -- there, a value of another type or a divisor of 0 means nothing.
 use Rattle.std.specs.Prelude.{ℕ, ℤ, pos, ◌&&◌, ◌==◌, Bool, true, false, not, List, [], ◌∷◌, slice_get, slice_set, Option, None, Some, option_map, if◌then◌else◌}
 use Rattle.std.specs.Ordering.{int_eq}
+use Rattle.bay_base.specs.Options.{◌>>=◌}
 use Rattle.bay_base.specs.Types.{same_type}
 use Rattle.il_text.specs.declared.program.Condition.{Condition}
 use Rattle.il_text.specs.declared.program.Condition.TheVariants.{Always, IfTrue, IfFalse}
@@ -14,14 +15,13 @@ use Rattle.il_text.specs.declared.program.Output.TheVariants.{Q, Et}
 use Rattle.il_text.specs.declared.program.StoreKind.{StoreKind}
 use Rattle.il_text.specs.declared.program.StoreKind.TheVariants as store
 use Rattle.il_image.specs.Arithmetic.{compared, computed, connected, widened}
-use Rattle.il_image.specs.Effects.{◌>>=◌}
-use Rattle.il_image.specs.Machine.{divides, is_comparable, value_in}
+use Rattle.il_image.specs.Machine.{divides, is_comparable, value_of_width}
 use Rattle.il_image.specs.Timers.{called}
 use Rattle.il_image.specs.Values.{number_of, type_of}
 use Rattle.il_image.specs.declared.arithmetic.Operation.{Operation as Arithmetic}
 use Rattle.il_image.specs.declared.arithmetic.Width.{Width}
 use Rattle.il_image.specs.declared.arithmetic.Width.TheVariants as width
-use Rattle.il_image.specs.declared.timer.Timer.{Timer}
+use Rattle.il_image.specs.declared.timer.TimerState.{TimerState}
 use Rattle.il_image.specs.declared.value.Value.{Value}
 use Rattle.il_image.specs.declared.value.Value.TheVariants.{Truth, Short, Long, Wide, Span}
 use Rattle.il_check.specs.Program.{Entry, operation, block, Entries, no_entries, entry, Item, label, transfer, plain}
@@ -42,7 +42,7 @@ use Rattle.il_compile.specs.Senses.{Sense, connects, computes, compares, sense_o
 pub record Memory : Type 0 where
   pub externals : List Value
   pub variables : List Value
-  pub timers : List Timer
+  pub timers : List TimerState
 
 -- the current result, where it is set, and the memory
 pub record State : Type 0 where
@@ -65,7 +65,7 @@ connected_values a b f = None
 
 -- of two numbers of one width; none is divided by 0
 abbrev pub computed_in : Width → Arithmetic → ℤ → ℤ → Option Value
-computed_in w o a b = if divides o && int_eq b (pos 0) then None else Some (value_in w (computed o w a b))
+computed_in w o a b = if divides o && int_eq b (pos 0) then None else Some (value_of_width w (computed o w a b))
 
 abbrev pub computed_values : Arithmetic → Value → Value → Option Value
 computed_values o (Short a) (Short b) = computed_in width.Int o a b
@@ -81,7 +81,7 @@ combined (compares c) a b = if is_comparable c a b then Some (Truth (compared c 
 
 -- ---- reading and writing
 
-abbrev pub output_of : Output → Timer → Value
+abbrev pub output_of : Output → TimerState → Value
 output_of Q t = Truth t.output
 output_of Et t = Span t.elapsed
 
@@ -182,12 +182,12 @@ goes Always result = Some true
 goes IfTrue result = result >>= decided
 goes IfFalse result = option_map not (result >>= decided)
 
-abbrev pub given : Input → Value → Timer → Option Timer
+abbrev pub given : Input → Value → TimerState → Option TimerState
 given In (Truth b) t = Some (record t { input = b })
 given Pt (Span n) t = Some (record t { preset = n })
 given input other t = None
 
-abbrev pub with_timer : ℕ → (Timer → Option Timer) → Memory → Option Memory
+abbrev pub with_timer : ℕ → (TimerState → Option TimerState) → Memory → Option Memory
 with_timer n f m = do
   old ← slice_get m.timers n
   new ← f old

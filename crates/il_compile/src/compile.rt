@@ -10,20 +10,18 @@ ghost use Rattle.il_compile.specs.Code as spec;
 ghost use Rattle.il_compile.specs.Compiled.{compiled_of, image_of, image_size, points_octets};
 ghost use Rattle.il_compile.specs.Compiled as spec_compiled;
 ghost use Rattle.il_compile.specs.Correct.{DoesTheText};
-ghost use Rattle.il_compile.specs.Senses as senses;
 ghost use Rattle.il_compile.specs.declared.fault.CompileFault.TheVariants.{OutOfMemory};
 
 use crate::behind::{Behind, behind_all};
 use crate::fault::CompileFault;
 use bay_base::listing::Listing;
 use bay_base::text::Text;
+use bay_base::types::TimerKind;
 use il_check::program::Typed;
 use il_check::typed::{External, Timer, Variable};
 use il_image::image::{Image, ImagePoint};
 use il_image::instr::Instr;
-use il_image::timer::TimerKind;
 use il_image::value::Value;
-use il_text::program as text;
 use std::alloc::{AllocError, Global};
 
 /// The most octets that an image may have.
@@ -62,23 +60,13 @@ fn values_of(alloc: Global, variables: &[Variable]) -> Result<Vec<Value>, AllocE
     Ok(values)
 }
 
-/// A kind of timer as the machine names it.
-fn timer_of(kind: text::TimerKind) -> TimerKind
-    ensures { result ≡ senses.timer_of kind }
-{
-    match kind {
-        text::TimerKind::OnDelay => TimerKind::OnDelay,
-        text::TimerKind::OffDelay => TimerKind::OffDelay,
-    }
-}
-
 /// The kinds of the timers, in their order.
 fn kinds_of(alloc: Global, timers: &[Timer]) -> Result<Vec<TimerKind>, AllocError>
-    ensures { IfOk result (λ kinds. kinds.items ≡ map (λ t. senses.timer_of t.kind) timers.now) }
+    ensures { IfOk result (λ kinds. kinds.items ≡ map (λ t. t.kind) timers.now) }
 {
     let mut kinds = Vec::new(alloc);
     for timer in timers {
-        kinds.push(timer_of(timer.kind))?;
+        kinds.push(timer.kind)?;
     }
     Ok(kinds)
 }

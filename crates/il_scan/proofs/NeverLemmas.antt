@@ -1,6 +1,6 @@
 -- Verified code ends in each scan.
 use Rattle.std.proofs.Common.{◌≡◌, ℕ, zero, suc, ◌+◌, ◌<◌, ◌≤◌, ℤ, List, length, refl, sym, subst, arith, Option, Some, None, map}
-use Rattle.il_image.specs.declared.timer.Timer.{Timer}
+use Rattle.il_image.specs.declared.timer.TimerState.{TimerState}
 use Rattle.il_image.specs.declared.value.Value.{Value}
 use Rattle.il_image.specs.Images.{Image}
 use Rattle.il_image.specs.Octets.{AreOctets}
@@ -20,13 +20,13 @@ use Rattle.il_scan.proofs.StandLemmas.{held_by, stand_again}
 use Rattle.il_scan.proofs.TurnLemmas.{place_within, turned}
 
 -- the run from these slots and timers ends somewhere
-record RunEnds (image : Image) (now : ℕ) (slots : List ℤ) (timers : List Timer) : Type 0 where
+record RunEnds (image : Image) (now : ℕ) (slots : List ℤ) (timers : List TimerState) : Type 0 where
   new_slots : List ℤ
-  new_timers : List Timer
+  new_timers : List TimerState
   steps : ℕ
   runs : RunsTo image now slots timers new_slots new_timers steps
 
-module _ (image : Image) (now : ℕ) (slots : List ℤ) (timers : List Timer) (safe : IsSafe image) (is_held : IsHeld image slots timers) where
+module _ (image : Image) (now : ℕ) (slots : List ℤ) (timers : List TimerState) (safe : IsSafe image) (is_held : IsHeld image slots timers) where
   -- a run that has come to a place goes on to its end
   goes_on : (left place steps : ℕ) (w : Words) (c : Comes image now (first_state image slots timers) place steps w) → length image.code ≤ place + left → RunEnds image now slots timers
   goes_on zero place steps w c past =
@@ -59,7 +59,7 @@ module _ (image : Image) (now : ℕ) (slots : List ℤ) (timers : List Timer) (s
   run_ends_somewhere octets = goes_on (length image.code) 0 0 _ (starts image now slots timers octets safe is_held) (omega arith)
 
 -- a scan of words, from words that are held
-scan_ends : (image : Image) (inputs : List Value) (now : ℕ) (slots : List ℤ) (timers : List Timer) → AreOctets image.code → IsSafe image → IsHeld image slots timers → AreInputs image.points inputs → Ends (held image slots timers) inputs now
+scan_ends : (image : Image) (inputs : List Value) (now : ℕ) (slots : List ℤ) (timers : List TimerState) → AreOctets image.code → IsSafe image → IsHeld image slots timers → AreInputs image.points inputs → Ends (held image slots timers) inputs now
 scan_ends image inputs now slots timers octets safe is_held are =
     let taken : List ℤ = with_inputs image.points (words_of inputs) slots in
     let before : IsHeld image taken timers = held_taken image image.points refl inputs now slots timers is_held are taken refl in

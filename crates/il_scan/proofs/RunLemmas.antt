@@ -1,7 +1,7 @@
 -- Runs of the machine of typed values.
 use Rattle.std.proofs.Common.{◌≡◌, ℕ, zero, suc, ◌+◌, ◌-◌, ◌<◌, ◌≤◌, ℤ, List, [], length, refl, sym, ap, subst, ◌∙◌, arith, Option, Some, None}
 use Rattle.std.specs.Prelude.{slice_get}
-use Rattle.il_image.specs.declared.timer.Timer.{Timer}
+use Rattle.il_image.specs.declared.timer.TimerState.{TimerState}
 use Rattle.il_image.specs.declared.value.Value.{Value}
 use Rattle.il_image.specs.Images.{Image}
 use Rattle.il_image.specs.Machine.{Goes, Halted, Halts, State, Traps, Turn, ending_of, run, turn}
@@ -24,18 +24,18 @@ run_halts : (code : List ℕ) (now most : ℕ) (s : State) (steps : ℕ) → tur
 unfolding run
 run_halts code now most s steps e = ap (λ (t : Turn). ending_of t s (steps + 1) (λ a. run code now most a (steps + 1))) e
 
-counts_of : (code : List ℕ) (now most : ℕ) (t : Turn) (s : State) (slots : List Value) (timers : List Timer) (k n : ℕ) → ((a : State) → run code now most a (k + 1) ≡ Halted slots timers n → k + 1 < n)
+counts_of : (code : List ℕ) (now most : ℕ) (t : Turn) (s : State) (slots : List Value) (timers : List TimerState) (k n : ℕ) → ((a : State) → run code now most a (k + 1) ≡ Halted slots timers n → k + 1 < n)
     → ending_of t s (k + 1) (λ a. run code now most a (k + 1)) ≡ Halted slots timers n → k < n
 counts_of code now most (Goes a) s slots timers k n more e = let h : k + 1 < n = more a e in omega arith
 counts_of code now most Halts s slots timers k n more e = let same : k + 1 ≡ n = cc in omega arith
 counts_of code now most (Traps trap) s slots timers k n more e = absurd cc
 
-run_counts : (code : List ℕ) (now most : ℕ) (s : State) (k : ℕ) (slots : List Value) (timers : List Timer) (n : ℕ) → run code now most s k ≡ Halted slots timers n → k < n
+run_counts : (code : List ℕ) (now most : ℕ) (s : State) (k : ℕ) (slots : List Value) (timers : List TimerState) (n : ℕ) → run code now most s k ≡ Halted slots timers n → k < n
 unfolding run
 run_counts code now zero s k slots timers n e = absurd cc
 run_counts code now (suc most) s k slots timers n e = counts_of code now most (turn code now s) s slots timers k n (λ after. run_counts code now most after (k + 1) slots timers n) e
 
-enough_of : (code : List ℕ) (now most other : ℕ) (t : Turn) (s : State) (slots : List Value) (timers : List Timer) (k n : ℕ)
+enough_of : (code : List ℕ) (now most other : ℕ) (t : Turn) (s : State) (slots : List Value) (timers : List TimerState) (k n : ℕ)
     → ((a : State) → run code now most a (k + 1) ≡ Halted slots timers n → run code now other a (k + 1) ≡ Halted slots timers n)
     → ending_of t s (k + 1) (λ a. run code now most a (k + 1)) ≡ Halted slots timers n → ending_of t s (k + 1) (λ a. run code now other a (k + 1)) ≡ Halted slots timers n
 enough_of code now most other (Goes a) s slots timers k n more e = more a e
@@ -43,7 +43,7 @@ enough_of code now most other Halts s slots timers k n more e = e
 enough_of code now most other (Traps trap) s slots timers k n more e = e
 
 -- a run that halts does so with any number of steps that lasts
-run_enough : (code : List ℕ) (now most other : ℕ) (s : State) (k : ℕ) (slots : List Value) (timers : List Timer) (n : ℕ) → run code now most s k ≡ Halted slots timers n → n ≤ k + other → run code now other s k ≡ Halted slots timers n
+run_enough : (code : List ℕ) (now most other : ℕ) (s : State) (k : ℕ) (slots : List Value) (timers : List TimerState) (n : ℕ) → run code now most s k ≡ Halted slots timers n → n ≤ k + other → run code now other s k ≡ Halted slots timers n
 unfolding run
 run_enough code now zero other s k slots timers n e least = absurd cc
 run_enough code now (suc most) zero s k slots timers n e least = absurd (let h : k < n = run_counts code now (suc most) s k slots timers n e in omega arith)
@@ -87,10 +87,10 @@ pub record Comes (image : Image) (now : ℕ) (first : State) (place steps : ℕ)
   pub kept : KeepsSlots image (words_at first) w
   pub octets : AreOctets image.code
 
-start_standing : (image : Image) (slots : List ℤ) (timers : List Timer) → IsSafe image → IsHeld image slots timers → Standing image (first_state image slots timers)
+start_standing : (image : Image) (slots : List ℤ) (timers : List TimerState) → IsSafe image → IsHeld image slots timers → Standing image (first_state image slots timers)
 start_standing image slots timers safe held = record { table = safe.table.0; agrees = safe.table.1; writes = safe.writes; kinds = []; here = safe.table.1.starts; fit = tt; typed = held_typed image slots timers held }
 
-pub starts : (image : Image) (now : ℕ) (slots : List ℤ) (timers : List Timer) → AreOctets image.code → IsSafe image → IsHeld image slots timers → Comes image now (first_state image slots timers) 0 0 (words [] slots timers)
+pub starts : (image : Image) (now : ℕ) (slots : List ℤ) (timers : List TimerState) → AreOctets image.code → IsSafe image → IsHeld image slots timers → Comes image now (first_state image slots timers) 0 0 (words [] slots timers)
 starts image now slots timers octets safe held = record {
   state = first_state image slots timers;
   stands = record {
@@ -157,12 +157,12 @@ module _ (image : Image) (now : ℕ) (first : State) (place steps : ℕ) (w : Wo
     timers_are = ap (λ (m : Words). m.timers) t.1
 
     typed : IsHeld image after.slots after.timers
-    typed = subst (λ (x : List Timer). IsHeld image after.slots x) (sym timers_are) (held_by image after.slots c.state.slots c.state.timers slots_are c.stands.standing.typed)
+    typed = subst (λ (x : List TimerState). IsHeld image after.slots x) (sym timers_are) (held_by image after.slots c.state.slots c.state.timers slots_are c.stands.standing.typed)
 
     values_are : values_of (slot_types image) after.slots ≡ c.state.slots
     values_are = stand_again (slot_types image) after.slots c.state.slots (record { are = slots_are; typed = c.stands.standing.typed.of_types })
 
-pub run_ends : (image : Image) (now : ℕ) (slots : List ℤ) (timers : List Timer) (place steps : ℕ) (w : Words) (c : Comes image now (first_state image slots timers) place steps w) → place < length image.code
+pub run_ends : (image : Image) (now : ℕ) (slots : List ℤ) (timers : List TimerState) (place steps : ℕ) (w : Words) (c : Comes image now (first_state image slots timers) place steps w) → place < length image.code
     → IsSafe image → IsHeld image slots timers → (after : Words) → Turns image now c.state None after → RunsTo image now slots timers after.slots after.timers (steps + 1)
 run_ends image now slots timers place steps w c within safe held after t =
     let first = first_state image slots timers in
@@ -170,7 +170,7 @@ run_ends image now slots timers place steps w c within safe held after t =
     let times = timers_are image now first place steps w c within after t in
     record {
       halts = λ most least. halts_so image now first place steps w c within after t most least
-          ∙ ap (λ (v : List Value). Halted v c.state.timers (steps + 1)) (sym values) ∙ ap (λ (x : List Timer). Halted (values_of (slot_types image) after.slots) x (steps + 1)) (sym times);
+          ∙ ap (λ (v : List Value). Halted v c.state.timers (steps + 1)) (sym values) ∙ ap (λ (x : List TimerState). Halted (values_of (slot_types image) after.slots) x (steps + 1)) (sym times);
       within = λ budget b. few_steps image now first place steps w c within after t budget b;
       few = (let few : steps ≤ place = c.few in omega arith);
       depth = λ most count d. never_deeper image now c.octets most d count first (start_standing image slots timers safe held);

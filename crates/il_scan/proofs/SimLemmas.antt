@@ -7,6 +7,7 @@ use Rattle.std.proofs.lemmas.Bool.{lt-ltb, ltb-true}
 use Rattle.std.proofs.lemmas.Bool.Decides.{Decides-int_eq}
 use Rattle.std.proofs.lemmas.List.{length-map, length-set, map-set}
 use Rattle.std.proofs.lemmas.Option.{slice_get-get_or}
+use Rattle.bay_base.specs.Options.{◌>>=◌}
 use Rattle.bay_base.specs.declared.types.ElementaryType.{ElementaryType}
 use Rattle.bay_base.specs.declared.types.ElementaryType.TheVariants as elementary
 use Rattle.bay_base.specs.Types.{same_type}
@@ -17,8 +18,8 @@ use Rattle.il_image.specs.declared.arithmetic.Width.{Width}
 use Rattle.il_image.specs.declared.arithmetic.Width.TheVariants as width
 use Rattle.il_image.specs.declared.instr.Instr.{Instr}
 use Rattle.il_image.specs.declared.instr.Instr.TheVariants.{Halt, Push, Drop, Slot, Not, Combine, Compute, Compare, Widen, Jump, Timer}
-use Rattle.il_image.specs.declared.kind.Kind.{Kind}
-use Rattle.il_image.specs.declared.kind.Kind.TheVariants.{Any, Plain, NotZero}
+use Rattle.il_image.specs.declared.kind.CellKind.{CellKind}
+use Rattle.il_image.specs.declared.kind.CellKind.TheVariants.{Any, Plain, NotZero}
 use Rattle.il_image.specs.declared.opcode.Connective.{Connective}
 use Rattle.il_image.specs.declared.opcode.SlotUse.TheVariants.{Load, Store, SetIf, ResetIf}
 use Rattle.il_image.specs.declared.opcode.When.TheVariants.{Always, IfTrue, IfFalse}
@@ -26,15 +27,15 @@ use Rattle.il_image.specs.declared.opcode.Widening.TheVariants.{IntToDint, DintT
 use Rattle.il_image.specs.declared.opcode.TimerUse.TheVariants.{SetInput, SetPreset, Run, LoadOutput, LoadElapsed}
 use Rattle.il_image.specs.declared.timer.TimerPhase.{TimerPhase}
 use Rattle.il_image.specs.declared.timer.TimerPhase.TheVariants.{Idle, Held, Since}
-use Rattle.il_image.specs.declared.timer.Timer.{Timer as TimerState}
-use Rattle.il_image.specs.declared.timer.TimerKind.TheVariants.{OnDelay}
+use Rattle.il_image.specs.declared.timer.TimerState.{TimerState}
+use Rattle.bay_base.specs.declared.types.TimerKind.TheVariants.{OnDelay}
 use Rattle.il_image.specs.declared.value.Value.{Value}
 use Rattle.il_image.specs.declared.value.Value.TheVariants.{Truth, Short, Long, Wide, Span}
 use Rattle.il_image.specs.Arithmetic.{DividesBy, compared, computed, connected, exact, type_of_width}
-use Rattle.il_image.specs.Effects.{◌>>=◌, are_compared, below, compares, effect, kind_of, looks_at, second_kind, two, type_of_kind, widens, with_timer, with_truth}
+use Rattle.il_image.specs.Effects.{are_compared, below, compares, effect, kind_of, looks_at, second_kind, two, type_of_kind, widens, with_timer, with_truth}
 use Rattle.il_image.specs.Images.{Each, IsValue}
 use Rattle.il_image.specs.Kinds.{HasKind, is_within}
-use Rattle.il_image.specs.Machine.{State, Turn, Goes, Traps, WrongKind, ZeroDivisor, FullStack, MissingSlot, MissingTimer, act, divides, goes, is_comparable, pushes, stores, value_in, with_numbers, with_slot, tells_equality}
+use Rattle.il_image.specs.Machine.{State, Turn, Goes, Traps, WrongKind, ZeroDivisor, FullStack, MissingSlot, MissingTimer, act, divides, goes, is_comparable, pushes, stores, value_of_width, with_numbers, with_slot, tells_equality}
 use Rattle.il_image.specs.Machine as machine
 use Rattle.il_image.specs.Spelling.{IsInstr}
 use Rattle.il_image.specs.Timers.{called, elapsed_of, first_state, phase_after}
@@ -48,17 +49,17 @@ use Rattle.il_scan.proofs.ValueLemmas.{joined_is, kind_there, number_in, number_
 
 -- ---- values on the stack
 
-pub fit_length : (values : List Value) (kinds : List Kind) → Fit values kinds → length values ≡ length kinds
+pub fit_length : (values : List Value) (kinds : List CellKind) → Fit values kinds → length values ≡ length kinds
 fit_length [] [] h = refl
 fit_length [] (k ∷ kinds) h = absurd h
 fit_length (v ∷ values) [] h = absurd h
 fit_length (v ∷ values) (k ∷ kinds) h = ap suc (fit_length values kinds h.1)
 
-pub depth_of : (values : List Value) (kinds : List Kind) → Fit values kinds → length (words_of values) ≡ length kinds
+pub depth_of : (values : List Value) (kinds : List CellKind) → Fit values kinds → length (words_of values) ≡ length kinds
 depth_of values kinds h = length-map values number_of ∙ fit_length values kinds h
 
 -- a value of the wanted kind on top, and the values below it
-record Tops (wanted : Kind) (values : List Value) (rest : List Kind) : Type 0 where
+record Tops (wanted : CellKind) (values : List Value) (rest : List CellKind) : Type 0 where
   value : Value
   others : List Value
   are : values ≡ value ∷ others
@@ -66,12 +67,12 @@ record Tops (wanted : Kind) (values : List Value) (rest : List Kind) : Type 0 wh
   is_value : IsValue value
   fit : Fit others rest
 
-tops_case : (wanted k : Kind) (kinds rest : List Kind) (v : Value) (values : List Value) (b : Bool) → is_within k wanted ≡ b → HasKind v k × IsValue v → Fit values kinds → cond b (Some kinds) None ≡ Some rest → Tops wanted (v ∷ values) rest
+tops_case : (wanted k : CellKind) (kinds rest : List CellKind) (v : Value) (values : List Value) (b : Bool) → is_within k wanted ≡ b → HasKind v k × IsValue v → Fit values kinds → cond b (Some kinds) None ≡ Some rest → Tops wanted (v ∷ values) rest
 tops_case wanted k kinds rest v values true e is fit same =
     record { value = v; others = values; are = refl; kind = kind_above v k wanted e is.0; is_value = is.1; fit = subst (Fit values) (some_same kinds rest same) fit }
 tops_case wanted k kinds rest v values false e is fit same = absurd cc
 
-tops : (wanted : Kind) (kinds rest : List Kind) (values : List Value) → below wanted kinds ≡ Some rest → Fit values kinds → Tops wanted values rest
+tops : (wanted : CellKind) (kinds rest : List CellKind) (values : List Value) → below wanted kinds ≡ Some rest → Fit values kinds → Tops wanted values rest
 tops wanted [] rest values e fit = absurd cc
 tops wanted (k ∷ kinds) rest [] e fit = absurd fit
 tops wanted (k ∷ kinds) rest (v ∷ values) e fit = tops_case wanted k kinds rest v values (is_within k wanted) refl fit.0 fit.1 e
@@ -141,7 +142,7 @@ words_for cells slots timers = words (words_of cells) (words_of slots) timers
 
 -- It needs no more than the words have, goes on at a place, and the words then stand for the values
 -- then, which fit the kinds.
-pub record Does (types : List ElementaryType) (count now : ℕ) (i : Instr) (next place : ℕ) (cells slots : List Value) (timers : List TimerState) (kinds : List Kind) : Type 0 where
+pub record Does (types : List ElementaryType) (count now : ℕ) (i : Instr) (next place : ℕ) (cells slots : List Value) (timers : List TimerState) (kinds : List CellKind) : Type 0 where
   pub ready : IsReady i (words_for cells slots timers)
   pub to : ℕ
   pub new_cells : List Value
@@ -154,7 +155,7 @@ pub record Does (types : List ElementaryType) (count now : ℕ) (i : Instr) (nex
   pub typed : Typed types count new_slots new_timers
 
 -- with any values on the stack
-module _ (types : List ElementaryType) (count now next p : ℕ) (cells slots : List Value) (timers : List TimerState) (kinds : List Kind) (fit : Fit cells kinds) (typed : Typed types count slots timers) where
+module _ (types : List ElementaryType) (count now next p : ℕ) (cells slots : List Value) (timers : List TimerState) (kinds : List CellKind) (fit : Fit cells kinds) (typed : Typed types count slots timers) where
   small : length (words_of cells) ≡ length kinds
   small = depth_of cells kinds fit
 
@@ -253,12 +254,12 @@ module _ (types : List ElementaryType) (count now next p : ℕ) (cells slots : L
       }
 
 -- with a value on top
-module _ (types : List ElementaryType) (count now next p : ℕ) (top : Value) (others slots : List Value) (timers : List TimerState) (rest : List Kind) (fit : Fit others rest) (typed : Typed types count slots timers) where
+module _ (types : List ElementaryType) (count now next p : ℕ) (top : Value) (others slots : List Value) (timers : List TimerState) (rest : List CellKind) (fit : Fit others rest) (typed : Typed types count slots timers) where
   does_drop : Does types count now Drop next p (top ∷ others) slots timers rest
   unfolding act
   does_drop = record { ready = omega arith; to = next; new_cells = others; new_slots = slots; new_timers = timers; goes_on = refl; leads_to = refl; words_are = refl; fit = fit; typed = typed }
 
-  does_store : (n : ℕ) (t : ElementaryType) (kinds : List Kind) → slice_get types n ≡ Some t → type_of top ≡ t → IsValue top → Fit (top ∷ others) kinds → Does types count now (Slot Store n) next p (top ∷ others) slots timers kinds
+  does_store : (n : ℕ) (t : ElementaryType) (kinds : List CellKind) → slice_get types n ≡ Some t → type_of top ≡ t → IsValue top → Fit (top ∷ others) kinds → Does types count now (Slot Store n) next p (top ∷ others) slots timers kinds
   unfolding act
   does_store n t kinds e is good all =
       let s = slot_there types slots n t e typed.of_types in
@@ -279,7 +280,7 @@ module _ (types : List ElementaryType) (count now next p : ℕ) (top : Value) (o
       }
 
 -- with a BOOL on top
-module _ (types : List ElementaryType) (count now next p : ℕ) (others slots : List Value) (timers : List TimerState) (rest : List Kind) (fit : Fit others rest) (typed : Typed types count slots timers) where
+module _ (types : List ElementaryType) (count now next p : ℕ) (others slots : List Value) (timers : List TimerState) (rest : List CellKind) (fit : Fit others rest) (typed : Typed types count slots timers) where
   bools : Fit (Truth true ∷ others) (Plain elementary.Bool ∷ rest)
   bools = ((refl, truth_value true), fit)
 
@@ -288,12 +289,12 @@ module _ (types : List ElementaryType) (count now next p : ℕ) (others slots : 
   does_not true = record { ready = omega arith; to = next; new_cells = Truth false ∷ others; new_slots = slots; new_timers = timers; goes_on = refl; leads_to = refl; words_are = refl; fit = ((refl, truth_value false), fit); typed = typed }
   does_not false = record { ready = omega arith; to = next; new_cells = Truth true ∷ others; new_slots = slots; new_timers = timers; goes_on = refl; leads_to = refl; words_are = refl; fit = ((refl, truth_value true), fit); typed = typed }
 
-  does_jump_if : (b : Bool) (distance : ℕ) (kinds : List Kind) → Fit (Truth b ∷ others) kinds → Does types count now (Jump IfTrue distance) next p (Truth b ∷ others) slots timers kinds
+  does_jump_if : (b : Bool) (distance : ℕ) (kinds : List CellKind) → Fit (Truth b ∷ others) kinds → Does types count now (Jump IfTrue distance) next p (Truth b ∷ others) slots timers kinds
   unfolding act
   does_jump_if true distance kinds all = record { ready = omega arith; to = next + distance; new_cells = Truth true ∷ others; new_slots = slots; new_timers = timers; goes_on = refl; leads_to = refl; words_are = refl; fit = all; typed = typed }
   does_jump_if false distance kinds all = record { ready = omega arith; to = next; new_cells = Truth false ∷ others; new_slots = slots; new_timers = timers; goes_on = refl; leads_to = refl; words_are = refl; fit = all; typed = typed }
 
-  does_jump_if_not : (b : Bool) (distance : ℕ) (kinds : List Kind) → Fit (Truth b ∷ others) kinds → Does types count now (Jump IfFalse distance) next p (Truth b ∷ others) slots timers kinds
+  does_jump_if_not : (b : Bool) (distance : ℕ) (kinds : List CellKind) → Fit (Truth b ∷ others) kinds → Does types count now (Jump IfFalse distance) next p (Truth b ∷ others) slots timers kinds
   unfolding act
   does_jump_if_not true distance kinds all = record { ready = omega arith; to = next; new_cells = Truth true ∷ others; new_slots = slots; new_timers = timers; goes_on = refl; leads_to = refl; words_are = refl; fit = all; typed = typed }
   does_jump_if_not false distance kinds all = record { ready = omega arith; to = next + distance; new_cells = Truth false ∷ others; new_slots = slots; new_timers = timers; goes_on = refl; leads_to = refl; words_are = refl; fit = all; typed = typed }
@@ -314,7 +315,7 @@ module _ (types : List ElementaryType) (count now next p : ℕ) (others slots : 
   }
 
   -- SETIF and RESETIF: a BOOL slot takes a value that has this word
-  sets : (i : Instr) (n : ℕ) (b : Bool) (kinds : List Kind) (made : Bool → Bool) → slice_get types n ≡ Some elementary.Bool → Fit (Truth b ∷ others) kinds
+  sets : (i : Instr) (n : ℕ) (b : Bool) (kinds : List CellKind) (made : Bool → Bool) → slice_get types n ≡ Some elementary.Bool → Fit (Truth b ∷ others) kinds
       → (n < length (words_of slots) → IsReady i (words_for (Truth b ∷ others) slots timers))
       → ((old : Bool) → slice_get slots n ≡ Some (Truth old) → act now i next (state p (Truth b ∷ others) slots timers) ≡ stores n (Truth (made old)) next (state p (Truth b ∷ others) slots timers))
       → leads i next (words_of (Truth b ∷ others)) ≡ Some next
@@ -340,7 +341,7 @@ module _ (types : List ElementaryType) (count now next p : ℕ) (others slots : 
   with_truths_is : (n : ℕ) (b old : Bool) (f : Bool → Bool → Turn) → slice_get slots n ≡ Some (Truth old) → machine.with_truths n (state p (Truth b ∷ others) slots timers) f ≡ f b old
   with_truths_is n b old f e = with_slot_is slots n (Truth old) (λ slot. machine.as_truth slot (λ o. f b o)) e
 
-  does_set_if : (n : ℕ) (b : Bool) (kinds : List Kind) → slice_get types n ≡ Some elementary.Bool → Fit (Truth b ∷ others) kinds → Does types count now (Slot SetIf n) next p (Truth b ∷ others) slots timers kinds
+  does_set_if : (n : ℕ) (b : Bool) (kinds : List CellKind) → slice_get types n ≡ Some elementary.Bool → Fit (Truth b ∷ others) kinds → Does types count now (Slot SetIf n) next p (Truth b ∷ others) slots timers kinds
   unfolding act
   does_set_if n true kinds e all =
       sets (Slot SetIf n) n true kinds (λ old. true) e all (λ below. (omega arith, below)) (λ old get. with_truths_is n true old (λ t o. stores n (Truth (t || o)) next (state p (Truth true ∷ others) slots timers)) get) refl (λ old word. refl)
@@ -348,7 +349,7 @@ module _ (types : List ElementaryType) (count now next p : ℕ) (others slots : 
       sets (Slot SetIf n) n false kinds (λ old. old) e all (λ below. (omega arith, below)) (λ old get. with_truths_is n false old (λ t o. stores n (Truth (t || o)) next (state p (Truth false ∷ others) slots timers)) get) refl
       (λ old word. ap (λ (w : ℤ). words (words_of (Truth false ∷ others)) (slice_set (words_of slots) n w) timers) word)
 
-  does_reset_if : (n : ℕ) (b : Bool) (kinds : List Kind) → slice_get types n ≡ Some elementary.Bool → Fit (Truth b ∷ others) kinds → Does types count now (Slot ResetIf n) next p (Truth b ∷ others) slots timers kinds
+  does_reset_if : (n : ℕ) (b : Bool) (kinds : List CellKind) → slice_get types n ≡ Some elementary.Bool → Fit (Truth b ∷ others) kinds → Does types count now (Slot ResetIf n) next p (Truth b ∷ others) slots timers kinds
   unfolding act
   does_reset_if n true kinds e all =
       sets (Slot ResetIf n) n true kinds (λ old. false) e all (λ below. (omega arith, below)) (λ old get. with_truths_is n true old (λ t o. stores n (Truth (not t && o)) next (state p (Truth true ∷ others) slots timers)) get) refl (λ old word. refl)
@@ -416,18 +417,18 @@ module _ (types : List ElementaryType) (count now next p : ℕ) (others slots : 
 
   -- ---- two values
 
-  with_numbers_is : (w : Width) (a b : ℤ) (f : ℤ → ℤ → List Value → Turn) → machine.with_numbers w (state p (value_in w b ∷ value_in w a ∷ others) slots timers) f ≡ f a b others
+  with_numbers_is : (w : Width) (a b : ℤ) (f : ℤ → ℤ → List Value → Turn) → machine.with_numbers w (state p (value_of_width w b ∷ value_of_width w a ∷ others) slots timers) f ≡ f a b others
   with_numbers_is width.Int a b f = refl
   with_numbers_is width.Dint a b f = refl
   with_numbers_is width.Lint a b f = refl
 
-  does_compute : (o : Operation) (w : Width) (a b : ℤ) → (divides o && int_eq b (pos 0)) ≡ false → DividesBy o b → Does types count now (Compute o w) next p (value_in w b ∷ value_in w a ∷ others) slots timers (Plain (type_of_width w) ∷ rest)
+  does_compute : (o : Operation) (w : Width) (a b : ℤ) → (divides o && int_eq b (pos 0)) ≡ false → DividesBy o b → Does types count now (Compute o w) next p (value_of_width w b ∷ value_of_width w a ∷ others) slots timers (Plain (type_of_width w) ∷ rest)
   unfolding act
   does_compute o w a b test divisor =
-      let here : State = state p (value_in w b ∷ value_in w a ∷ others) slots timers in
-      let v : Value = value_in w (computed o w a b) in
-      let nb : number_of (value_in w b) ≡ b = number_in w b in
-      let na : number_of (value_in w a) ≡ a = number_in w a in
+      let here : State = state p (value_of_width w b ∷ value_of_width w a ∷ others) slots timers in
+      let v : Value = value_of_width w (computed o w a b) in
+      let nb : number_of (value_of_width w b) ≡ b = number_in w b in
+      let na : number_of (value_of_width w a) ≡ a = number_in w a in
       let chosen : cond (divides o && int_eq b (pos 0)) (Traps ZeroDivisor) (goes next (v ∷ others) here) ≡ goes next (v ∷ others) here = rw test refl in
       record {
         ready = (omega arith, subst (DividesBy o) (sym nb) divisor);
@@ -435,9 +436,9 @@ module _ (types : List ElementaryType) (count now next p : ℕ) (others slots : 
         new_cells = v ∷ others;
         new_slots = slots;
         new_timers = timers;
-        goes_on = with_numbers_is w a b (λ x y below. cond (divides o && int_eq y (pos 0)) (Traps ZeroDivisor) (goes next (value_in w (computed o w x y) ∷ below) here)) ∙ chosen;
+        goes_on = with_numbers_is w a b (λ x y below. cond (divides o && int_eq y (pos 0)) (Traps ZeroDivisor) (goes next (value_of_width w (computed o w x y) ∷ below) here)) ∙ chosen;
         leads_to = refl;
-        words_are = ap (λ (x : ℤ). words (computed o w x (number_of (value_in w b)) ∷ words_of others) (words_of slots) timers) na
+        words_are = ap (λ (x : ℤ). words (computed o w x (number_of (value_of_width w b)) ∷ words_of others) (words_of slots) timers) na
             ∙ ap (λ (y : ℤ). words (computed o w a y ∷ words_of others) (words_of slots) timers) nb
             ∙ ap (λ (x : ℤ). words (x ∷ words_of others) (words_of slots) timers) (sym (number_in w (computed o w a b)));
         fit = ((type_in w (computed o w a b), wrapped_value w (exact o a b)), fit);
@@ -463,18 +464,18 @@ module _ (types : List ElementaryType) (count now next p : ℕ) (others slots : 
         typed = typed;
       }
 
-  does_widen : (z : ℤ) (k : Kind) → HasKind (Long z) k → IsValue (Short z) → Does types count now (Widen IntToDint) next p (Short z ∷ others) slots timers (k ∷ rest)
+  does_widen : (z : ℤ) (k : CellKind) → HasKind (Long z) k → IsValue (Short z) → Does types count now (Widen IntToDint) next p (Short z ∷ others) slots timers (k ∷ rest)
   unfolding act
   does_widen z k is good = record { ready = omega arith; to = next; new_cells = Long z ∷ others; new_slots = slots; new_timers = timers; goes_on = refl; leads_to = refl; words_are = refl; fit = ((is, widened_short z good), fit); typed = typed }
 
-  does_widen_long : (z : ℤ) (k : Kind) → HasKind (Wide z) k → IsValue (Long z) → Does types count now (Widen DintToLint) next p (Long z ∷ others) slots timers (k ∷ rest)
+  does_widen_long : (z : ℤ) (k : CellKind) → HasKind (Wide z) k → IsValue (Long z) → Does types count now (Widen DintToLint) next p (Long z ∷ others) slots timers (k ∷ rest)
   unfolding act
   does_widen_long z k is good = record { ready = omega arith; to = next; new_cells = Wide z ∷ others; new_slots = slots; new_timers = timers; goes_on = refl; leads_to = refl; words_are = refl; fit = ((is, widened_long z good), fit); typed = typed }
 
 -- ---- each instruction that is allowed
 
-room_of : (given after : List Kind) → Some given ≡ Some after → length after ≤ 32 → length given ≤ 32
-room_of given after e room = let size : length given ≡ length after = ap (λ (k : List Kind). length k) (some_same given after e) in omega arith
+room_of : (given after : List CellKind) → Some given ≡ Some after → length after ≤ 32 → length given ≤ 32
+room_of given after e room = let size : length given ≡ length after = ap (λ (k : List CellKind). length k) (some_same given after e) in omega arith
 
 not_zero : (z : ℤ) → (z ≡ pos 0 → ⊥) → int_eq z (pos 0) ≡ false
 not_zero z ne = go (int_eq z (pos 0)) (Decides-int_eq z (pos 0)).0
@@ -500,33 +501,33 @@ if_some : {A : Type 0} (b : Bool) (x y : A) → cond b (Some x) None ≡ Some y 
 if_some true x y e = (refl, some_same x y e)
 if_some false x y e = absurd cc
 
-shown : (v : Value) (k : Kind) (t : ElementaryType) → HasKind v k → type_of_kind k ≡ Some t → type_of v ≡ t
+shown : (v : Value) (k : CellKind) (t : ElementaryType) → HasKind v k → type_of_kind k ≡ Some t → type_of v ≡ t
 shown v Any t h e = absurd cc
 shown v (Plain u) t h e = h ∙ some_same u t e
 shown v (NotZero w) t h e = h.0 ∙ some_same (type_of_width w) t e
 
-module _ (types : List ElementaryType) (count now next p : ℕ) (slots : List Value) (timers : List TimerState) (after : List Kind) (typed : Typed types count slots timers) where
-  abbrev Done : Instr → List Value → List Kind → Type 0
+module _ (types : List ElementaryType) (count now next p : ℕ) (slots : List Value) (timers : List TimerState) (after : List CellKind) (typed : Typed types count slots timers) where
+  abbrev Done : Instr → List Value → List CellKind → Type 0
   Done i cells kinds = Does types count now i next p cells slots timers kinds
 
-  to_kinds : (i : Instr) (cells : List Value) (given : List Kind) → Some given ≡ Some after → Done i cells given → Done i cells after
+  to_kinds : (i : Instr) (cells : List Value) (given : List CellKind) → Some given ≡ Some after → Done i cells given → Done i cells after
   to_kinds i cells given e d = subst (Done i cells) (some_same given after e) d
 
-  on_cells : (i : Instr) (cells these : List Value) (kinds : List Kind) → cells ≡ these → Done i these kinds → Done i cells kinds
+  on_cells : (i : Instr) (cells these : List Value) (kinds : List CellKind) → cells ≡ these → Done i these kinds → Done i cells kinds
   on_cells i cells these kinds are d = subst (λ (v : List Value). Done i v kinds) (sym are) d
 
   -- a BOOL on top that stays
-  on_truth : (i : Instr) (cells : List Value) (kinds : List Kind) → looks_at (Plain elementary.Bool) kinds ≡ Some after → Fit cells kinds
-      → ((b : Bool) (others : List Value) (rest : List Kind) → Fit others rest → Fit (Truth b ∷ others) kinds → Done i (Truth b ∷ others) kinds) → Done i cells after
+  on_truth : (i : Instr) (cells : List Value) (kinds : List CellKind) → looks_at (Plain elementary.Bool) kinds ≡ Some after → Fit cells kinds
+      → ((b : Bool) (others : List Value) (rest : List CellKind) → Fit others rest → Fit (Truth b ∷ others) kinds → Done i (Truth b ∷ others) kinds) → Done i cells after
   on_truth i cells kinds e fit does =
-      let r = bind_some (below (Plain elementary.Bool) kinds) (λ (rest : List Kind). Some kinds) after e in
+      let r = bind_some (below (Plain elementary.Bool) kinds) (λ (rest : List CellKind). Some kinds) after e in
       let t = tops (Plain elementary.Bool) kinds r.0 cells r.1 fit in
       let b = truth_there t.value t.kind in
       let are : cells ≡ Truth b.0 ∷ t.others = t.are ∙ ap (λ (v : Value). v ∷ t.others) b.1 in
       to_kinds i cells kinds r.2 (on_cells i cells (Truth b.0 ∷ t.others) kinds are (does b.0 t.others r.0 t.fit (subst (λ (v : List Value). Fit v kinds) are fit)))
 
-  on_bool_slot : (i : Instr) (n : ℕ) (cells : List Value) (kinds : List Kind) → with_truth types n kinds ≡ Some after → Fit cells kinds
-      → ((b : Bool) (others : List Value) (rest : List Kind) → slice_get types n ≡ Some elementary.Bool → Fit others rest → Fit (Truth b ∷ others) kinds → Done i (Truth b ∷ others) kinds) → Done i cells after
+  on_bool_slot : (i : Instr) (n : ℕ) (cells : List Value) (kinds : List CellKind) → with_truth types n kinds ≡ Some after → Fit cells kinds
+      → ((b : Bool) (others : List Value) (rest : List CellKind) → slice_get types n ≡ Some elementary.Bool → Fit others rest → Fit (Truth b ∷ others) kinds → Done i (Truth b ∷ others) kinds) → Done i cells after
   on_bool_slot i n cells kinds e fit does =
       let t = bind_some (slice_get types n) (λ (t : ElementaryType). cond (same_type t elementary.Bool) (looks_at (Plain elementary.Bool) kinds) None) after e in
       go t.0 (same_type t.0 elementary.Bool) refl t.1 t.2
@@ -535,33 +536,33 @@ module _ (types : List ElementaryType) (count now next p : ℕ) (slots : List Va
       go t false same get h = absurd cc
       go t true same get h = on_truth i cells kinds h fit (λ b others rest f all. does b others rest (get ∙ ap (λ (u : ElementaryType). Some u) (same_is t elementary.Bool same)) f all)
 
-  on_timer : (i : Instr) (n : ℕ) (cells : List Value) (made : Option (List Kind)) → with_timer count n made ≡ Some after → (n < count → made ≡ Some after → Done i cells after) → Done i cells after
+  on_timer : (i : Instr) (n : ℕ) (cells : List Value) (made : Option (List CellKind)) → with_timer count n made ≡ Some after → (n < count → made ≡ Some after → Done i cells after) → Done i cells after
   on_timer i n cells made e does = go (nat_lt n count) refl e
     where
       go : (b : Bool) → nat_lt n count ≡ b → cond b made None ≡ Some after → Done i cells after
       go true is h = does (ltb-true n count is) h
       go false is h = absurd cc
 
-  compute_does : (o : Operation) (w : Width) (cells : List Value) (kinds : List Kind) → two (second_kind o w) (Plain (type_of_width w)) (Plain (type_of_width w)) kinds ≡ Some after → Fit cells kinds → Done (Compute o w) cells after
+  compute_does : (o : Operation) (w : Width) (cells : List Value) (kinds : List CellKind) → two (second_kind o w) (Plain (type_of_width w)) (Plain (type_of_width w)) kinds ≡ Some after → Fit cells kinds → Done (Compute o w) cells after
   compute_does o w cells kinds e fit =
       let k = Plain (type_of_width w) in
-      let m = bind_some (below (second_kind o w) kinds) (λ (more : List Kind). below k more >>= (λ rest. Some (k ∷ rest))) after e in
-      let r = bind_some (below k m.0) (λ (rest : List Kind). Some (k ∷ rest)) after m.2 in
+      let m = bind_some (below (second_kind o w) kinds) (λ (more : List CellKind). below k more >>= (λ rest. Some (k ∷ rest))) after e in
+      let r = bind_some (below k m.0) (λ (rest : List CellKind). Some (k ∷ rest)) after m.2 in
       let t = tops (second_kind o w) kinds m.0 cells m.1 fit in
       let u = tops k m.0 r.0 t.others r.1 t.fit in
       let d = divisor_of o w t.value t.kind in
       let b : ℤ = number_of t.value in
       let a : ℤ = number_of u.value in
-      let top : t.value ≡ value_in w b = number_there w t.value d.type in
-      let second : u.value ≡ value_in w a = number_there w u.value u.kind in
-      let are : cells ≡ value_in w b ∷ value_in w a ∷ u.others = t.are ∙ ap (λ (v : List Value). t.value ∷ v) u.are ∙ ap (λ (v : Value). v ∷ u.value ∷ u.others) top ∙ ap (λ (v : Value). value_in w b ∷ v ∷ u.others) second in
-      to_kinds (Compute o w) cells (k ∷ r.0) r.2 (on_cells (Compute o w) cells (value_in w b ∷ value_in w a ∷ u.others) (k ∷ r.0) are (does_compute types count now next p u.others slots timers r.0 u.fit typed o w a b d.test d.divisor))
+      let top : t.value ≡ value_of_width w b = number_there w t.value d.type in
+      let second : u.value ≡ value_of_width w a = number_there w u.value u.kind in
+      let are : cells ≡ value_of_width w b ∷ value_of_width w a ∷ u.others = t.are ∙ ap (λ (v : List Value). t.value ∷ v) u.are ∙ ap (λ (v : Value). v ∷ u.value ∷ u.others) top ∙ ap (λ (v : Value). value_of_width w b ∷ v ∷ u.others) second in
+      to_kinds (Compute o w) cells (k ∷ r.0) r.2 (on_cells (Compute o w) cells (value_of_width w b ∷ value_of_width w a ∷ u.others) (k ∷ r.0) are (does_compute types count now next p u.others slots timers r.0 u.fit typed o w a b d.test d.divisor))
 
-  combine_does : (c : Connective) (cells : List Value) (kinds : List Kind) → two (Plain elementary.Bool) (Plain elementary.Bool) (Plain elementary.Bool) kinds ≡ Some after → Fit cells kinds → Done (Combine c) cells after
+  combine_does : (c : Connective) (cells : List Value) (kinds : List CellKind) → two (Plain elementary.Bool) (Plain elementary.Bool) (Plain elementary.Bool) kinds ≡ Some after → Fit cells kinds → Done (Combine c) cells after
   combine_does c cells kinds e fit =
       let k = Plain elementary.Bool in
-      let m = bind_some (below k kinds) (λ (more : List Kind). below k more >>= (λ rest. Some (k ∷ rest))) after e in
-      let r = bind_some (below k m.0) (λ (rest : List Kind). Some (k ∷ rest)) after m.2 in
+      let m = bind_some (below k kinds) (λ (more : List CellKind). below k more >>= (λ rest. Some (k ∷ rest))) after e in
+      let r = bind_some (below k m.0) (λ (rest : List CellKind). Some (k ∷ rest)) after m.2 in
       let t = tops k kinds m.0 cells m.1 fit in
       let u = tops k m.0 r.0 t.others r.1 t.fit in
       let b = truth_there t.value t.kind in
@@ -569,7 +570,7 @@ module _ (types : List ElementaryType) (count now next p : ℕ) (slots : List Va
       let are : cells ≡ Truth b.0 ∷ Truth a.0 ∷ u.others = t.are ∙ ap (λ (v : List Value). t.value ∷ v) u.are ∙ ap (λ (v : Value). v ∷ u.value ∷ u.others) b.1 ∙ ap (λ (v : Value). Truth b.0 ∷ v ∷ u.others) a.1 in
       to_kinds (Combine c) cells (k ∷ r.0) r.2 (on_cells (Combine c) cells (Truth b.0 ∷ Truth a.0 ∷ u.others) (k ∷ r.0) are (does_combine types count now next p u.others slots timers r.0 u.fit typed c a.0 b.0))
 
-  compare_does : (c : Comparison) (cells : List Value) (kinds : List Kind) → compares c kinds ≡ Some after → Fit cells kinds → Done (Compare c) cells after
+  compare_does : (c : Comparison) (cells : List Value) (kinds : List CellKind) → compares c kinds ≡ Some after → Fit cells kinds → Done (Compare c) cells after
   compare_does c cells [] e fit = absurd cc
   compare_does c cells (k ∷ []) e fit = absurd cc
   compare_does c [] (k ∷ l ∷ rest) e fit = absurd fit
@@ -581,37 +582,37 @@ module _ (types : List ElementaryType) (count now next p : ℕ) (slots : List Va
       let vt : type_of v ≡ t.0 = shown v k t.0 fit.0.0 t.1 in
       let ut : type_of u ≡ s.0 = shown u l s.0 fit.1.0.0 s.1 in
       let test : is_comparable c u v ≡ true = ap (λ (x : ElementaryType). are_compared c x (type_of v)) ut ∙ ap (λ (x : ElementaryType). are_compared c s.0 x) vt ∙ b.0 in
-      to_kinds (Compare c) (v ∷ u ∷ others) (Plain elementary.Bool ∷ rest) (ap (λ (x : List Kind). Some x) b.1) (does_compare types count now next p others slots timers rest fit.1.1 typed c u v test)
+      to_kinds (Compare c) (v ∷ u ∷ others) (Plain elementary.Bool ∷ rest) (ap (λ (x : List CellKind). Some x) b.1) (does_compare types count now next p others slots timers rest fit.1.1 typed c u v test)
 
-  not_does : (cells : List Value) (kinds : List Kind) → (below (Plain elementary.Bool) kinds >>= (λ rest. Some (Plain elementary.Bool ∷ rest))) ≡ Some after → Fit cells kinds → Done Not cells after
+  not_does : (cells : List Value) (kinds : List CellKind) → (below (Plain elementary.Bool) kinds >>= (λ rest. Some (Plain elementary.Bool ∷ rest))) ≡ Some after → Fit cells kinds → Done Not cells after
   not_does cells kinds e fit =
       let k = Plain elementary.Bool in
-      let r = bind_some (below k kinds) (λ (rest : List Kind). Some (k ∷ rest)) after e in
+      let r = bind_some (below k kinds) (λ (rest : List CellKind). Some (k ∷ rest)) after e in
       let t = tops k kinds r.0 cells r.1 fit in
       let b = truth_there t.value t.kind in
       let are : cells ≡ Truth b.0 ∷ t.others = t.are ∙ ap (λ (v : Value). v ∷ t.others) b.1 in
       to_kinds Not cells (k ∷ r.0) r.2 (on_cells Not cells (Truth b.0 ∷ t.others) (k ∷ r.0) are (does_not types count now next p t.others slots timers r.0 t.fit typed b.0))
 
-  store_does : (n : ℕ) (cells : List Value) (kinds : List Kind) → (slice_get types n >>= (λ t. looks_at (Plain t) kinds)) ≡ Some after → Fit cells kinds → Done (Slot Store n) cells after
+  store_does : (n : ℕ) (cells : List Value) (kinds : List CellKind) → (slice_get types n >>= (λ t. looks_at (Plain t) kinds)) ≡ Some after → Fit cells kinds → Done (Slot Store n) cells after
   store_does n cells kinds e fit =
       let s = bind_some (slice_get types n) (λ (t : ElementaryType). looks_at (Plain t) kinds) after e in
-      let r = bind_some (below (Plain s.0) kinds) (λ (rest : List Kind). Some kinds) after s.2 in
+      let r = bind_some (below (Plain s.0) kinds) (λ (rest : List CellKind). Some kinds) after s.2 in
       let t = tops (Plain s.0) kinds r.0 cells r.1 fit in
       to_kinds (Slot Store n) cells kinds r.2 (on_cells (Slot Store n) cells (t.value ∷ t.others) kinds t.are
       (does_store types count now next p t.value t.others slots timers r.0 t.fit typed n s.0 kinds s.1 t.kind t.is_value (subst (λ (v : List Value). Fit v kinds) t.are fit)))
 
-  drop_does : (cells : List Value) (kinds : List Kind) → below Any kinds ≡ Some after → Fit cells kinds → Done Drop cells after
+  drop_does : (cells : List Value) (kinds : List CellKind) → below Any kinds ≡ Some after → Fit cells kinds → Done Drop cells after
   drop_does cells kinds e fit =
       let t = tops Any kinds after cells e fit in
       on_cells Drop cells (t.value ∷ t.others) after t.are (does_drop types count now next p t.value t.others slots timers after t.fit typed)
 
-  set_input_does : (n : ℕ) (cells : List Value) (kinds : List Kind) → below (Plain elementary.Bool) kinds ≡ Some after → Fit cells kinds → n < count → Done (Timer SetInput n) cells after
+  set_input_does : (n : ℕ) (cells : List Value) (kinds : List CellKind) → below (Plain elementary.Bool) kinds ≡ Some after → Fit cells kinds → n < count → Done (Timer SetInput n) cells after
   set_input_does n cells kinds e fit there =
       let t = tops (Plain elementary.Bool) kinds after cells e fit in
       let b = truth_there t.value t.kind in
       on_cells (Timer SetInput n) cells (Truth b.0 ∷ t.others) after (t.are ∙ ap (λ (v : Value). v ∷ t.others) b.1) (does_set_input types count now next p t.others slots timers after t.fit typed n b.0 there)
 
-  set_preset_does : (n : ℕ) (cells : List Value) (kinds : List Kind) → below (Plain elementary.Time) kinds ≡ Some after → Fit cells kinds → n < count → Done (Timer SetPreset n) cells after
+  set_preset_does : (n : ℕ) (cells : List Value) (kinds : List CellKind) → below (Plain elementary.Time) kinds ≡ Some after → Fit cells kinds → n < count → Done (Timer SetPreset n) cells after
   set_preset_does n cells kinds e fit there =
       let t = tops (Plain elementary.Time) kinds after cells e fit in
       let s = span_there t.value t.kind in
@@ -619,12 +620,12 @@ module _ (types : List ElementaryType) (count now next p : ℕ) (slots : List Va
       (does_set_preset types count now next p t.others slots timers after t.fit typed n s.0 (subst IsValue s.1 t.is_value) there)
 
   -- WIDEN and WIDENL
-  widen_does : (cells : List Value) (kinds : List Kind) → widens width.Int width.Dint kinds ≡ Some after → Fit cells kinds → Done (Widen IntToDint) cells after
+  widen_does : (cells : List Value) (kinds : List CellKind) → widens width.Int width.Dint kinds ≡ Some after → Fit cells kinds → Done (Widen IntToDint) cells after
   widen_does cells [] e fit = absurd cc
   widen_does [] (k ∷ rest) e fit = absurd fit
   widen_does (v ∷ others) (k ∷ rest) e fit = go (is_within k (NotZero width.Int)) (is_within k (Plain elementary.Int)) refl refl e
     where
-      made : (to : Kind) → type_of v ≡ elementary.Int → HasKind (Long (number_of v)) to → Some (to ∷ rest) ≡ Some after → Done (Widen IntToDint) (v ∷ others) after
+      made : (to : CellKind) → type_of v ≡ elementary.Int → HasKind (Long (number_of v)) to → Some (to ∷ rest) ≡ Some after → Done (Widen IntToDint) (v ∷ others) after
       made to is kind e =
           let same : v ≡ Short (number_of v) = number_there width.Int v is in
           to_kinds (Widen IntToDint) (v ∷ others) (to ∷ rest) e (on_cells (Widen IntToDint) (v ∷ others) (Short (number_of v) ∷ others) (to ∷ rest) (ap (λ (u : Value). u ∷ others) same)
@@ -635,12 +636,12 @@ module _ (types : List ElementaryType) (count now next p : ℕ) (slots : List Va
       go false true f g e = let h = kind_above v k (Plain elementary.Int) g fit.0.0 in made (Plain elementary.Dint) h refl e
       go false false f g e = absurd cc
 
-  widen_long_does : (cells : List Value) (kinds : List Kind) → widens width.Dint width.Lint kinds ≡ Some after → Fit cells kinds → Done (Widen DintToLint) cells after
+  widen_long_does : (cells : List Value) (kinds : List CellKind) → widens width.Dint width.Lint kinds ≡ Some after → Fit cells kinds → Done (Widen DintToLint) cells after
   widen_long_does cells [] e fit = absurd cc
   widen_long_does [] (k ∷ rest) e fit = absurd fit
   widen_long_does (v ∷ others) (k ∷ rest) e fit = go (is_within k (NotZero width.Dint)) (is_within k (Plain elementary.Dint)) refl refl e
     where
-      made : (to : Kind) → type_of v ≡ elementary.Dint → HasKind (Wide (number_of v)) to → Some (to ∷ rest) ≡ Some after → Done (Widen DintToLint) (v ∷ others) after
+      made : (to : CellKind) → type_of v ≡ elementary.Dint → HasKind (Wide (number_of v)) to → Some (to ∷ rest) ≡ Some after → Done (Widen DintToLint) (v ∷ others) after
       made to is kind e =
           let same : v ≡ Long (number_of v) = number_there width.Dint v is in
           to_kinds (Widen DintToLint) (v ∷ others) (to ∷ rest) e (on_cells (Widen DintToLint) (v ∷ others) (Long (number_of v) ∷ others) (to ∷ rest) (ap (λ (u : Value). u ∷ others) same)
@@ -651,7 +652,7 @@ module _ (types : List ElementaryType) (count now next p : ℕ) (slots : List Va
       go false true f g e = let h = kind_above v k (Plain elementary.Dint) g fit.0.0 in made (Plain elementary.Lint) h refl e
       go false false f g e = absurd cc
 
-  pub does : (i : Instr) (cells : List Value) (kinds : List Kind) → effect types count i kinds ≡ Some after → IsInstr i → (i ≡ Halt → ⊥) → Fit cells kinds → length after ≤ 32 → Done i cells after
+  pub does : (i : Instr) (cells : List Value) (kinds : List CellKind) → effect types count i kinds ≡ Some after → IsInstr i → (i ≡ Halt → ⊥) → Fit cells kinds → length after ≤ 32 → Done i cells after
   does Halt cells kinds e good going fit room = absurd (going refl)
   does (Push v) cells kinds e good going fit room =
       to_kinds (Push v) cells (kind_of v ∷ kinds) e (does_push types count now next p cells slots timers kinds fit typed v good (room_of (kind_of v ∷ kinds) after e room))

@@ -4,12 +4,12 @@ use Rattle.std.specs.Prelude.{IsSome, slice_get}
 use Rattle.bay_base.specs.declared.types.ElementaryType.{ElementaryType}
 use Rattle.bay_base.specs.declared.types.ElementaryType.TheVariants as elementary
 use Rattle.il_image.specs.declared.image.ImagePoint.{ImagePoint}
-use Rattle.il_image.specs.declared.timer.Timer.{Timer}
-use Rattle.il_image.specs.declared.timer.TimerKind.{TimerKind}
+use Rattle.il_image.specs.declared.timer.TimerState.{TimerState}
+use Rattle.bay_base.specs.declared.types.TimerKind.{TimerKind}
 use Rattle.il_image.specs.declared.value.Value.{Value}
 use Rattle.il_image.specs.Images.{Each, Image, IsValue}
 use Rattle.il_image.specs.Timers.{first_state}
-use Rattle.il_image.specs.Values.{number_of, type_of, value_of}
+use Rattle.il_image.specs.Values.{default_value, number_of, type_of, value_of}
 use Rattle.il_image.specs.Tables.{slot_types}
 use Rattle.il_verify.specs.Judging.{is_read_only}
 use Rattle.il_verify.specs.Slots.{point_slot, slots_of, variable_slot}
@@ -17,10 +17,11 @@ use Rattle.il_verify.proofs.EffectLemmas.{some_same}
 use Rattle.il_image.specs.declared.value.Value.TheVariants.{Truth}
 use Rattle.il_image.proofs.KindLemmas.{same_is, same_self}
 use Rattle.il_image.proofs.MapLemmas.{mapped_turn}
+use Rattle.il_image.proofs.ValueLemmas.{default_typed}
 use Rattle.bay_base.specs.Types.{same_type}
 use Rattle.std.proofs.lemmas.Bool.{and_parts}
 use Rattle.std.specs.Prelude.{is_some}
-use Rattle.il_scan.specs.Scans.{AreInputs, first_input, first_slots, default_value, outputs_of, read_only, type_of_point, with_inputs}
+use Rattle.il_scan.specs.Scans.{AreInputs, first_input, first_slots, outputs_of, read_only, type_of_point, with_inputs}
 use Rattle.il_scan.specs.PointPlaces.{are_inputs, begins_with, is_of}
 use Rattle.il_scan.specs.Standing.{AreWords, IsHeld, IsTimer, given_by}
 use Rattle.il_scan.specs.Words.{AreTyped, StandFor, value_at, values_of, words_of}
@@ -80,13 +81,13 @@ outputs_are (p ∷ points) more (w ∷ words) = ap (λ (vs : List Value). cond p
 
 -- ---- of an image
 
-pub held_words : (image : Image) (words : List ℤ) (timers : List Timer) → IsHeld image words timers → AreWords image.points words
+pub held_words : (image : Image) (words : List ℤ) (timers : List TimerState) → IsHeld image words timers → AreWords image.points words
 held_words image words timers h = subst (AreWords image.points) (sym h.stand.are) (are_words image.points (map type_of image.variables) (values_of (slot_types image) words) h.stand.typed)
 
-pub held_points : (image : Image) (words : List ℤ) (timers : List Timer) → IsHeld image words timers → length image.points ≤ length words
+pub held_points : (image : Image) (words : List ℤ) (timers : List TimerState) → IsHeld image words timers → length image.points ≤ length words
 held_points image words timers h = few_points image.points words (held_words image words timers h)
 
-pub taken_stand : (image : Image) (words : List ℤ) (timers : List Timer) (inputs : List Value) → IsHeld image words timers → AreInputs image.points inputs
+pub taken_stand : (image : Image) (words : List ℤ) (timers : List TimerState) (inputs : List Value) → IsHeld image words timers → AreInputs image.points inputs
     → StandFor (slot_types image) (with_inputs image.points (words_of inputs) words) (with_inputs image.points inputs (values_of (slot_types image) words))
 taken_stand image words timers inputs h are = record {
   are = ap (with_inputs image.points (words_of inputs)) h.stand.are ∙ inputs_are image.points inputs (values_of (slot_types image) words);
@@ -132,13 +133,6 @@ first_number elementary.Dint = refl
 first_number elementary.Lint = refl
 first_number elementary.Time = refl
 
-first_typed : (t : ElementaryType) → (type_of (default_value t) ≡ t) × IsValue (default_value t)
-first_typed elementary.Bool = (refl, refl)
-first_typed elementary.Int = (refl, refl)
-first_typed elementary.Dint = (refl, refl)
-first_typed elementary.Lint = (refl, refl)
-first_typed elementary.Time = (refl, refl)
-
 first_words : (points : List ImagePoint) (variables : List Value) → map (λ (p : ImagePoint). pos 0) points ++ words_of variables ≡ words_of (first_slots points variables)
 first_words [] variables = refl
 first_words (p ∷ points) variables = ap (λ (w : List ℤ). pos 0 ∷ w) (first_words points variables) ∙ ap (λ (z : ℤ). z ∷ words_of (first_slots points variables)) (sym (first_number p.elementary))
@@ -149,7 +143,7 @@ variables_typed (v ∷ variables) h = ((refl, h.0), variables_typed variables h.
 
 slots_typed : (points : List ImagePoint) (variables : List Value) → Each IsValue variables → AreTyped (map type_of_point points ++ map type_of variables) (first_slots points variables)
 slots_typed [] variables h = variables_typed variables h
-slots_typed (p ∷ points) variables h = (first_typed p.elementary, slots_typed points variables h)
+slots_typed (p ∷ points) variables h = (default_typed p.elementary, slots_typed points variables h)
 
 timers_first : (kinds : List TimerKind) → Each IsTimer (map first_state kinds)
 timers_first [] = tt
@@ -158,7 +152,7 @@ timers_first (k ∷ kinds) = ((omega arith, omega arith), timers_first kinds)
 pub first_stand : (image : Image) (words : List ℤ) → Each IsValue image.variables → words ≡ map (λ (p : ImagePoint). pos 0) image.points ++ words_of image.variables → StandFor (slot_types image) words (first_slots image.points image.variables)
 first_stand image words h e = record { are = e ∙ first_words image.points image.variables; typed = slots_typed image.points image.variables h }
 
-pub times_first : (timers : List Timer) (kinds : List TimerKind) → timers ≡ map first_state kinds → Each IsTimer timers
+pub times_first : (timers : List TimerState) (kinds : List TimerKind) → timers ≡ map first_state kinds → Each IsTimer timers
 times_first timers kinds e = subst (Each IsTimer) (sym e) (timers_first kinds)
 
 -- ---- the test of inputs

@@ -4,7 +4,7 @@ use Rattle.std.specs.Prelude.{IsSome, slice_get, slice_set}
 use Rattle.std.specs.Ordering.{int_eq}
 use Rattle.il_image.specs.declared.instr.Instr.{Instr}
 use Rattle.il_image.specs.declared.instr.Instr.TheVariants.{Halt, Push, Drop, Slot, Not, Combine, Compute, Compare, Widen, Jump, Timer}
-use Rattle.il_image.specs.declared.kind.Kind.{Kind}
+use Rattle.il_image.specs.declared.kind.CellKind.{CellKind}
 use Rattle.il_image.specs.declared.opcode.SlotUse.TheVariants.{Load, Store, SetIf, ResetIf}
 use Rattle.il_image.specs.declared.opcode.When.TheVariants.{Always, IfTrue, IfFalse}
 use Rattle.il_image.specs.declared.opcode.TimerUse.TheVariants.{SetInput, SetPreset, Run, LoadOutput, LoadElapsed}
@@ -90,7 +90,7 @@ module _ (image : Image) (now n : ℕ) (only : is_read_only (slots_of image) n �
 
 -- ---- values within other kinds
 
-fit_within : (values : List Value) (xs ys : List Kind) → AreWithin xs ys → Fit values xs → Fit values ys
+fit_within : (values : List Value) (xs ys : List CellKind) → AreWithin xs ys → Fit values xs → Fit values ys
 fit_within [] [] [] h g = tt
 fit_within [] [] (y ∷ ys) h g = absurd h
 fit_within [] (x ∷ xs) ys h g = absurd g
@@ -106,7 +106,7 @@ some_there (Some y) x e = refl
 
 -- what the table says of an instruction that stands at the state's place
 record Allows (image : Image) (s : State) (h : Standing image s) (i : Instr) (next : ℕ) : Type 0 where
-  after : List Kind
+  after : List CellKind
   effect_is : effect (slot_types image) (length image.timers) i h.kinds ≡ Some after
   enters : (to : ℕ) → LeadsTo i next to → Enters h.table to after
 

@@ -11,7 +11,7 @@ use Rattle.bay_base.specs.declared.types.ElementaryType.{ElementaryType}
 use Rattle.bay_base.specs.declared.types.ElementaryType.TheVariants as elementary
 use Rattle.il_image.specs.declared.arithmetic.Width.{Width}
 use Rattle.il_image.specs.declared.arithmetic.Width.TheVariants as width
-use Rattle.il_image.specs.declared.kind.Kind.TheVariants.{Plain, NotZero}
+use Rattle.il_image.specs.declared.kind.CellKind.TheVariants.{Plain, NotZero}
 use Rattle.il_image.specs.declared.opcode.Connective.{Connective}
 use Rattle.il_image.specs.declared.opcode.Connective.TheVariants.{And, Or, Xor}
 use Rattle.il_image.specs.declared.value.Value.{Value}
@@ -20,7 +20,7 @@ use Rattle.il_image.specs.Arithmetic.{connected, type_of_width, wrapped}
 use Rattle.il_image.specs.Effects.{kind_of, kind_of_number}
 use Rattle.il_image.specs.Images.{IsValue}
 use Rattle.il_image.specs.Kinds.{HasKind}
-use Rattle.il_image.specs.Machine.{value_in}
+use Rattle.il_image.specs.Machine.{value_of_width}
 use Rattle.il_image.specs.Values.{number_of, type_of, value_of, is_between}
 use Rattle.il_image.proofs.ValueLemmas.{value_back}
 use Rattle.il_scan.specs.Words.{value_at}
@@ -59,17 +59,17 @@ some_value : {A : Type 0} (b : Bool) (x : A) → b ≡ true → IsSome (cond b (
 some_value true x e = refl
 some_value false x e = absurd cc
 
-pub wrapped_value : (w : Width) (z : ℤ) → IsValue (value_in w (wrapped w z))
+pub wrapped_value : (w : Width) (z : ℤ) → IsValue (value_of_width w (wrapped w z))
 wrapped_value width.Int z = some_value _ (Short (int_wrap w16 z)) (between w16 0x7FFF (int_wrap w16 z) refl (SFits-int_wrap w16 z))
 wrapped_value width.Dint z = some_value _ (Long (int_wrap w32 z)) (between w32 0x7FFF_FFFF (int_wrap w32 z) refl (SFits-int_wrap w32 z))
 wrapped_value width.Lint z = some_value _ (Wide (int_wrap w64 z)) (between w64 0x7FFF_FFFF_FFFF_FFFF (int_wrap w64 z) refl (SFits-int_wrap w64 z))
 
-pub number_in : (w : Width) (z : ℤ) → number_of (value_in w z) ≡ z
+pub number_in : (w : Width) (z : ℤ) → number_of (value_of_width w z) ≡ z
 number_in width.Int z = refl
 number_in width.Dint z = refl
 number_in width.Lint z = refl
 
-pub type_in : (w : Width) (z : ℤ) → type_of (value_in w z) ≡ type_of_width w
+pub type_in : (w : Width) (z : ℤ) → type_of (value_of_width w z) ≡ type_of_width w
 type_in width.Int z = refl
 type_in width.Dint z = refl
 type_in width.Lint z = refl
@@ -131,7 +131,7 @@ span_there (Long z) e = absurd cc
 span_there (Wide z) e = absurd cc
 span_there (Span n) e = (n, refl)
 
-pub number_there : (w : Width) (v : Value) → type_of v ≡ type_of_width w → v ≡ value_in w (number_of v)
+pub number_there : (w : Width) (v : Value) → type_of v ≡ type_of_width w → v ≡ value_of_width w (number_of v)
 number_there width.Int (Short z) e = refl
 number_there width.Dint (Long z) e = refl
 number_there width.Lint (Wide z) e = refl

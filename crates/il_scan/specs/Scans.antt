@@ -1,15 +1,14 @@
 -- What a scan of a machine is.
-use Rattle.std.specs.Prelude.{ℕ, ℤ, zero, suc, pos, ◌≡◌, ◌+◌, ◌<◌, ◌≤◌, false, not, List, [], ◌∷◌, length, map, filter, drop, slice_get, Some, if◌then◌else◌}
+use Rattle.std.specs.Prelude.{ℕ, ℤ, zero, suc, ◌≡◌, ◌+◌, ◌<◌, ◌≤◌, false, not, List, [], ◌∷◌, length, map, filter, drop, slice_get, Some, if◌then◌else◌}
 use Rattle.bay_base.specs.declared.types.ElementaryType.{ElementaryType}
-use Rattle.bay_base.specs.declared.types.ElementaryType.TheVariants as elementary
 use Rattle.il_image.specs.declared.image.ImagePoint.{ImagePoint}
-use Rattle.il_image.specs.declared.timer.Timer.{Timer}
+use Rattle.il_image.specs.declared.timer.TimerState.{TimerState}
 use Rattle.il_image.specs.declared.value.Value.{Value}
-use Rattle.il_image.specs.declared.value.Value.TheVariants.{Truth, Short, Long, Wide, Span}
 use Rattle.il_image.specs.Images.{Image}
-use Rattle.il_image.specs.Machine.{Goes, Halted, State, run, start, turn}
+use Rattle.il_image.specs.Machine.{Goes, Halted, State, run, initial_state, turn}
 use Rattle.il_image.specs.Tables.{slot_types}
 use Rattle.il_image.specs.Timers.{first_state}
+use Rattle.il_image.specs.Values.{default_value}
 use Rattle.il_verify.specs.Verdicts.{IsBudget, IsDepth}
 use Rattle.il_scan.specs.Words.{AreTyped, values_of}
 
@@ -18,21 +17,13 @@ use Rattle.il_scan.specs.Words.{AreTyped, values_of}
 pub record Held : Type 0 where
   pub image : Image
   pub slots : List Value
-  pub timers : List Timer
+  pub timers : List TimerState
 
 -- what callers see of words and timers
-abbrev pub held : Image → List ℤ → List Timer → Held
+abbrev pub held : Image → List ℤ → List TimerState → Held
 held image slots timers = record { image = image; slots = values_of (slot_types image) slots; timers = timers }
 
 -- ---- the first state
-
--- FALSE, or 0 of a type
-abbrev pub default_value : ElementaryType → Value
-default_value elementary.Bool = Truth false
-default_value elementary.Int = Short (pos 0)
-default_value elementary.Dint = Long (pos 0)
-default_value elementary.Lint = Wide (pos 0)
-default_value elementary.Time = Span 0
 
 -- the points' slots, and behind them the variables' with their initial values
 abbrev pub first_slots : List ImagePoint → List Value → List Value
@@ -82,7 +73,7 @@ outputs_of (p ∷ points) (slot ∷ slots) = if p.writable then slot ∷ outputs
 
 -- where the run of a scan starts
 abbrev pub started : Held → List Value → State
-started held inputs = start (with_inputs held.image.points inputs held.slots) held.timers
+started held inputs = initial_state (with_inputs held.image.points inputs held.slots) held.timers
 
 -- No state of a run of at most so many steps has more cells than this on its stack.
 abbrev pub IsWithin : List ℕ → ℕ → ℕ → ℕ → State → Type 0

@@ -11,8 +11,8 @@ use Rattle.il_image.specs.declared.opcode.SlotUse.TheVariants.{Load, Store, SetI
 use Rattle.il_image.specs.declared.opcode.When.TheVariants.{Always, IfTrue, IfFalse}
 use Rattle.il_image.specs.declared.opcode.TimerUse.{TimerUse}
 use Rattle.il_image.specs.declared.opcode.TimerUse.TheVariants.{SetInput, SetPreset, Run, LoadOutput, LoadElapsed}
-use Rattle.il_image.specs.declared.timer.Timer.{Timer as TimerState}
-use Rattle.il_image.specs.declared.timer.TimerKind.TheVariants.{OnDelay}
+use Rattle.il_image.specs.declared.timer.TimerState.{TimerState}
+use Rattle.bay_base.specs.declared.types.TimerKind.TheVariants.{OnDelay}
 use Rattle.il_image.specs.Arithmetic.{DividesBy, compared, computed}
 use Rattle.il_image.specs.Timers.{called, first_state}
 use Rattle.il_image.specs.Values.{number_of}

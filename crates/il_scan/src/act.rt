@@ -11,7 +11,7 @@ use crate::stack::Stack;
 use il_image::arithmetic::{Comparison, Operation, Width, compare, compute};
 use il_image::instr::Instr;
 use il_image::opcode::{Connective, SlotUse, TimerUse, When};
-use il_image::timer::Timer;
+use il_image::timer::TimerState;
 
 /// NOT: the top is negated.
 #[inline(always)]
@@ -179,7 +179,7 @@ fn choose(stack: &Stack, where_false: usize, where_true: usize) -> usize
 
 /// SETIN: the timer takes the top as IN.
 #[inline(always)]
-fn set_input(stack: &mut Stack, timers: &mut [Timer], number: u16)
+fn set_input(stack: &mut Stack, timers: &mut [TimerState], number: u16)
     requires some { 0 < length stack.old }
     requires there { number < length timers.old }
     ensures stack { stack.new ≡ drop 1 stack.old }
@@ -192,7 +192,7 @@ fn set_input(stack: &mut Stack, timers: &mut [Timer], number: u16)
 
 /// SETPT: the timer takes the top as PT.
 #[inline(always)]
-fn set_preset(stack: &mut Stack, timers: &mut [Timer], number: u16)
+fn set_preset(stack: &mut Stack, timers: &mut [TimerState], number: u16)
     requires some { 0 < length stack.old }
     requires there { number < length timers.old }
     requires span { IsSpan (spec.top stack.old) }
@@ -206,7 +206,7 @@ fn set_preset(stack: &mut Stack, timers: &mut [Timer], number: u16)
 
 /// RUN: one call of the timer at this moment.
 #[inline(always)]
-fn run(timers: &mut [Timer], number: u16, now: u64)
+fn run(timers: &mut [TimerState], number: u16, now: u64)
     requires { number < length timers.old }
     ensures { timers.new ≡ slice_set timers.old number (time.called (timer_at timers.old number) now) }
 {
@@ -215,7 +215,7 @@ fn run(timers: &mut [Timer], number: u16, now: u64)
 
 /// LOADQ: Q goes on the stack.
 #[inline(always)]
-fn load_output(stack: &mut Stack, timers: &[Timer], number: u16)
+fn load_output(stack: &mut Stack, timers: &[TimerState], number: u16)
     requires room { length stack.old < 32 }
     requires there { number < length timers.now }
     ensures { stack.new ≡ word_of (timer_at timers.now number).output ∷ stack.old }
@@ -226,7 +226,7 @@ fn load_output(stack: &mut Stack, timers: &[Timer], number: u16)
 
 /// LOADET: ET goes on the stack.
 #[inline(always)]
-fn load_elapsed(stack: &mut Stack, timers: &[Timer], number: u16)
+fn load_elapsed(stack: &mut Stack, timers: &[TimerState], number: u16)
     requires room { length stack.old < 32 }
     requires there { number < length timers.now }
     ensures { stack.new ≡ pos (timer_at timers.now number).elapsed ∷ stack.old }
@@ -244,7 +244,7 @@ pub(crate) fn act(
     next: usize,
     stack: &mut Stack,
     slots: &mut [i64],
-    timers: &mut [Timer],
+    timers: &mut [TimerState],
 ) -> Option<usize>
     requires next { next < 2 ^ 63 }
     requires ready { IsReady instr (words stack.old slots.old timers.old) }

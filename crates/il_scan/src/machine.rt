@@ -16,7 +16,7 @@ use crate::slots::{
     room_for_outputs,
 };
 use il_image::image::Image;
-use il_image::timer::Timer;
+use il_image::timer::TimerState;
 use il_image::value::Value;
 use il_verify::verify::Verified;
 use std::alloc::{AllocError, Global};
@@ -28,7 +28,7 @@ use std::marker::Model;
 pub struct Machine {
     verified: Verified,
     slots: Vec<i64>,
-    timers: Vec<Timer>,
+    timers: Vec<TimerState>,
     places: Places,
     outputs: Vec<Value>,
 }
@@ -59,7 +59,7 @@ pub struct Scan<'a> {
 #[derive(Drop)]
 struct Memory {
     slots: Vec<i64>,
-    timers: Vec<Timer>,
+    timers: Vec<TimerState>,
     places: Places,
     outputs: Vec<Value>,
 }
@@ -88,7 +88,7 @@ fn run_points<I: Inputs>(
     inputs: &I,
     now: u64,
     slots: &mut [i64],
-    timers: &mut [Timer],
+    timers: &mut [TimerState],
     reads: &[usize],
 ) -> u32
     requires safe { IsSafe image.now }
@@ -109,7 +109,7 @@ fn run_once(
     inputs: &[Value],
     now: u64,
     slots: &mut [i64],
-    timers: &mut [Timer],
+    timers: &mut [TimerState],
     places: &Places,
     outputs: &mut [Value],
 ) -> u32

@@ -10,9 +10,9 @@ ghost use Rattle.il_scan.specs.PointPlaces.{AllBelow, read_places, with_words, w
 ghost use Rattle.il_scan.specs.Words.{AreTyped, slot_at, value_at, words_of};
 
 use crate::points::Inputs;
-use bay_base::types::ElementaryType;
+use bay_base::types::{ElementaryType, TimerKind};
 use il_image::image::{Image, ImagePoint};
-use il_image::timer::{Timer, TimerKind};
+use il_image::timer::TimerState;
 use il_image::value::Value;
 use std::alloc::{AllocError, Global};
 
@@ -204,13 +204,13 @@ pub(crate) fn first_slots(alloc: Global, image: &Image) -> Result<Vec<i64>, Allo
 }
 
 /// The timers at first.
-pub(crate) fn first_timers(alloc: Global, kinds: &[TimerKind]) -> Result<Vec<Timer>, AllocError>
+pub(crate) fn first_timers(alloc: Global, kinds: &[TimerKind]) -> Result<Vec<TimerState>, AllocError>
     ensures ok { IfOk result (λ timers. timers.items ≡ map first_state kinds.now) }
     ensures memory { IfErr result (λ e. 0 < length kinds.now) }
 {
     let mut timers = Vec::new(alloc);
     for kind in kinds {
-        timers.push(Timer::new(*kind))?;
+        timers.push(TimerState::new(*kind))?;
     }
     Ok(timers)
 }

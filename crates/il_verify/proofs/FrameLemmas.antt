@@ -3,7 +3,7 @@ use Rattle.std.proofs.Common.{◌≡◌, ℕ, ◌≤◌, max, List, [], ◌∷�
 use Rattle.std.proofs.lemmas.List.{reverse-reverse, length-reverse}
 use Rattle.std.proofs.lemmas.Bool.{cases_lt}
 use Rattle.std.specs.Prelude.{option_map, Result, Ok, Err, IfErr, IfOk}
-use Rattle.il_image.specs.declared.kind.Kind.{Kind}
+use Rattle.il_image.specs.declared.kind.CellKind.{CellKind}
 use Rattle.il_image.specs.Kinds.{AreWithin}
 use Rattle.il_image.proofs.KindLemmas.{join_over, join_least}
 use Rattle.il_verify.specs.declared.frame.Frame.{Frame}
@@ -11,7 +11,7 @@ use Rattle.il_verify.specs.Frames.{Clashing, Grows, Mark, joins, mark_of}
 use Rattle.il_verify.proofs.EffectLemmas.{some_same}
 use Rattle.il_verify.proofs.WithinLemmas.{all_within_along, all_within_self, within_reverse}
 
-joins_over : (xs ys : List Kind) → length xs ≡ length ys → AreWithin xs (joins xs ys) × AreWithin ys (joins xs ys)
+joins_over : (xs ys : List CellKind) → length xs ≡ length ys → AreWithin xs (joins xs ys) × AreWithin ys (joins xs ys)
 joins_over [] [] e = (tt, tt)
 joins_over [] (y ∷ ys) e = absurd (omega arith)
 joins_over (x ∷ xs) [] e = absurd (omega arith)
@@ -20,20 +20,20 @@ joins_over (x ∷ xs) (y ∷ ys) e =
     let here = join_over x y in
     ((here.0, more.0), (here.1, more.1))
 
-joins_least : (xs ys top : List Kind) → AreWithin xs top → AreWithin ys top → AreWithin (joins xs ys) top
+joins_least : (xs ys top : List CellKind) → AreWithin xs top → AreWithin ys top → AreWithin (joins xs ys) top
 joins_least [] [] top h g = h
 joins_least [] (y ∷ ys) top h g = h
 joins_least (x ∷ xs) [] top h g = h
 joins_least (x ∷ xs) (y ∷ ys) [] h g = absurd h
 joins_least (x ∷ xs) (y ∷ ys) (t ∷ top) h g = (join_least x y t h.0 g.0, joins_least xs ys top h.1 g.1)
 
-joins_least_reversed : (xs ys top : List Kind) → AreWithin (reverse xs) top → AreWithin (reverse ys) top → AreWithin (reverse (joins xs ys)) top
+joins_least_reversed : (xs ys top : List CellKind) → AreWithin (reverse xs) top → AreWithin (reverse ys) top → AreWithin (reverse (joins xs ys)) top
 joins_least_reversed xs ys top h g =
-    let h2 : AreWithin xs (reverse top) = subst (λ (v : List Kind). AreWithin v (reverse top)) (reverse-reverse xs) (within_reverse (reverse xs) top h) in
-    let g2 : AreWithin ys (reverse top) = subst (λ (v : List Kind). AreWithin v (reverse top)) (reverse-reverse ys) (within_reverse (reverse ys) top g) in
+    let h2 : AreWithin xs (reverse top) = subst (λ (v : List CellKind). AreWithin v (reverse top)) (reverse-reverse xs) (within_reverse (reverse xs) top h) in
+    let g2 : AreWithin ys (reverse top) = subst (λ (v : List CellKind). AreWithin v (reverse top)) (reverse-reverse ys) (within_reverse (reverse ys) top g) in
     subst (AreWithin (reverse (joins xs ys))) (reverse-reverse top) (within_reverse (joins xs ys) (reverse top) (joins_least xs ys (reverse top) h2 g2))
 
-abbrev pub mark : List Kind → ℕ → Mark
+abbrev pub mark : List CellKind → ℕ → Mark
 mark kinds longest = record { kinds = reverse kinds; longest = longest }
 
 larger : (a b : ℕ) → (max a b ≡ b) ⊎ (max a b ≡ a)
@@ -42,7 +42,7 @@ larger a b = elim (cases_lt a b) [ inl h ↦ inl (omega arith) | inr h ↦ inr (
 which : (a b : ℕ) (old : Mark) → old.longest ≡ a → (max a b ≡ b) ⊎ ((m : Mark) × (Some old ≡ Some m) × (max a b ≡ m.longest))
 which a b old e = elim (larger a b) [ inl h ↦ inl h | inr h ↦ inr (old, refl, h ∙ sym e) ]
 
-pub grown : (olds news : List Kind) (a b : ℕ) → length olds ≡ length news → Grows (mark news b) (Some (mark olds a)) (mark (joins olds news) (max a b))
+pub grown : (olds news : List CellKind) (a b : ℕ) → length olds ≡ length news → Grows (mark news b) (Some (mark olds a)) (mark (joins olds news) (max a b))
 grown olds news a b e =
     let over = joins_over olds news e in
     record {
@@ -55,7 +55,7 @@ grown olds news a b e =
     }
 
 -- A place that nothing has come to.
-pub begun : (news : List Kind) (b : ℕ) → Grows (mark news b) None (mark news b)
+pub begun : (news : List CellKind) (b : ℕ) → Grows (mark news b) None (mark news b)
 begun news b = record {
   over = all_within_self (reverse news);
   keeps = λ m is. absurd cc;
@@ -65,15 +65,15 @@ begun news b = record {
   from = inl refl;
 }
 
-pub joined_grows : (olds news kinds : List Kind) (a b c : ℕ) → length olds ≡ length news → kinds ≡ joins olds news → c ≡ max a b → Grows (mark news b) (Some (mark olds a)) (mark kinds c)
+pub joined_grows : (olds news kinds : List CellKind) (a b c : ℕ) → length olds ≡ length news → kinds ≡ joins olds news → c ≡ max a b → Grows (mark news b) (Some (mark olds a)) (mark kinds c)
 joined_grows olds news kinds a b c e same larger =
-    subst (λ (v : List Kind). Grows (mark news b) (Some (mark olds a)) (mark v c)) (sym same)
+    subst (λ (v : List CellKind). Grows (mark news b) (Some (mark olds a)) (mark v c)) (sym same)
     (subst (λ (n : ℕ). Grows (mark news b) (Some (mark olds a)) (mark (joins olds news) n)) (sym larger) (grown olds news a b e))
 
-pub begun_grows : (o : Option Frame) (news kinds : List Kind) (b : ℕ) → o ≡ None → kinds ≡ news → Grows (mark news b) (option_map mark_of o) (mark kinds b)
+pub begun_grows : (o : Option Frame) (news kinds : List CellKind) (b : ℕ) → o ≡ None → kinds ≡ news → Grows (mark news b) (option_map mark_of o) (mark kinds b)
 begun_grows o news kinds b is same =
     subst (λ (v : Option Frame). Grows (mark news b) (option_map mark_of v) (mark kinds b)) (sym is)
-    (subst (λ (v : List Kind). Grows (mark news b) None (mark v b)) (sym same) (begun news b))
+    (subst (λ (v : List CellKind). Grows (mark news b) None (mark v b)) (sym same) (begun news b))
 
 pub grows_along : (come : Mark) (old : Option Mark) (mid new : Mark) → Grows come old mid → Grows come (Some mid) new → Grows come old new
 grows_along come old mid new h g = record {
@@ -90,7 +90,7 @@ grows_along come old mid new h g = record {
 }
 
 -- kinds of another number than those of the place
-pub clash_of : (o : Option Frame) (frame : Frame) (kinds : List Kind) → o ≡ Some frame → (length frame.kinds.items ≡ length kinds → ⊥) → Clashing (option_map mark_of o) (reverse kinds)
+pub clash_of : (o : Option Frame) (frame : Frame) (kinds : List CellKind) → o ≡ Some frame → (length frame.kinds.items ≡ length kinds → ⊥) → Clashing (option_map mark_of o) (reverse kinds)
 clash_of o frame kinds is ne = (mark_of frame, ap (option_map mark_of) is, λ e. ne (sym (length-reverse frame.kinds.items) ∙ e ∙ length-reverse kinds))
 
 pub if_err_weaker : {T E : Type 0} (r : Result T E) (P Q : E → Type 0) → ((e : E) → P e → Q e) → IfErr r P → IfErr r Q

@@ -5,7 +5,7 @@ use Rattle.std.proofs.lemmas.Bool.Decides.{nat_tests}
 use Rattle.std.proofs.lemmas.Bool.{cases_eq}
 use Rattle.std.proofs.lemmas.Option.{slice_get-get_or}
 use Rattle.il_image.specs.declared.instr.Instr.{Instr}
-use Rattle.il_image.specs.declared.kind.Kind.{Kind}
+use Rattle.il_image.specs.declared.kind.CellKind.{CellKind}
 use Rattle.il_verify.specs.declared.frame.Frame.{Frame}
 use Rattle.il_verify.specs.Refusals.{JumpsTo}
 use Rattle.il_verify.proofs.OrderLemmas.{set_elsewhere, set_here}
@@ -63,7 +63,7 @@ pended old grown place o w frame come same less was is grows = record {
   others = λ q ne. others_stay grown place w q ne ∙ same q;
 }
 
-pub clash_at : (old : List (Option Frame)) (place : ℕ) (o : Option Frame) (kinds : List Kind) → o ≡ frame_at old place → Clashing (option_map mark_of o) kinds → Clashing (marks_of old place) kinds
+pub clash_at : (old : List (Option Frame)) (place : ℕ) (o : Option Frame) (kinds : List CellKind) → o ≡ frame_at old place → Clashing (option_map mark_of o) kinds → Clashing (marks_of old place) kinds
 clash_at old place o kinds was c = subst (λ (v : Option Mark). Clashing v kinds) (sym (mark_at old place o was)) c
 
 -- ---- to the next place

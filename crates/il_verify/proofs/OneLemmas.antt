@@ -8,8 +8,8 @@ use Rattle.il_image.specs.declared.arithmetic.Width.{Width}
 use Rattle.il_image.specs.declared.arithmetic.Width.TheVariants as width
 use Rattle.il_image.specs.declared.instr.Instr.{Instr}
 use Rattle.il_image.specs.declared.instr.Instr.TheVariants.{Halt, Push, Drop, Slot, Not, Combine, Compute, Compare, Widen, Jump, Timer}
-use Rattle.il_image.specs.declared.kind.Kind.{Kind}
-use Rattle.il_image.specs.declared.kind.Kind.TheVariants.{Any, Plain, NotZero}
+use Rattle.il_image.specs.declared.kind.CellKind.{CellKind}
+use Rattle.il_image.specs.declared.kind.CellKind.TheVariants.{Any, Plain, NotZero}
 use Rattle.il_image.specs.declared.opcode.When.TheVariants.{Always, IfTrue, IfFalse}
 use Rattle.il_image.specs.Arithmetic.{type_of_width}
 use Rattle.il_image.specs.Images.{Image}
@@ -37,7 +37,7 @@ width_same width.Lint width.Int e = absurd (cc)
 width_same width.Lint width.Dint e = absurd (cc)
 width_same width.Lint width.Lint e = refl
 
-kind_same : (a b : Kind) → is_within a b ≡ true → is_within b a ≡ true → a ≡ b
+kind_same : (a b : CellKind) → is_within a b ≡ true → is_within b a ≡ true → a ≡ b
 kind_same Any Any h g = refl
 kind_same Any (Plain t) h g = absurd (cc)
 kind_same Any (NotZero w) h g = absurd (cc)
@@ -48,7 +48,7 @@ kind_same (NotZero w) Any h g = absurd (cc)
 kind_same (NotZero w) (Plain t) h g = absurd (cc)
 kind_same (NotZero w) (NotZero v) h g = ap (λ (k : Width). NotZero k) (width_same w v (same_is (type_of_width w) (type_of_width v) h))
 
-kinds_same : (xs ys : List Kind) → AreWithin xs ys → AreWithin ys xs → xs ≡ ys
+kinds_same : (xs ys : List CellKind) → AreWithin xs ys → AreWithin ys xs → xs ≡ ys
 kinds_same [] [] h g = refl
 kinds_same [] (y ∷ ys) h g = absurd h
 kinds_same (x ∷ xs) [] h g = absurd h
@@ -66,7 +66,7 @@ Alike t u done = (q : ℕ) → q < done → t q ≡ u q
 alike_back : (t u : Table) (done : ℕ) → Alike t u done → Alike u t done
 alike_back t u done same q less = sym (same q less)
 
-comes_alike : (image : Image) (t u : Table) (done to : ℕ) (kinds : List Kind) → Alike t u done → Comes image t done to kinds → Comes image u done to kinds
+comes_alike : (image : Image) (t u : Table) (done to : ℕ) (kinds : List CellKind) → Alike t u done → Comes image t done to kinds → Comes image u done to kinds
 comes_alike image t u done to kinds same (inl h) = inl h
 comes_alike image t u done to kinds same (inr h) =
     let c = h.2 in
@@ -84,13 +84,13 @@ comes_alike image t u done to kinds same (inr h) =
       },
     )
 
-merge_same : (image : Image) (t u : Table) (done to : ℕ) (kinds others : List Kind) → Alike t u done → IsMerge image t done to kinds → IsMerge image u done to others → kinds ≡ others
+merge_same : (image : Image) (t u : Table) (done to : ℕ) (kinds others : List CellKind) → Alike t u done → IsMerge image t done to kinds → IsMerge image u done to others → kinds ≡ others
 merge_same image t u done to kinds others same m n =
     kinds_same kinds others
     (m.least others (λ k c. n.above k (comes_alike image t u done to k same c)))
     (n.least kinds (λ k c. m.above k (comes_alike image u t done to k (alike_back t u done same) c)))
 
-merge_alike : (image : Image) (t u : Table) (done to : ℕ) (kinds : List Kind) → Alike t u done → IsMerge image t done to kinds → IsMerge image u done to kinds
+merge_alike : (image : Image) (t u : Table) (done to : ℕ) (kinds : List CellKind) → Alike t u done → IsMerge image t done to kinds → IsMerge image u done to kinds
 merge_alike image t u done to kinds same m =
     let back = alike_back t u done same in
     record {
@@ -101,7 +101,7 @@ merge_alike image t u done to kinds same m =
 
 -- ---- the tables of two fronts
 
-known_same : (image : Image) (t u : Table) (d e place : ℕ) (o p : Option (List Kind)) → IsFront image t d → IsFront image u e → place < d → place < e → Alike t u place → t place ≡ o → u place ≡ p → t place ≡ u place
+known_same : (image : Image) (t u : Table) (d e place : ℕ) (o p : Option (List CellKind)) → IsFront image t d → IsFront image u e → place < d → place < e → Alike t u place → t place ≡ o → u place ≡ p → t place ≡ u place
 known_same image t u d e place None None f g less more same is other = is ∙ sym other
 known_same image t u d e place None (Some k) f g less more same is other =
     let known = (f.passes place less (g.only place k other).1).known in
@@ -111,7 +111,7 @@ known_same image t u d e place (Some k) None f g less more same is other =
     absurd (cc)
 known_same image t u d e place (Some k) (Some l) f g less more same is other =
     let equal = merge_same image t u place place k l same (f.merged place k is) (g.merged place l other) in
-    is ∙ ap (λ (kinds : List Kind). Some kinds) equal ∙ sym other
+    is ∙ ap (λ (kinds : List CellKind). Some kinds) equal ∙ sym other
 
 fronts_below : (image : Image) (t u : Table) (d e n place : ℕ) → IsFront image t d → IsFront image u e → place < n → place < d → place < e → t place ≡ u place
 fronts_below image t u d e zero place f g low less more = absurd (omega arith)
@@ -187,7 +187,7 @@ Reason image t place fault =
     ⊎ (((fault ≡ BadTarget) × JumpsBadly image t place) ⊎ (((fault ≡ NoHalt) × GoesPast image t place) ⊎ ((fault ≡ DepthClash) × Clashes image t place)))
 
 abbrev Nothing : Image → Table → ℕ → Type 0
-Nothing image t place = (kinds : List Kind) → Comes image t place place kinds → ⊥
+Nothing image t place = (kinds : List CellKind) → Comes image t place place kinds → ⊥
 
 reason : (image : Image) (t : Table) (place : ℕ) (fault : VerifyFault) → IsFaultAt image t place fault → ((fault ≡ Unreachable) × Nothing image t place) ⊎ Reason image t place fault
 reason image t place Unreachable h = inl (refl, h)

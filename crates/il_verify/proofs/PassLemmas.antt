@@ -4,7 +4,7 @@ use Rattle.std.specs.Prelude.{IsTrue, ◌↔◌}
 use Rattle.std.proofs.lemmas.Bool.{cases_lt, cases_eq}
 use Rattle.il_image.specs.declared.instr.Instr.{Instr}
 use Rattle.il_image.specs.declared.instr.Instr.TheVariants.{Halt}
-use Rattle.il_image.specs.declared.kind.Kind.{Kind}
+use Rattle.il_image.specs.declared.kind.CellKind.{CellKind}
 use Rattle.il_image.specs.Images.{Image}
 use Rattle.il_image.specs.Reading.{instr_at}
 use Rattle.il_image.specs.Tables.{Table, place_of}
@@ -28,8 +28,8 @@ use Rattle.bay_base.specs.declared.types.ElementaryType.{ElementaryType}
 
 -- The lists of the table so far have at most this length, and one has it, or it is 0.
 pub record Deepest (table : Table) (depth : ℕ) : Type 0 where
-  pub most : (q : ℕ) (kinds : List Kind) → table q ≡ Some kinds → length kinds ≤ depth
-  pub some : (depth ≡ 0) ⊎ ((q : ℕ) × (kinds : List Kind) × (table q ≡ Some kinds) × (length kinds ≡ depth))
+  pub most : (q : ℕ) (kinds : List CellKind) → table q ≡ Some kinds → length kinds ≤ depth
+  pub some : (depth ≡ 0) ⊎ ((q : ℕ) × (kinds : List CellKind) × (table q ≡ Some kinds) × (length kinds ≡ depth))
 
 pub record Passing (image : Image) (done budget depth : ℕ) (marks : Marks) : Type 0 where
   pub number : ℕ

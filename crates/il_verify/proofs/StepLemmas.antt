@@ -4,7 +4,7 @@ use Rattle.std.proofs.lemmas.Bool.{cases_lt, cases_eq}
 use Rattle.bay_base.specs.declared.types.ElementaryType.{ElementaryType}
 use Rattle.il_image.specs.declared.instr.Instr.{Instr}
 use Rattle.il_image.specs.declared.instr.Instr.TheVariants.{Halt, Push, Drop, Slot, Not, Combine, Compute, Compare, Widen, Jump, Timer}
-use Rattle.il_image.specs.declared.kind.Kind.{Kind}
+use Rattle.il_image.specs.declared.kind.CellKind.{CellKind}
 use Rattle.il_image.specs.declared.opcode.When.TheVariants.{Always, IfTrue, IfFalse}
 use Rattle.il_image.specs.Effects.{effect}
 use Rattle.il_image.specs.Images.{Image}
@@ -66,7 +66,7 @@ comes_both P Q L come old mid new split join h g = elim h [
   ]
 ]
 
-abbrev pub onward : Mark → List Kind → Mark
+abbrev pub onward : Mark → List CellKind → Mark
 onward come gives = record { kinds = gives; longest = come.longest + 1 }
 
 pub spreads : (image : Image) (instr : Instr) (next : ℕ) (come : Mark) (old new : Marks) (v : Visits image instr next come old new) (to : ℕ) → ComesWhere (LeadsTo instr next to) (onward come v.gives) (old to) (new to)
@@ -91,13 +91,13 @@ SameBefore done t u = (q : ℕ) → q < done → t q ≡ u q
 same_back : (done : ℕ) (t u : Table) → SameBefore done t u → SameBefore done u t
 same_back done t u h q less = sym (h q less)
 
-comes_keep : (image : Image) (done to : ℕ) (t u : Table) (kinds : List Kind) → SameBefore done t u → Comes image t done to kinds → Comes image u done to kinds
+comes_keep : (image : Image) (done to : ℕ) (t u : Table) (kinds : List CellKind) → SameBefore done t u → Comes image t done to kinds → Comes image u done to kinds
 comes_keep image done to t u kinds same c = elim c [
   | inl e ↦ inl e
   | inr d ↦ (let f = d.2 in inr (d.0, d.1, record { instr = f.instr; next = f.next; before = f.before; here = f.here; known = sym (same d.0 d.1) ∙ f.known; gives = f.gives; leads = f.leads }))
 ]
 
-merge_keep : (image : Image) (done to : ℕ) (t u : Table) (kinds : List Kind) → SameBefore done t u → IsMerge image t done to kinds → IsMerge image u done to kinds
+merge_keep : (image : Image) (done to : ℕ) (t u : Table) (kinds : List CellKind) → SameBefore done t u → IsMerge image t done to kinds → IsMerge image u done to kinds
 merge_keep image done to t u kinds same m = record {
   some = (m.some.0, comes_keep image done to t u m.some.0 same m.some.1);
   above = λ others c. m.above others (comes_keep image done to u t others (same_back done t u same) c);
@@ -108,10 +108,10 @@ merge_keep image done to t u kinds same m = record {
 
 -- Nothing comes to the place, or the mark has the least kinds above what comes there.
 abbrev pub Marked : Image → Table → ℕ → ℕ → Option Mark → Type 0
-Marked image table done q None = (kinds : List Kind) → Comes image table done q kinds → ⊥
+Marked image table done q None = (kinds : List CellKind) → Comes image table done q kinds → ⊥
 Marked image table done q (Some m) = IsMerge image table done q m.kinds
 
-pub marked_none : (image : Image) (table : Table) (done q : ℕ) (o : Option Mark) → o ≡ None → Marked image table done q o → (kinds : List Kind) → Comes image table done q kinds → ⊥
+pub marked_none : (image : Image) (table : Table) (done q : ℕ) (o : Option Mark) → o ≡ None → Marked image table done q o → (kinds : List CellKind) → Comes image table done q kinds → ⊥
 marked_none image table done q o e h = subst (Marked image table done q) e h
 
 pub marked_some : (image : Image) (table : Table) (done q : ℕ) (o : Option Mark) (m : Mark) → o ≡ Some m → Marked image table done q o → IsMerge image table done q m.kinds
@@ -153,13 +153,13 @@ module _ (image : Image) (place : ℕ) (instr : Instr) (next : ℕ) (come : Mark
   from_here : (q : ℕ) → LeadsTo instr next q → Comes image table_more next q v.gives
   from_here q leads = inr (place, forward, record { instr = instr; next = next; before = come.kinds; here = here; known = at_place; gives = effect_is; leads = leads })
 
-  comes_more : (q : ℕ) (kinds : List Kind) → Comes image s.table place q kinds → Comes image table_more next q kinds
+  comes_more : (q : ℕ) (kinds : List CellKind) → Comes image s.table place q kinds → Comes image table_more next q kinds
   comes_more q kinds c = elim (comes_keep image place q s.table table_more kinds same_so_far c) [
     | inl e ↦ inl e
     | inr d ↦ (let less : d.0 < place = d.1 in let f : place < next = forward in inr (d.0, omega arith, d.2))
   ]
 
-  comes_split : (q : ℕ) (kinds : List Kind) → Comes image table_more next q kinds → Comes image s.table place q kinds ⊎ (LeadsTo instr next q × (v.gives ≡ kinds))
+  comes_split : (q : ℕ) (kinds : List CellKind) → Comes image table_more next q kinds → Comes image s.table place q kinds ⊎ (LeadsTo instr next q × (v.gives ≡ kinds))
   comes_split q kinds c = elim c [
     | inl e ↦ inl (inl e)
     | inr d ↦ (let f = d.2 in elim (cases_eq d.0 place) [
@@ -179,7 +179,7 @@ module _ (image : Image) (place : ℕ) (instr : Instr) (next : ℕ) (come : Mark
   marked_before : (q : ℕ) → next ≤ q → Marked image s.table place q (old q)
   marked_before q h = let f : place < next = forward in s.marked q (omega arith)
 
-  above_before : (q : ℕ) (others : List Kind) (top : List Kind) → next ≤ q → Comes image s.table place q others → ((m : Mark) → old q ≡ Some m → AreWithin m.kinds top) → AreWithin others top
+  above_before : (q : ℕ) (others : List CellKind) (top : List CellKind) → next ≤ q → Comes image s.table place q others → ((m : Mark) → old q ≡ Some m → AreWithin m.kinds top) → AreWithin others top
   above_before q others top h c keeps = go (old q) refl
     where
       go : (o : Option Mark) → old q ≡ o → AreWithin others top
@@ -191,7 +191,7 @@ module _ (image : Image) (place : ℕ) (instr : Instr) (next : ℕ) (come : Mark
     some = (v.gives, from_here q leads);
     above = λ others c. elim (comes_split q others c) [
       | inl d ↦ above_before q others mark.kinds h d grows.keeps
-      | inr d ↦ subst (λ (k : List Kind). AreWithin k mark.kinds) d.1 grows.over
+      | inr d ↦ subst (λ (k : List CellKind). AreWithin k mark.kinds) d.1 grows.over
     ];
     least = λ top all. grows.least top (all v.gives (from_here q leads)) (λ m is. (marked_some image s.table place q (old q) m is (marked_before q h)).least top (λ others c. all others (comes_more q others c)));
   }
@@ -224,7 +224,7 @@ module _ (image : Image) (place : ℕ) (instr : Instr) (next : ℕ) (come : Mark
   merged_here : IsMerge image s.table place place come.kinds
   merged_here = marked_some image s.table place place (old place) come was (s.marked place (omega arith))
 
-  depths_here : (to : ℕ) → LeadsTo instr next to → (others : List Kind) → Comes image table_more place to others → length others ≡ length v.gives
+  depths_here : (to : ℕ) → LeadsTo instr next to → (others : List CellKind) → Comes image table_more place to others → length others ≡ length v.gives
   depths_here to leads others c = elim (spreads image instr next come old new v to) [
     | inl d ↦
         (let n : next ≤ to = leads_forward instr next to leads in
@@ -290,13 +290,13 @@ empty_front image = record {
   passes = λ q less is. absurd (omega arith);
 }
 
-pub nothing_from : (image : Image) (q : ℕ) (kinds : List Kind) → (q ≡ 0 → ⊥) → Comes image (λ p. None) 0 q kinds → ⊥
+pub nothing_from : (image : Image) (q : ℕ) (kinds : List CellKind) → (q ≡ 0 → ⊥) → Comes image (λ p. None) 0 q kinds → ⊥
 nothing_from image q kinds ne c = elim c [ inl e ↦ ne e.0 | inr d ↦ (let less : d.0 < 0 = d.1 in omega arith) ]
 
 pub merged_first : (image : Image) → IsMerge image (λ p. None) 0 0 []
 merged_first image = record {
   some = ([], inl (refl, refl));
-  above = λ others c. elim c [ inl e ↦ subst (λ (k : List Kind). AreWithin k []) (sym e.1) tt | inr d ↦ absurd (let less : d.0 < 0 = d.1 in omega arith) ];
+  above = λ others c. elim c [ inl e ↦ subst (λ (k : List CellKind). AreWithin k []) (sym e.1) tt | inr d ↦ absurd (let less : d.0 < 0 = d.1 in omega arith) ];
   least = λ top all. all [] (inl (refl, refl));
 }
 

@@ -7,7 +7,7 @@ use Rattle.bay_base.specs.declared.types.ElementaryType.{ElementaryType}
 use Rattle.bay_config.specs.declared.bay.Point.{Point}
 use Rattle.il_image.specs.declared.instr.Instr.{Instr}
 use Rattle.il_image.specs.declared.instr.Instr.TheVariants.{Halt, Push, Drop, Slot, Not, Combine, Compute, Compare, Widen, Jump, Timer}
-use Rattle.il_image.specs.declared.kind.Kind.{Kind}
+use Rattle.il_image.specs.declared.kind.CellKind.{CellKind}
 use Rattle.il_image.specs.declared.opcode.When.TheVariants.{Always, IfTrue, IfFalse}
 use Rattle.il_image.specs.Effects.{effect}
 use Rattle.il_image.specs.Images.{Image}
@@ -100,20 +100,20 @@ first_place code h = (h, (0, refl))
 -- ---- the least table agrees
 
 -- What passes, told by the instruction and the kinds that are there.
-passed_fault : (image : Image) (table : Table) (place : ℕ) (i : Instr) (next : ℕ) (kinds : List Kind) → Passes image table place → instr_at image.code place ≡ Some (i, next) → table place ≡ Some kinds
+passed_fault : (image : Image) (table : Table) (place : ℕ) (i : Instr) (next : ℕ) (kinds : List CellKind) → Passes image table place → instr_at image.code place ≡ Some (i, next) → table place ≡ Some kinds
     → fault_of (slots_of image) (length image.timers) i kinds ≡ None
 passed_fault image table place i next kinds p here known =
     let same = same_instr image.code place p.instr i p.next next p.here here in
     let its : p.kinds ≡ kinds = some_same p.kinds kinds (sym p.known ∙ known) in
     ap (λ (j : Instr). fault_of (slots_of image) (length image.timers) j kinds) (sym same.0) ∙ ap (fault_of (slots_of image) (length image.timers) p.instr) (sym its) ∙ p.faultless
 
-few_behind : (image : Image) (table : Table) (place : ℕ) (i : Instr) (next : ℕ) (kinds gives : List Kind) → Passes image table place → instr_at image.code place ≡ Some (i, next) → table place ≡ Some kinds → after image i kinds ≡ Some gives → length gives ≤ 32
+few_behind : (image : Image) (table : Table) (place : ℕ) (i : Instr) (next : ℕ) (kinds gives : List CellKind) → Passes image table place → instr_at image.code place ≡ Some (i, next) → table place ≡ Some kinds → after image i kinds ≡ Some gives → length gives ≤ 32
 few_behind image table place i next kinds gives p here known effect_is =
     (faultless_fine (slots_of image) (length image.timers) i kinds (passed_fault image table place i next kinds p here known)).room gives
     (ap (λ (types : List ElementaryType). effect types (length image.timers) i kinds) (types_are image) ∙ effect_is)
 
 -- What comes to a place together has at most 32 kinds.
-pub merge_room : (image : Image) (table : Table) (done : ℕ) → IsFront image table done → (bound to : ℕ) (kinds : List Kind) → IsMerge image table bound to kinds → length kinds ≤ 32
+pub merge_room : (image : Image) (table : Table) (done : ℕ) → IsFront image table done → (bound to : ℕ) (kinds : List CellKind) → IsMerge image table bound to kinds → length kinds ≤ 32
 merge_room image table done front bound to kinds m =
     let size : length m.some.0 ≡ length kinds = within_length m.some.0 kinds (m.above m.some.0 m.some.1) in
     elim m.some.1 [
@@ -134,7 +134,7 @@ module _ (image : Image) (table : Table) (front : IsFront image table (length im
       let comes : Comes image table to to p.gives = inr (place, forward, record { instr = p.instr; next = p.next; before = p.kinds; here = p.here; known = p.known; gives = p.effect; leads = way }) in
       (q.kinds, q.known, (front.merged to q.kinds q.known).above p.gives comes)
 
-  allowed_there : (place : ℕ) (kinds : List Kind) → table place ≡ Some kinds → IsAllowed image table place kinds
+  allowed_there : (place : ℕ) (kinds : List CellKind) → table place ≡ Some kinds → IsAllowed image table place kinds
   allowed_there place kinds is =
       let o = front.only place kinds is in
       let p = front.passes place o.0 o.1 in
@@ -148,7 +148,7 @@ module _ (image : Image) (table : Table) (front : IsFront image table (length im
         enters = enters_next place p;
       }
 
-  room_there : (place : ℕ) (kinds : List Kind) → table place ≡ Some kinds → length kinds ≤ 32
+  room_there : (place : ℕ) (kinds : List CellKind) → table place ≡ Some kinds → length kinds ≤ 32
   room_there place kinds is = merge_room image table (length image.code) front place place kinds (front.merged place kinds is)
 
   reached_there : (place : ℕ) → IsPlace image.code place → (place ≡ 0 → ⊥) → (from : ℕ) × IsPlace image.code from × IsSuccessor image.code from place
@@ -165,7 +165,7 @@ module _ (image : Image) (table : Table) (front : IsFront image table (length im
       let p = front.passes 0 some (first_place image.code some) in
       let m = front.merged 0 p.kinds p.known in
       let empty : p.kinds ≡ [] = within_none p.kinds (m.above [] (inl (refl, refl))) in
-      p.known ∙ ap (λ (v : List Kind). Some v) empty
+      p.known ∙ ap (λ (v : List CellKind). Some v) empty
 
   pub agrees : 0 < length image.code → Agrees image table
   agrees some = record {
@@ -187,16 +187,16 @@ module _ (image : Image) (table : Table) (front : IsFront image table (length im
 -- ---- every table that agrees lies above the least one
 
 module _ (image : Image) (table : Table) (done : ℕ) (front : IsFront image table done) (other : Table) (agrees_so : Agrees image other) where
-  top_at : (place : ℕ) → IsPlace image.code place → (top : List Kind) × (other place ≡ Some top)
+  top_at : (place : ℕ) → IsPlace image.code place → (top : List CellKind) × (other place ≡ Some top)
   top_at place is = value_of (other place) ((agrees_so.places place).1 is)
 
   -- what comes to a place is within what the other table has there, if that is so of the places
   -- before
-  comes_within : (bound to : ℕ) (top others : List Kind) → other to ≡ Some top → ((q : ℕ) (kinds : List Kind) → q < bound → table q ≡ Some kinds → Enters other q kinds) → Comes image table bound to others → AreWithin others top
+  comes_within : (bound to : ℕ) (top others : List CellKind) → other to ≡ Some top → ((q : ℕ) (kinds : List CellKind) → q < bound → table q ≡ Some kinds → Enters other q kinds) → Comes image table bound to others → AreWithin others top
   comes_within bound to top others is below comes = elim comes [
     | inl e ↦
         (let same : [] ≡ top = some_same [] top (sym agrees_so.starts ∙ ap other (sym e.0) ∙ is) in
-        subst (λ (v : List Kind). AreWithin v top) (sym e.1) (subst (AreWithin []) same tt))
+        subst (λ (v : List CellKind). AreWithin v top) (sym e.1) (subst (AreWithin []) same tt))
     | inr c ↦
         (let f = c.2 in
         let e = below c.0 f.before c.1 f.known in
@@ -207,30 +207,30 @@ module _ (image : Image) (table : Table) (done : ℕ) (front : IsFront image tab
         let leads : LeadsTo a.instr a.next to = subst (λ (n : ℕ). LeadsTo a.instr n to) (sym same.1) (subst (λ (j : Instr). LeadsTo j f.next to) (sym same.0) f.leads) in
         let g = a.enters to leads in
         let most : g.0 ≡ top = some_same g.0 top (sym g.1 ∙ is) in
-        subst (λ (v : List Kind). AreWithin v top) its (subst (AreWithin l.lower) most (all_within_along l.lower a.after g.0 l.within g.2)))
+        subst (λ (v : List CellKind). AreWithin v top) its (subst (AreWithin l.lower) most (all_within_along l.lower a.after g.0 l.within g.2)))
   ]
 
-  merge_enters : (place : ℕ) (kinds : List Kind) → IsPlace image.code place → ((q : ℕ) (known : List Kind) → q < place → table q ≡ Some known → Enters other q known) → IsMerge image table place place kinds → Enters other place kinds
+  merge_enters : (place : ℕ) (kinds : List CellKind) → IsPlace image.code place → ((q : ℕ) (known : List CellKind) → q < place → table q ≡ Some known → Enters other q known) → IsMerge image table place place kinds → Enters other place kinds
   merge_enters place kinds is below m =
       let t = top_at place is in
       (t.0, t.1, m.least t.0 (λ others comes. comes_within place place t.0 others t.1 below comes))
 
-  all_below : (n q : ℕ) (kinds : List Kind) → q < n → table q ≡ Some kinds → Enters other q kinds
+  all_below : (n q : ℕ) (kinds : List CellKind) → q < n → table q ≡ Some kinds → Enters other q kinds
   all_below zero q kinds h is = absurd (omega arith)
   all_below (suc n) q kinds h is =
       merge_enters q kinds (front.only q kinds is).1 (λ from known before was. all_below n from known (omega arith) was) (front.merged q kinds is)
 
-  pub lies_above : (q : ℕ) (kinds : List Kind) → table q ≡ Some kinds → Enters other q kinds
+  pub lies_above : (q : ℕ) (kinds : List CellKind) → table q ≡ Some kinds → Enters other q kinds
   lies_above q kinds is = all_below (suc q) q kinds (omega arith) is
 
   -- what the instruction at a place does on the least kinds before it
   record Does (place : ℕ) (a : Arrives image table place) : Type 0 where
-    gives : List Kind
+    gives : List CellKind
     effect_is : after image a.instr a.kinds ≡ Some gives
     enters : (to : ℕ) → LeadsTo a.instr a.next to → Enters other to gives
     room : length gives ≤ 32
 
-  halts_small : (i : Instr) (kinds gives : List Kind) → i ≡ Halt → after image i kinds ≡ Some gives → kinds ≡ gives
+  halts_small : (i : Instr) (kinds gives : List CellKind) → i ≡ Halt → after image i kinds ≡ Some gives → kinds ≡ gives
   halts_small i kinds gives e is = some_same kinds gives (ap (λ (j : Instr). after image j kinds) (sym e) ∙ is)
 
   does : (place : ℕ) (a : Arrives image table place) → IsPlace image.code place → Does place a
@@ -262,7 +262,7 @@ module _ (image : Image) (table : Table) (done : ℕ) (front : IsFront image tab
         ];
       }
 
-  place_of_entry : (to : ℕ) (kinds : List Kind) → Enters other to kinds → IsPlace image.code to
+  place_of_entry : (to : ℕ) (kinds : List CellKind) → Enters other to kinds → IsPlace image.code to
   place_of_entry to kinds e = (agrees_so.places to).0 (is_some_of (other to) e.0 e.1)
 
   module _ (writes : KeepsReadOnly image) (place : ℕ) (is : IsPlace image.code place) where
@@ -292,7 +292,7 @@ module _ (image : Image) (table : Table) (done : ℕ) (front : IsFront image tab
         let theirs : length c.others ≡ length e.0 = within_length c.others e.0 (comes_within place c.to e.0 c.others e.1 (λ q known before was. lies_above q known was) c.comes) in
         c.unequal (theirs ∙ sym size ∙ ap length same)
 
-  pub reaches : (passes : (q : ℕ) → q < done → IsPlace image.code q → Passes image table q) (place : ℕ) → place ≤ done → IsPlace image.code place → ((kinds : List Kind) → Comes image table place place kinds → ⊥) → ⊥
+  pub reaches : (passes : (q : ℕ) → q < done → IsPlace image.code q → Passes image table q) (place : ℕ) → place ≤ done → IsPlace image.code place → ((kinds : List CellKind) → Comes image table place place kinds → ⊥) → ⊥
   reaches passes place least is nothing = elim (cases_eq place 0) [
     | inl e ↦ nothing [] (inl (e, refl))
     | inr ne ↦

@@ -4,7 +4,7 @@ use Rattle.std.specs.Prelude.{slice_get, IsTrue, ◌↔◌}
 use Rattle.std.specs.Bool.{OnFalse}
 use Rattle.il_image.specs.declared.instr.Instr.{Instr}
 use Rattle.il_image.specs.declared.instr.Instr.TheVariants.{Jump}
-use Rattle.il_image.specs.declared.kind.Kind.{Kind}
+use Rattle.il_image.specs.declared.kind.CellKind.{CellKind}
 use Rattle.il_image.specs.declared.opcode.When.{When}
 use Rattle.il_image.specs.Effects.{effect}
 use Rattle.il_image.specs.Images.{Image}
@@ -16,11 +16,11 @@ use Rattle.il_verify.specs.Slots.{slots_of, types_of}
 use Rattle.il_verify.proofs.EffectLemmas.{some_same}
 use Rattle.il_verify.proofs.WithinLemmas.{within_length}
 
-pub fault_there : (image : Image) (slots : List Slot) (timers : ℕ) (instr : Instr) (kinds : List Kind) (o : Option VerifyFault) → slots ≡ slots_of image → timers ≡ length image.timers → fault_of slots timers instr kinds ≡ o
+pub fault_there : (image : Image) (slots : List Slot) (timers : ℕ) (instr : Instr) (kinds : List CellKind) (o : Option VerifyFault) → slots ≡ slots_of image → timers ≡ length image.timers → fault_of slots timers instr kinds ≡ o
     → fault_of (slots_of image) (length image.timers) instr kinds ≡ o
 fault_there image slots timers instr kinds o e f is = sym (ap (λ (s : List Slot). fault_of s timers instr kinds) e ∙ ap (λ (n : ℕ). fault_of (slots_of image) n instr kinds) f) ∙ is
 
-pub effect_so : (image : Image) (slots : List Slot) (timers : ℕ) (instr : Instr) (kinds : List Kind) (o : Option (List Kind)) → slots ≡ slots_of image → timers ≡ length image.timers → effect (types_of slots) timers instr kinds ≡ o
+pub effect_so : (image : Image) (slots : List Slot) (timers : ℕ) (instr : Instr) (kinds : List CellKind) (o : Option (List CellKind)) → slots ≡ slots_of image → timers ≡ length image.timers → effect (types_of slots) timers instr kinds ≡ o
     → effect (types_of (slots_of image)) (length image.timers) instr kinds ≡ o
 effect_so image slots timers instr kinds o e f is =
     sym (ap (λ (s : List Slot). effect (types_of s) timers instr kinds) e ∙ ap (λ (n : ℕ). effect (types_of (slots_of image)) n instr kinds) f) ∙ is

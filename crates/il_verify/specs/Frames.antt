@@ -3,7 +3,7 @@
 use Rattle.std.specs.Prelude.{ℕ, ◌≡◌, ◌≢◌, ◌+◌, ◌<◌, ◌≤◌, ◌==◌, ◌⊎◌, ◌↔◌, Bool, true, false, List, [], ◌∷◌, length, reverse, Option, Some, None, option_and_then, option_map, slice_get, if◌then◌else◌}
 use Rattle.il_image.specs.declared.instr.Instr.{Instr}
 use Rattle.il_image.specs.declared.instr.Instr.TheVariants.{Halt, Push, Drop, Slot, Not, Combine, Compute, Compare, Widen, Jump, Timer}
-use Rattle.il_image.specs.declared.kind.Kind.{Kind}
+use Rattle.il_image.specs.declared.kind.CellKind.{CellKind}
 use Rattle.il_image.specs.declared.opcode.When.TheVariants.{Always, IfTrue, IfFalse}
 use Rattle.il_image.specs.Effects.{effect}
 use Rattle.il_image.specs.Images.{Image}
@@ -34,7 +34,7 @@ pub record IsPlan (image : Image) (plan : Plan) : Type 0 where
 
 -- the kinds before a place, the top first, and the number of places on a longest path to it
 pub record Mark : Type 0 where
-  pub kinds : List Kind
+  pub kinds : List CellKind
   pub longest : ℕ
 
 abbrev pub mark_of : Frame → Mark
@@ -59,7 +59,7 @@ beside place known others q = if q == place then known else others q
 pub record Grows (come : Mark) (old : Option Mark) (new : Mark) : Type 0 where
   pub over : AreWithin come.kinds new.kinds
   pub keeps : (m : Mark) → old ≡ Some m → AreWithin m.kinds new.kinds
-  pub least : (top : List Kind) → AreWithin come.kinds top → ((m : Mark) → old ≡ Some m → AreWithin m.kinds top) → AreWithin new.kinds top
+  pub least : (top : List CellKind) → AreWithin come.kinds top → ((m : Mark) → old ≡ Some m → AreWithin m.kinds top) → AreWithin new.kinds top
   pub longer : come.longest ≤ new.longest
   pub keeps_longer : (m : Mark) → old ≡ Some m → m.longest ≤ new.longest
   pub from : (new.longest ≡ come.longest) ⊎ ((m : Mark) × (old ≡ Some m) × (new.longest ≡ m.longest))
@@ -69,11 +69,11 @@ abbrev pub ComesWhere : Type 0 → Mark → Option Mark → Option Mark → Type
 ComesWhere P come old new = (P × ((mark : Mark) × (new ≡ Some mark) × Grows come old mark)) ⊎ ((P → ⊥) × (new ≡ old))
 
 -- A mark at the place has another number of kinds.
-abbrev pub Clashing : Option Mark → List Kind → Type 0
+abbrev pub Clashing : Option Mark → List CellKind → Type 0
 Clashing old kinds = (m : Mark) × (old ≡ Some m) × (length m.kinds ≢ length kinds)
 
 -- the least kinds above both, place by place
-abbrev pub joins : List Kind → List Kind → List Kind
+abbrev pub joins : List CellKind → List CellKind → List CellKind
 joins [] others = []
 joins (a ∷ kinds) [] = a ∷ kinds
 joins (a ∷ kinds) (b ∷ others) = join a b ∷ joins kinds others
@@ -130,7 +130,7 @@ abbrev pub Jumps : Instr → ℕ → Mark → Marks → Marks → Type 0
 Jumps instr next come old new = (to : ℕ) → ComesWhere (JumpsTo instr next to) come (old to) (new to)
 
 -- It jumps to a place where another number of kinds is.
-abbrev pub JumpClash : Instr → ℕ → Marks → List Kind → Type 0
+abbrev pub JumpClash : Instr → ℕ → Marks → List CellKind → Type 0
 JumpClash instr next old kinds = (to : ℕ) × JumpsTo instr next to × Clashing (old to) kinds
 
 abbrev pub Falls : Instr → ℕ → Mark → Marks → Marks → Type 0
@@ -138,7 +138,7 @@ Falls instr next come old new = (to : ℕ) → ComesWhere (GoesOn instr next to)
 
 -- The instruction of the image is done on the kinds at its place.
 pub record Visits (image : Image) (instr : Instr) (next : ℕ) (come : Mark) (old new : Marks) : Type 0 where
-  pub gives : List Kind
+  pub gives : List CellKind
   pub faultless : fault_of (slots_of image) (length image.timers) instr come.kinds ≡ None
   pub effect : effect (types_of (slots_of image)) (length image.timers) instr come.kinds ≡ Some gives
   pub right : LeadsRight image.code instr next
@@ -152,7 +152,7 @@ pub record MisLeads (image : Image) (instr : Instr) (next : ℕ) (come : Mark) (
   pub wrong : LeadsWrong image.code instr next fault
 
 pub record Collides (image : Image) (instr : Instr) (next : ℕ) (come : Mark) (old : Marks) : Type 0 where
-  pub gives : List Kind
+  pub gives : List CellKind
   pub faultless : fault_of (slots_of image) (length image.timers) instr come.kinds ≡ None
   pub effect : effect (types_of (slots_of image)) (length image.timers) instr come.kinds ≡ Some gives
   pub right : LeadsRight image.code instr next

@@ -3,7 +3,7 @@ use Rattle.std.specs.Prelude.{ℕ, ◌≡◌, ◌+◌, ◌<◌, ◌⊎◌, true,
 use Rattle.bay_config.specs.declared.bay.Point.{Point}
 use Rattle.il_image.specs.declared.instr.Instr.{Instr}
 use Rattle.il_image.specs.declared.instr.Instr.TheVariants.{Halt, Push, Drop, Slot, Not, Combine, Compute, Compare, Widen, Jump, Timer}
-use Rattle.il_image.specs.declared.kind.Kind.{Kind}
+use Rattle.il_image.specs.declared.kind.CellKind.{CellKind}
 use Rattle.il_image.specs.Effects.{effect}
 use Rattle.il_image.specs.Images.{Image}
 use Rattle.il_image.specs.Kinds.{AreWithin}
@@ -18,15 +18,15 @@ use Rattle.il_verify.specs.Slots.{slots_of}
 -- ---- the kinds before a place
 
 -- the kinds behind an instruction of the image
-abbrev pub after : Image → Instr → List Kind → Option (List Kind)
+abbrev pub after : Image → Instr → List CellKind → Option (List CellKind)
 after image instr kinds = effect (slot_types image) (length image.timers) instr kinds
 
 -- The table has kinds before the instruction at a place, which leads to the other place, and gives
 -- these.
-pub record ComesFrom (image : Image) (table : Table) (from to : ℕ) (kinds : List Kind) : Type 0 where
+pub record ComesFrom (image : Image) (table : Table) (from to : ℕ) (kinds : List CellKind) : Type 0 where
   pub instr : Instr
   pub next : ℕ
-  pub before : List Kind
+  pub before : List CellKind
   pub here : instr_at image.code from ≡ Some (instr, next)
   pub known : table from ≡ Some before
   pub gives : after image instr before ≡ Some kinds
@@ -34,34 +34,34 @@ pub record ComesFrom (image : Image) (table : Table) (from to : ℕ) (kinds : Li
 
 -- These kinds come to the place: none at the start of the code, and what an instruction before
 -- `done` gives that leads there.
-abbrev pub Comes : Image → Table → ℕ → ℕ → List Kind → Type 0
+abbrev pub Comes : Image → Table → ℕ → ℕ → List CellKind → Type 0
 Comes image table done to kinds = ((to ≡ 0) × (kinds ≡ [])) ⊎ ((from : ℕ) × (from < done) × ComesFrom image table from to kinds)
 
 -- Something comes to the place, and these are the least kinds above all that comes.
-pub record IsMerge (image : Image) (table : Table) (done to : ℕ) (kinds : List Kind) : Type 0 where
-  pub some : (first : List Kind) × Comes image table done to first
-  pub above : (others : List Kind) → Comes image table done to others → AreWithin others kinds
-  pub least : (top : List Kind) → ((others : List Kind) → Comes image table done to others → AreWithin others top) → AreWithin kinds top
+pub record IsMerge (image : Image) (table : Table) (done to : ℕ) (kinds : List CellKind) : Type 0 where
+  pub some : (first : List CellKind) × Comes image table done to first
+  pub above : (others : List CellKind) → Comes image table done to others → AreWithin others kinds
+  pub least : (top : List CellKind) → ((others : List CellKind) → Comes image table done to others → AreWithin others top) → AreWithin kinds top
 
 -- The place has no fault: its instruction has none on the kinds there, leads to instructions alone,
 -- and gives as many kinds as come there from places before it.
 pub record Passes (image : Image) (table : Table) (place : ℕ) : Type 0 where
   pub instr : Instr
   pub next : ℕ
-  pub kinds : List Kind
-  pub gives : List Kind
+  pub kinds : List CellKind
+  pub gives : List CellKind
   pub here : instr_at image.code place ≡ Some (instr, next)
   pub known : table place ≡ Some kinds
   pub faultless : fault_of (slots_of image) (length image.timers) instr kinds ≡ None
   pub effect : after image instr kinds ≡ Some gives
   pub targets : (to : ℕ) → LeadsTo instr next to → IsPlace image.code to
-  pub depths : (to : ℕ) → LeadsTo instr next to → (others : List Kind) → Comes image table place to others → length others ≡ length gives
+  pub depths : (to : ℕ) → LeadsTo instr next to → (others : List CellKind) → Comes image table place to others → length others ≡ length gives
 
 -- The table has the least kinds at each place below `done`, and nothing elsewhere; and none of
 -- these places has a fault.
 pub record IsFront (image : Image) (table : Table) (done : ℕ) : Type 0 where
-  pub only : (place : ℕ) (kinds : List Kind) → table place ≡ Some kinds → (place < done) × IsPlace image.code place
-  pub merged : (place : ℕ) (kinds : List Kind) → table place ≡ Some kinds → IsMerge image table place place kinds
+  pub only : (place : ℕ) (kinds : List CellKind) → table place ≡ Some kinds → (place < done) × IsPlace image.code place
+  pub merged : (place : ℕ) (kinds : List CellKind) → table place ≡ Some kinds → IsMerge image table place place kinds
   pub passes : (place : ℕ) → place < done → IsPlace image.code place → Passes image table place
 
 -- ---- the faults of a place, of which at most one is its first
@@ -70,7 +70,7 @@ pub record IsFront (image : Image) (table : Table) (done : ℕ) : Type 0 where
 pub record Arrives (image : Image) (table : Table) (place : ℕ) : Type 0 where
   pub instr : Instr
   pub next : ℕ
-  pub kinds : List Kind
+  pub kinds : List CellKind
   pub here : instr_at image.code place ≡ Some (instr, next)
   pub merged : IsMerge image table place place kinds
 
@@ -110,13 +110,13 @@ pub record GoesPast (image : Image) (table : Table) (place : ℕ) : Type 0 where
 -- a place before it.
 pub record Clashes (image : Image) (table : Table) (place : ℕ) : Type 0 where
   pub at : Arrives image table place
-  pub gives : List Kind
+  pub gives : List CellKind
   pub faultless : own_fault at ≡ None
   pub effect : after image at.instr at.kinds ≡ Some gives
   pub targets : (to : ℕ) → LeadsTo at.instr at.next to → IsPlace image.code to
   pub to : ℕ
   pub leads : LeadsTo at.instr at.next to
-  pub others : List Kind
+  pub others : List CellKind
   pub comes : Comes image table place to others
   pub unequal : length others ≡ length gives → ⊥
 
@@ -125,7 +125,7 @@ abbrev pub HasOwn : Image → Table → ℕ → VerifyFault → Type 0
 HasOwn image table place fault = (a : Arrives image table place) × (own_fault a ≡ Some fault)
 
 abbrev pub IsFaultAt : Image → Table → ℕ → VerifyFault → Type 0
-IsFaultAt image table place Unreachable = (kinds : List Kind) → Comes image table place place kinds → ⊥
+IsFaultAt image table place Unreachable = (kinds : List CellKind) → Comes image table place place kinds → ⊥
 IsFaultAt image table place BadTarget = JumpsBadly image table place
 IsFaultAt image table place NoHalt = GoesPast image table place
 IsFaultAt image table place DepthClash = Clashes image table place

@@ -6,7 +6,7 @@ ghost use Rattle.il_verify.specs.Frames as spec;
 
 use crate::fault::VerifyFault;
 use il_image::instr::Instr;
-use il_image::kind::{Kind, join};
+use il_image::kind::{CellKind, join};
 use il_image::opcode::When;
 use std::alloc::{AllocError, Global};
 
@@ -14,13 +14,13 @@ use std::alloc::{AllocError, Global};
 #[derive(Drop)]
 pub(crate) struct Frame {
     /// The kinds on the stack, the top last.
-    pub kinds: Vec<Kind>,
+    pub kinds: Vec<CellKind>,
     /// The number of places on a longest path from the first place to this one.
     pub longest: u32,
 }
 
 // A copy of the kinds on a stack.
-fn copy_of(alloc: Global, kinds: &[Kind]) -> Result<Vec<Kind>, AllocError>
+fn copy_of(alloc: Global, kinds: &[CellKind]) -> Result<Vec<CellKind>, AllocError>
     ensures { IfOk result (λ v. v.items ≡ kinds.now) }
 {
     let mut copy = Vec::new(alloc);
@@ -29,7 +29,7 @@ fn copy_of(alloc: Global, kinds: &[Kind]) -> Result<Vec<Kind>, AllocError>
 }
 
 // Raises each kind to the least above it and the other at its place.
-fn join_all(kinds: &mut Vec<Kind>, others: &[Kind])
+fn join_all(kinds: &mut Vec<CellKind>, others: &[CellKind])
     requires { length kinds.old.items ≡ length others.now }
     ensures { kinds.new.items ≡ joins kinds.old.items others.now }
 {
@@ -39,7 +39,7 @@ fn join_all(kinds: &mut Vec<Kind>, others: &[Kind])
 }
 
 // Another path comes to the place of a frame. A frame of another depth stays as it was.
-fn meet(frame: &mut Frame, kinds: &[Kind], longest: u32) -> Result<(), VerifyFault>
+fn meet(frame: &mut Frame, kinds: &[CellKind], longest: u32) -> Result<(), VerifyFault>
     ensures ok { OnOk result (Grows (record { kinds = reverse kinds.now; longest = longest }) (Some (mark_of frame.old)) (mark_of frame.new)) }
     ensures err { IfErr result (λ f. (f ≡ VerifyFault.DepthClash) × (length frame.old.kinds.items ≢ length kinds.now)) }
 {
@@ -67,7 +67,7 @@ fn grow(pending: &mut Vec<Option<Frame>>, place: usize) -> Result<(), AllocError
 fn arrive(
     alloc: Global,
     slot: &mut Option<Frame>,
-    kinds: &[Kind],
+    kinds: &[CellKind],
     longest: u32,
 ) -> Result<(), VerifyFault>
     ensures ok { OnOk result ((frame : Frame) × (slot.new ≡ Some frame) × Grows (record { kinds = reverse kinds.now; longest = longest }) (option_map mark_of slot.old) (mark_of frame)) }
@@ -86,7 +86,7 @@ fn pend(
     alloc: Global,
     pending: &mut Vec<Option<Frame>>,
     place: usize,
-    kinds: &[Kind],
+    kinds: &[CellKind],
     longest: u32,
 ) -> Result<(), VerifyFault>
     requires { place < 2 ^ 64 - 1 }
@@ -102,7 +102,7 @@ pub(crate) fn jump(
     alloc: Global,
     instr: Instr,
     next: usize,
-    kinds: &[Kind],
+    kinds: &[CellKind],
     longest: u32,
     pending: &mut Vec<Option<Frame>>,
 ) -> Result<(), VerifyFault>

@@ -4,7 +4,6 @@ use Rattle.il_check.specs.Program.{Checked}
 use Rattle.il_check.specs.ProgramViews.{checked_view}
 use Rattle.il_compile.specs.Behind.{IsSettled}
 use Rattle.il_compile.specs.Compiled.{point_of}
-use Rattle.il_compile.specs.Senses.{timer_of}
 use Rattle.il_compile.proofs.CompiledLemmas.{given, is_image, same_code, same_image, short_enough, too_long}
 use Rattle.il_compile.proofs.Spellable.{all_spellable}
 use Rattle.il_compile.proofs.compile.compiled.Goals as goal
@@ -26,7 +25,7 @@ new-requires-5 c =
     let same = same_image p c.new.result c.new-2.result c.new-3.result c.new-4.result
     (c.new.ensures ∙ c.in_ok-points.ensures ∙ ap (map point_of) c.externals-2.ensures)
     (c.new-2.ensures ∙ c.in_ok-variables.ensures ∙ ap (map (λ v. v.initial)) c.variables.ensures)
-    (c.new-3.ensures ∙ c.in_ok-timers.ensures ∙ ap (map (λ t. timer_of t.kind)) c.timers.ensures)
+    (c.new-3.ensures ∙ c.in_ok-timers.ensures ∙ ap (map (λ t. t.kind)) c.timers.ensures)
     (c.new-4.ensures ∙ same_code p c.in_ok-behind.behind c.in_ok-code.code.items settled short c.in_ok-code.ensures) in
     subst IsImage (sym same) (is_image p c.items.ensures.sound.typed short)
 
@@ -38,6 +37,6 @@ returns-clause-image c =
     let same = same_image p c.new.result c.new-2.result c.new-3.result c.new-4.result
     (c.new.ensures ∙ c.in_ok-points.ensures ∙ ap (map point_of) c.externals-2.ensures)
     (c.new-2.ensures ∙ c.in_ok-variables.ensures ∙ ap (map (λ v. v.initial)) c.variables.ensures)
-    (c.new-3.ensures ∙ c.in_ok-timers.ensures ∙ ap (map (λ t. timer_of t.kind)) c.timers.ensures)
+    (c.new-3.ensures ∙ c.in_ok-timers.ensures ∙ ap (map (λ t. t.kind)) c.timers.ensures)
     (c.new-4.ensures ∙ same_code p c.in_ok-behind.behind c.in_ok-code.code.items settled short c.in_ok-code.ensures) in
     given p short ∙ ap (λ i. Ok i) (sym (c.new-5.ensures ∙ same))

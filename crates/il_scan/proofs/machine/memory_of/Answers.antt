@@ -1,7 +1,7 @@
 use Rattle.std.proofs.Common.{ap, ◌∙◌, List}
 use Rattle.std.specs.Prelude.{map}
 use Rattle.il_image.specs.declared.image.ImagePoint.{ImagePoint}
-use Rattle.il_image.specs.declared.timer.TimerKind.{TimerKind}
+use Rattle.bay_base.specs.declared.types.TimerKind.{TimerKind}
 use Rattle.il_image.specs.Timers.{first_state}
 use Rattle.il_scan.specs.PointPlaces.{read_places, write_places}
 use Rattle.il_scan.specs.PointPlaces.{writable_count}

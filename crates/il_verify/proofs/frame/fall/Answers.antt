@@ -1,6 +1,6 @@
 use Rattle.std.proofs.Common.{List, Option, Some, reverse, refl, sym, subst, ◌∙◌}
 use Rattle.std.specs.Prelude.{option_map}
-use Rattle.il_image.specs.declared.kind.Kind.{Kind}
+use Rattle.il_image.specs.declared.kind.CellKind.{CellKind}
 use Rattle.il_verify.specs.declared.frame.Frame.{Frame}
 use Rattle.il_verify.specs.Frames.{Clashing, Grows, mark_of}
 use Rattle.il_verify.proofs.FrameLemmas.{begun_grows, clash_of, mark}
@@ -19,7 +19,7 @@ returns-in-None-clause-ok c =
 pub returns-in-Ok-clause-ok : goal.returns-in-Ok-clause-ok
 returns-in-Ok-clause-ok c =
     let come = mark_of c.args.frame in
-    let grows = subst (λ (kinds : List Kind). Grows (mark kinds c.args.frame.longest) (Some (mark_of c.in-Some.other)) (mark_of c.meet.new.frame)) c.as_slice.ensures.value c.in-Ok.ensures.ok in
+    let grows = subst (λ (kinds : List CellKind). Grows (mark kinds c.args.frame.longest) (Some (mark_of c.in-Some.other)) (mark_of c.meet.new.frame)) c.as_slice.ensures.value c.in-Ok.ensures.ok in
     falls_to c.args.instr c.args.next come c.args.pending.now.items c.taken-old.new.pending.items c.taken-old.result (mark_of c.meet.new.frame) (sym c.goes_on.ensures ∙ c.if-not-goes_on.false) c.taken-old.ensures.value c.taken-old.ensures.others
     (subst (λ (o : Option Frame). Grows come (option_map mark_of o) (mark_of c.meet.new.frame)) (sym c.in-Some.is) grows)
 
@@ -27,5 +27,5 @@ pub returns-in-Err-clause-err : goal.returns-in-Err-clause-err
 returns-in-Err-clause-err c =
     let h = c.in-Err.ensures.err in
     let clash = clash_of c.taken-old.result c.in-Some.other c.as_slice.result.now c.in-Some.is h.1 in
-    let there = subst (λ (kinds : List Kind). Clashing (option_map mark_of c.taken-old.result) (reverse kinds)) c.as_slice.ensures.value clash in
+    let there = subst (λ (kinds : List CellKind). Clashing (option_map mark_of c.taken-old.result) (reverse kinds)) c.as_slice.ensures.value clash in
     (h.0, (sym c.goes_on.ensures ∙ c.if-not-goes_on.false, clash_at c.args.pending.now.items c.args.next c.taken-old.result (reverse c.args.frame.kinds.items) c.taken-old.ensures.value there))
