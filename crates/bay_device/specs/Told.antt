@@ -1,7 +1,7 @@
 -- What clients ask of a device's controls, and what is accepted of it, by events and answers alone:
 -- by the octets that come and those that are sent. Nothing here looks at the device behind them.
 use Rattle.std.specs.Prelude.{ℕ, ◌≡◌, Bool, List, [], ◌∷◌, ◌++◌, map, slice_get, slice_set, unwrap_or, Option, None, Some, Result, Ok, Err}
-use Rattle.bay_ber.specs.Options.{◌>>=◌}
+use Rattle.bay_base.specs.Options.{◌>>=◌}
 use Rattle.bay_ber.specs.Values.{under, value_in, values_in}
 use Rattle.bay_mms.specs.Grammar.{answer_to}
 use Rattle.bay_mms.specs.Tags.{constructed, sequence}

@@ -4,24 +4,23 @@ use Rattle.std.specs.List.{list_any}
 use Rattle.std.proofs.lemmas.Bool.{lt-ltb, le-ltb, ltb-true, ltb-false}
 use Rattle.std.proofs.lemmas.List.{length-map}
 use Rattle.bay_ber.specs.declared.tag.Tag.{Tag}
-use Rattle.bay_ber.specs.Options.{◌>>=◌}
+use Rattle.bay_base.specs.Options.{◌>>=◌}
 use Rattle.bay_ber.specs.Tags.{same_tag}
 use Rattle.bay_ber.specs.Values.{Part, value, SpellAll, value_in, few_in, all_of, each_in, under}
 use Rattle.bay_ber.proofs.ReadLemmas.{IsBytes}
 use Rattle.bay_ber.proofs.ListingLemmas.{values_again}
-use Rattle.bay_ber.proofs.BackLemmas.{bind_some, AllBytes, tag_is, under_is, one_back, few_back, each_back, one_read, few_read}
+use Rattle.bay_ber.proofs.BackLemmas.{bind_some, some_is, AllBytes, tag_is, under_is, one_back, few_back, each_back, one_read, few_read}
 use Rattle.bay_mms.specs.Tags.{context, constructed, sequence, visible_tag}
-use Rattle.bay_mms.specs.Spelled.{◌>>◌, spelled}
-use Rattle.bay_mms.specs.Requests.{Naming, vmd, domain, association, Variable, Access, variables, named_list}
+use Rattle.bay_base.specs.Results.{◌>>=◌ as ◌>>◌}
+use Rattle.bay_mms.specs.Spelled.{AreEach, spelled}
+use Rattle.bay_mms.specs.Requests.{Naming, vmd, domain, association, VariableSpecification, Access, variables, named_list}
 use Rattle.bay_mms.specs.Grammar.{domain_name, name_as, name_in, variable_of, variable_as, access_as, any_alternate, judged}
-use Rattle.bay_mms.specs.SpelledNames.{IsName, IsPartial, IsVariable, AreVariables, IsAccess, as_whole, AreServed, AreUnserved, AreMany}
+use Rattle.bay_mms.specs.SpelledNames.{IsName, IsPartial, IsVariable, IsAccess, as_whole, AreServed, AreUnserved, AreMany}
+use Rattle.bay_mms.proofs.EachLemmas.{each_read, each_listed}
 use Rattle.bay_mms.specs.declared.fault.Refusal.{Refusal}
 use Rattle.bay_mms.specs.declared.fault.Refusal.TheVariants.{Bad, Unknown, Many, OutOfMemory}
 
 -- ---- one thing after another
-
-pub some_is : {A : Type 0} (x y : A) → Some x ≡ Some y → x ≡ y
-some_is x y e = cc
 
 pub right_is : {A E : Type 0} (x y : A) → let a : Result A E = Ok x in let b : Result A E = Ok y in a ≡ b → x ≡ y
 right_is x y e = cc
@@ -113,15 +112,9 @@ variable_with octets name (part ∷ []) n false s is partial = absurd partial
 variable_with octets name (part ∷ []) n true s is partial = rw (few_read octets (value (constructed 0) name ∷ part ∷ []) s, name_read name n is, partial) refl
 variable_with octets name (part ∷ next ∷ parts) n alternate s is partial = absurd partial
 
-variable_read : (octets : List ℕ) (v : Variable) → IsVariable octets v → variable_as (value sequence octets) ≡ Some v
+variable_read : (octets : List ℕ) (v : VariableSpecification) → IsVariable octets v → variable_as (value sequence octets) ≡ Some v
 unfolding variable_as
 variable_read octets v is = variable_with octets is.name is.behind v.name v.is_alternate is.parts is.is_name is.alternate
-
-variables_read : (lists : List (List ℕ)) (vs : List Variable) → AreVariables lists vs → all_of variable_as (map (value sequence) lists) ≡ Some vs
-variables_read [] [] are = refl
-variables_read [] (v ∷ vs) are = absurd are
-variables_read (octets ∷ lists) [] are = absurd are
-variables_read (octets ∷ lists) (v ∷ vs) are = rw (variable_read octets v are.0, variables_read lists vs are.1) refl
 
 record Named (p : Part) (n : Naming) : Type 0 where
   name : List ℕ
@@ -133,19 +126,19 @@ under_named p name n b e f =
     let same = under_is (constructed 0) p name e in
     record { name = name; part = same; is = name_back name n (subst IsBytes (ap (λ (q : Part). q.content) same) b) f }
 
-variable_parts : (octets : List ℕ) (parts : List Part) (v : Variable) → SpellAll octets parts → AllBytes parts → variable_of parts ≡ Some v → IsVariable octets v
+variable_parts : (octets : List ℕ) (parts : List Part) (v : VariableSpecification) → SpellAll octets parts → AllBytes parts → variable_of parts ≡ Some v → IsVariable octets v
 variable_parts octets [] v s b e = absurd cc
 variable_parts octets (p ∷ []) v s b e =
     let x = bind_some (under (constructed 0) p) _ v e in
     let y = bind_some (name_in x.0) _ v x.2 in
-    let made : Variable = record { name = y.0; is_alternate = false } in
+    let made : VariableSpecification = record { name = y.0; is_alternate = false } in
     let n = under_named p x.0 y.0 b.0 x.1 y.1 in
     subst (IsVariable octets) (some_is made v y.2) (record { name = n.name; behind = []; parts = spelled_under octets p (value (constructed 0) n.name) n.part s; is_name = n.is; alternate = tt })
 variable_parts octets (p ∷ q ∷ []) v s b e =
     let x = bind_some (under (constructed 0) p) _ v e in
     let y = bind_some (name_in x.0) _ v x.2 in
     let z = bind_some (under (constructed 5) q) _ v y.2 in
-    let made : Variable = record { name = y.0; is_alternate = true } in
+    let made : VariableSpecification = record { name = y.0; is_alternate = true } in
     let n = under_named p x.0 y.0 b.0 x.1 y.1 in
     subst (IsVariable octets) (some_is made v z.2) (record {
       name = n.name;
@@ -156,7 +149,7 @@ variable_parts octets (p ∷ q ∷ []) v s b e =
     })
 variable_parts octets (p ∷ q ∷ r ∷ parts) v s b e = absurd cc
 
-variable_back : (p : Part) (v : Variable) → IsBytes p.content → variable_as p ≡ Some v → (octets : List ℕ) × (p ≡ value sequence octets) × IsVariable octets v
+variable_back : (p : Part) (v : VariableSpecification) → IsBytes p.content → variable_as p ≡ Some v → (octets : List ℕ) × (p ≡ value sequence octets) × IsVariable octets v
 unfolding variable_as
 variable_back p v b e =
     let x = bind_some (under sequence p >>= few_in) variable_of v e in
@@ -165,36 +158,18 @@ variable_back p v b e =
     let f = few_back y.0 x.0 (subst IsBytes (ap (λ (q : Part). q.content) same) b) y.2 in
     (y.0, same, variable_parts y.0 x.0 v f.0 f.1 x.2)
 
-record Listed (parts : List Part) (vs : List Variable) : Type 0 where
-  lists : List (List ℕ)
-  are : parts ≡ map (value sequence) lists
-  each : AreVariables lists vs
-
-variables_back : (parts : List Part) (vs : List Variable) → AllBytes parts → all_of variable_as parts ≡ Some vs → Listed parts vs
-variables_back [] vs b e = record { lists = []; are = refl; each = subst (AreVariables []) (some_is [] vs e) tt }
-variables_back (p ∷ parts) vs b e =
-    let x = bind_some (variable_as p) (λ v. all_of variable_as parts >>= λ more. Some (v ∷ more)) vs e in
-    let y = bind_some (all_of variable_as parts) (λ more. Some (x.0 ∷ more)) vs x.2 in
-    let first = variable_back p x.0 b.0 x.1 in
-    let more = variables_back parts y.0 b.1 y.1 in
-    record {
-      lists = first.0 ∷ more.lists;
-      are = ap (λ (q : Part). q ∷ parts) first.1 ∙ ap (λ (ps : List Part). value sequence first.0 ∷ ps) more.are;
-      each = subst (AreVariables (first.0 ∷ more.lists)) (some_is (x.0 ∷ y.0) vs y.2) (first.2, more.each);
-    }
-
 -- ---- the variables of a read or a write
 
 pub access_read : (part : Part) (a : Access) → IsAccess part a → access_as part ≡ Ok a
 unfolding access_as
-access_read part (variables vs) is = rw (is.2, values_again is.0 (map (value sequence) is.1) is.3, variables_read is.1 vs is.4) refl
+access_read part (variables vs) is = rw (is.2, values_again is.0 (map (value sequence) is.1) is.3, each_read variable_as (value sequence) IsVariable variable_read is.1 vs is.4) refl
 access_read part named_list is = rw (is.2, name_read is.0 is.1 is.3) refl
 
 listed_back : (part : Part) (a : Access) → part ≡ value (constructed 0) part.content → IsBytes part.content → (spelled (each_in variable_as part.content) >> (λ vs. let made : Result Access Refusal = Ok (variables vs) in made)) ≡ Ok a → IsAccess part a
 listed_back part a is b e =
     let x = spelled_then (each_in variable_as part.content) (λ vs. Ok (variables vs)) (Ok a) (λ no. cc) e in
     let each = each_back variable_as part.content x.0 b x.1 in
-    let l = variables_back each.parts x.0 each.bytes each.all in
+    let l = each_listed variable_as (value sequence) IsVariable variable_back each.parts x.0 each.bytes each.all in
     subst (IsAccess part) (right_is {E = Refusal} (variables x.0) a x.2) (part.content, l.lists, is, subst (SpellAll part.content) {y = map (value sequence) l.lists} l.are each.spelled, l.each)
 
 list_back : (part : Part) (a : Access) → part ≡ value (constructed 1) part.content → IsBytes part.content → (spelled (name_in part.content) >> (λ n. let made : Result Access Refusal = Ok named_list in made)) ≡ Ok a → IsAccess part a
@@ -217,7 +192,7 @@ access_back part a b e =
 
 -- ---- which of them are served
 
-any_same : (vs : List Variable) → list_any (λ v. v.is_alternate) vs ≡ any_alternate vs
+any_same : (vs : List VariableSpecification) → list_any (λ v. v.is_alternate) vs ≡ any_alternate vs
 any_same [] = refl
 any_same (v ∷ vs) = rw (any_same vs) refl
 
@@ -233,11 +208,11 @@ pub either_false : (a b : Bool) → (a || b) ≡ false → (a ≡ false) × (b �
 either_false true b e = absurd cc
 either_false false b e = (refl, e)
 
-are_whole : (vs : List Variable) → any_alternate vs ≡ false → vs ≡ map as_whole (map (λ v. v.name) vs)
+are_whole : (vs : List VariableSpecification) → any_alternate vs ≡ false → vs ≡ map as_whole (map (λ v. v.name) vs)
 are_whole [] e = refl
 are_whole (v ∷ vs) e =
     let x = either_false v.is_alternate (any_alternate vs) e in
-    ap (λ (b : Bool). let made : Variable = record { name = v.name; is_alternate = b } in made ∷ vs) x.0 ∙ ap (λ (ws : List Variable). as_whole v.name ∷ ws) (are_whole vs x.1)
+    ap (λ (b : Bool). let made : VariableSpecification = record { name = v.name; is_alternate = b } in made ∷ vs) x.0 ∙ ap (λ (ws : List VariableSpecification). as_whole v.name ∷ ws) (are_whole vs x.1)
 
 pub judged_served : (a : Access) (names : List Naming) → AreServed a names → judged a ≡ Ok names
 unfolding judged
@@ -266,7 +241,7 @@ Judged a (Err Unknown) = AreUnserved a
 Judged a (Err Many) = AreMany a
 Judged a (Err OutOfMemory) = ⊥
 
-judged_by : (vs : List Variable) (some many : Bool) → any_alternate vs ≡ some → ltb 32 (length vs) ≡ many → Judged (variables vs) (cond some (Err Unknown) (cond many (Err Many) (Ok (map (λ v. v.name) vs))))
+judged_by : (vs : List VariableSpecification) (some many : Bool) → any_alternate vs ≡ some → ltb 32 (length vs) ≡ many → Judged (variables vs) (cond some (Err Unknown) (cond many (Err Many) (Ok (map (λ v. v.name) vs))))
 judged_by vs true many e f = any_same vs ∙ e
 judged_by vs false true e f = (map (λ v. v.name) vs, are_whole vs e, let n = ltb-true 32 (length vs) f in omega (arith, length-map vs (λ v. v.name)))
 judged_by vs false false e f = (are_whole vs e, let n = ltb-false 32 (length vs) f in omega (arith, length-map vs (λ v. v.name)))

@@ -5,14 +5,14 @@ use Rattle.std.proofs.lemmas.Bool.{ltb-true}
 use Rattle.bay_ber.specs.declared.fault.BerFault.{BerFault}
 use Rattle.bay_ber.specs.declared.tag.Tag.{Tag}
 use Rattle.bay_ber.specs.Content.{IsInteger, integer_in}
-use Rattle.bay_ber.specs.Options.{◌>>=◌}
+use Rattle.bay_base.specs.Options.{◌>>=◌}
 use Rattle.bay_ber.specs.Reading.{Reading, Begins, tlv_at}
 use Rattle.bay_ber.specs.Tags.{same_tag}
 use Rattle.bay_ber.specs.Values.{Part, value, SpellAll, part_in, value_in, few_in, under}
 use Rattle.bay_ber.proofs.ReadLemmas.{IsBytes, tlv_takes, tlv_again}
-use Rattle.bay_ber.proofs.BackLemmas.{bind_some, bytes_before, content_bytes, AllBytes, guard_true, under_is, integer_back, one_back, few_back, one_read}
+use Rattle.bay_ber.proofs.BackLemmas.{bind_some, some_is, bytes_before, content_bytes, AllBytes, guard_true, under_is, integer_back, one_back, few_back, one_read}
 use Rattle.bay_mms.specs.Tags.{context, constructed, int_tag}
-use Rattle.bay_mms.specs.Spelled.{◌>>◌}
+use Rattle.bay_base.specs.Results.{◌>>=◌ as ◌>>◌}
 use Rattle.bay_mms.specs.Requests.{Asking, Message, initiate, conclude, confirmed}
 use Rattle.bay_mms.specs.Grammar.{nothing, service_as, proposal_in, id_of, id_as, with_id, or_bad, confirmed_of, message_as, front_of, id_in, answer_to}
 use Rattle.bay_mms.specs.Asks.{IsConfirmed, Asks, AsksUnknown, AsksMany, HasId, IsIdOf, AsksNothing}
@@ -20,7 +20,7 @@ use Rattle.bay_mms.specs.declared.fault.Refusal.{Refusal}
 use Rattle.bay_mms.specs.declared.fault.Refusal.TheVariants.{Bad, Unknown, Many, OutOfMemory}
 use Rattle.bay_mms.specs.declared.fault.MmsFault.{MmsFault}
 use Rattle.bay_mms.specs.declared.fault.MmsFault.TheVariants as fault
-use Rattle.bay_mms.proofs.AccessLemmas.{some_is, by_tag, spelled_under}
+use Rattle.bay_mms.proofs.AccessLemmas.{by_tag, spelled_under}
 use Rattle.bay_mms.proofs.ConfirmedLemmas.{id_read, known, confirmed_read}
 use Rattle.bay_mms.proofs.InitiateLemmas.{proposal_in_read, initiate_with}
 use Rattle.bay_mms.proofs.ServiceLemmas.{Serves, service_read, unserved_read, overfull_read, service_back}

@@ -2,7 +2,7 @@
 use Rattle.std.proofs.Common.{◌≡◌, ℕ, pos, ◌<◌, ◌^◌, List, [], ◌∷◌, Option, Some, Ok, refl, ap, ◌∙◌, arith}
 use Rattle.std.proofs.lemmas.Bool.{lt-ltb}
 use Rattle.bay_ber.specs.Content.{IsInteger}
-use Rattle.bay_ber.specs.Options.{◌>>=◌}
+use Rattle.bay_base.specs.Options.{◌>>=◌}
 use Rattle.bay_ber.specs.Reading.{Reading, tlv_at}
 use Rattle.bay_ber.specs.Values.{Part, only_one, value_in, at_most_five, few_in}
 use Rattle.bay_ber.proofs.ContentLemmas.{integer_again}

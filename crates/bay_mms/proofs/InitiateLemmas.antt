@@ -3,16 +3,16 @@ use Rattle.std.proofs.Common.{◌≡◌, ℕ, zero, suc, ℤ, pos, negsuc, ◌*�
 use Rattle.std.proofs.lemmas.Bool.{le-ltb, ltb-false}
 use Rattle.bay_ber.specs.declared.tag.Tag.{Tag}
 use Rattle.bay_ber.specs.Content.{IsInteger, IsBits, BitString, integer_in, bits_in}
-use Rattle.bay_ber.specs.Options.{◌>>=◌}
+use Rattle.bay_base.specs.Options.{◌>>=◌}
 use Rattle.bay_ber.specs.Values.{Part, value, SpellAll, value_in, at_most_five, few_in, known_in, under}
 use Rattle.bay_ber.proofs.ReadLemmas.{IsBytes}
 use Rattle.bay_ber.proofs.ContentLemmas.{integer_again}
-use Rattle.bay_ber.proofs.BackLemmas.{bind_some, AllBytes, under_is, integer_back, bits_back, bits_again, one_under, few_back, known_back, one_read, few_read, known_read}
+use Rattle.bay_ber.proofs.BackLemmas.{bind_some, some_is, AllBytes, under_is, integer_back, bits_back, bits_again, one_under, few_back, known_back, one_read, few_read, known_read}
 use Rattle.bay_mms.specs.Tags.{context, constructed}
 use Rattle.bay_mms.specs.declared.request.Proposal.{Proposal}
 use Rattle.bay_mms.specs.Grammar.{integer_under, some_of, outstanding_as, three_bits, parameters_of, parameters_as, services_as, detail_of, detail_in, size_of, nesting_of, proposal_of, initiate_of, proposal_in, initiate_in}
 use Rattle.bay_mms.specs.SpelledInitiate.{field, IsNumber, IsPositive, IsDetail, IsInitiate}
-use Rattle.bay_mms.proofs.AccessLemmas.{some_is, by_tag}
+use Rattle.bay_mms.proofs.AccessLemmas.{by_tag}
 
 -- ---- what is spelled is read
 

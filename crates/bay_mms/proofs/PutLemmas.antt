@@ -1,6 +1,6 @@
 -- How long texts are.
-use Rattle.bay_mms.specs.declared.fault.WriteFault.{WriteFault}
-use Rattle.bay_mms.specs.declared.fault.WriteFault.TheVariants.{TooLong, OutOfMemory}
+use Rattle.bay_mms.specs.declared.fault.EncodeFault.{EncodeFault}
+use Rattle.bay_mms.specs.declared.fault.EncodeFault.TheVariants.{TooLong, OutOfMemory}
 use Rattle.bay_mms.specs.Writing.{IsFaultOf}
 use Rattle.std.proofs.Common.{◌≡◌, ℕ, ℤ, ◌+◌, ◌*◌, ◌<◌, ◌≤◌, Bool, true, false, List, ◌++◌, length, take, drop, refl, sym, ap, ◌∙◌, arith, inl, inr}
 use Rattle.std.proofs.lemmas.List.{append_assoc, length-append, take_at, drop_at}
@@ -38,7 +38,7 @@ pub bits_fit : (tag : Tag) (octets : List ℕ) (count : ℕ) → count ≤ 8 * l
 bits_fit tag octets count held few = element_fits tag (bit_string_octets octets count) (omega (arith, length-bit_octets octets count held (omega arith)))
 
 -- a fault of a part is one of the whole
-pub part_fault : (fault : WriteFault) (part whole : List ℕ) → (4294967296 ≤ length part → 4294967296 ≤ length whole) → IsFaultOf fault part → IsFaultOf fault whole
+pub part_fault : (fault : EncodeFault) (part whole : List ℕ) → (4294967296 ≤ length part → 4294967296 ≤ length whole) → IsFaultOf fault part → IsFaultOf fault whole
 part_fault TooLong part whole more h = more h
 part_fault OutOfMemory part whole more h = tt
 

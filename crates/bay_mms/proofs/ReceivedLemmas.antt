@@ -4,20 +4,20 @@ use Rattle.std.proofs.Math.Nat.{le-max_left, le-max_right, max-le}
 use Rattle.std.proofs.lemmas.Bool.{eq-eqb, eqb-true, eqb-false, ne_eqb}
 use Rattle.bay_ber.specs.declared.tag.Tag.{Tag}
 use Rattle.bay_ber.specs.Content.{IsInteger, IsBits, IsTruth, integer_in, bits_in, truth_in}
-use Rattle.bay_ber.specs.Options.{◌>>=◌}
+use Rattle.bay_base.specs.Options.{◌>>=◌}
 use Rattle.bay_ber.specs.Tags.{same_tag}
 use Rattle.bay_ber.specs.Values.{Part, value, SpellAll, is_known, all_of, each_in}
 use Rattle.bay_ber.proofs.ReadLemmas.{IsBytes}
 use Rattle.bay_ber.proofs.ContentLemmas.{integer_again}
 use Rattle.bay_ber.proofs.ListingLemmas.{values_again}
-use Rattle.bay_ber.proofs.BackLemmas.{bind_some, AllBytes, integer_back, bits_back, bits_again, truth_back, truth_again, each_back}
+use Rattle.bay_ber.proofs.BackLemmas.{bind_some, some_is, AllBytes, integer_back, bits_back, bits_again, truth_back, truth_again, each_back}
 use Rattle.bay_mms.specs.Data as mms
 use Rattle.bay_mms.specs.Data.{Datum, Data, structure, truth, bits, integer, unsigned, octets, text, utc, other, no_data, datum}
 use Rattle.bay_mms.specs.Tags.{context, constructed}
 use Rattle.bay_mms.specs.Views.{data_before}
 use Rattle.bay_mms.specs.Grammar.{utc_as, string_as, simple_as, datum_as}
 use Rattle.bay_mms.specs.SpelledData.{kinds, IsOther, IsDatum, AreData, depth_of, depth_in, AreWritten}
-use Rattle.bay_mms.proofs.AccessLemmas.{some_is, by_tag, either_false}
+use Rattle.bay_mms.proofs.AccessLemmas.{by_tag, either_false}
 use Rattle.bay_mms.proofs.RequestLemmas.{structure_is, simple_is}
 
 -- ---- what is spelled is read
@@ -127,7 +127,7 @@ pub written_read : (pieces : List Part) (ds : List Datum) → AreWritten pieces 
 written_read [] [] are = refl
 written_read [] (d ∷ ds) are = absurd are
 written_read (p ∷ pieces) [] are = absurd are
-written_read (p ∷ pieces) (d ∷ ds) are = rw (datum_read d p 10 are.0 are.1, written_read pieces ds are.2) refl
+written_read (p ∷ pieces) (d ∷ ds) are = rw (datum_read d p 10 are.0.0 are.0.1, written_read pieces ds are.1) refl
 
 -- ---- what is read is spelled
 
@@ -229,4 +229,4 @@ written_back (p ∷ pieces) ds b e =
     let x = bind_some (datum_as 10 p) (λ d. all_of (datum_as 10) pieces >>= λ more. Some (d ∷ more)) ds e in
     let y = bind_some (all_of (datum_as 10) pieces) (λ more. Some (x.0 ∷ more)) ds x.2 in
     let first = datum_back 10 p x.0 b.0 x.1 in
-    subst (AreWritten (p ∷ pieces)) (some_is (x.0 ∷ y.0) ds y.2) (first.0, first.1, written_back pieces y.0 b.1 y.1)
+    subst (AreWritten (p ∷ pieces)) (some_is (x.0 ∷ y.0) ds y.2) (first, written_back pieces y.0 b.1 y.1)

@@ -5,7 +5,7 @@ use Rattle.std.specs.Option.{ok_or}
 use Rattle.std.proofs.lemmas.Bool.{lt-ltb, le-ltb}
 use Rattle.std.proofs.lemmas.List.{length-map}
 use Rattle.bay_base.specs.Exact.{Gives}
-use Rattle.bay_ber.specs.Options.{◌>>=◌}
+use Rattle.bay_base.specs.Options.{◌>>=◌}
 use Rattle.bay_ber.specs.Tags.{same_tag}
 use Rattle.bay_ber.specs.Values.{Part, each_in}
 use Rattle.bay_mms.specs.Data as mms
@@ -16,35 +16,35 @@ use Rattle.bay_mms.specs.declared.data.Data as given
 use Rattle.bay_mms.specs.Spelled.{spelled}
 use Rattle.bay_mms.specs.Requests.{Naming, variables}
 use Rattle.bay_mms.specs.RequestViews.{naming, variable}
-use Rattle.bay_mms.specs.declared.access.Variable as code
+use Rattle.bay_mms.specs.declared.access.VariableSpecification as code
 use Rattle.bay_mms.specs.declared.fault.Refusal.{Refusal}
 use Rattle.bay_mms.specs.declared.fault.Refusal.TheVariants.{Bad, Unknown, Many, OutOfMemory}
 use Rattle.bay_mms.specs.Grammar.{any_alternate, judged, datum_as, simple_as}
 
 -- ---- lists of variables
 
-pub any_is : (vs : List code.Variable) → list_any (λ v. v.is_alternate) vs ≡ any_alternate (map variable vs)
+pub any_is : (vs : List code.VariableSpecification) → list_any (λ v. v.is_alternate) vs ≡ any_alternate (map variable vs)
 any_is [] = refl
 any_is (v ∷ vs) = rw (any_is vs) refl
 
-pub names_are : (vs : List code.Variable) → map naming (map (λ v. v.name) vs) ≡ map (λ v. v.name) (map variable vs)
+pub names_are : (vs : List code.VariableSpecification) → map naming (map (λ v. v.name) vs) ≡ map (λ v. v.name) (map variable vs)
 names_are [] = refl
 names_are (v ∷ vs) = ap (λ (ns : List Naming). naming v.name ∷ ns) (names_are vs)
 
-pub judged_unknown : (vs : List code.Variable) → list_any (λ v. v.is_alternate) vs ≡ true → judged (variables (map variable vs)) ≡ Err Unknown
+pub judged_unknown : (vs : List code.VariableSpecification) → list_any (λ v. v.is_alternate) vs ≡ true → judged (variables (map variable vs)) ≡ Err Unknown
 unfolding judged
 judged_unknown vs some =
     let e : any_alternate (map variable vs) ≡ true = sym (any_is vs) ∙ some in
     rw e refl
 
-pub judged_many : (vs : List code.Variable) → list_any (λ v. v.is_alternate) vs ≡ false → 32 < length vs → judged (variables (map variable vs)) ≡ Err Many
+pub judged_many : (vs : List code.VariableSpecification) → list_any (λ v. v.is_alternate) vs ≡ false → 32 < length vs → judged (variables (map variable vs)) ≡ Err Many
 unfolding judged
 judged_many vs none many =
     let e : any_alternate (map variable vs) ≡ false = sym (any_is vs) ∙ none in
     let l : ltb 32 (length (map variable vs)) ≡ true = lt-ltb _ _ (omega (arith, length-map vs variable)) in
     rw (e, l) refl
 
-pub judged_few : (vs : List code.Variable) → list_any (λ v. v.is_alternate) vs ≡ false → length vs ≤ 32 → judged (variables (map variable vs)) ≡ Ok (map naming (map (λ v. v.name) vs))
+pub judged_few : (vs : List code.VariableSpecification) → list_any (λ v. v.is_alternate) vs ≡ false → length vs ≤ 32 → judged (variables (map variable vs)) ≡ Ok (map naming (map (λ v. v.name) vs))
 unfolding judged
 judged_few vs none few =
     let e : any_alternate (map variable vs) ≡ false = sym (any_is vs) ∙ none in

@@ -1,8 +1,8 @@
 -- Texts, one behind another.
 use Rattle.std.proofs.Common.{◌≡◌, ℕ, pos, Bool, true, false, Option, ◌+◌, ◌<◌, ◌≤◌, List, [], ◌++◌, length, take, drop, Result, Ok, Err, refl, sym, ap, ◌∙◌, arith, ◌⊎◌, inl, inr}
 use Rattle.std.proofs.lemmas.List.{append-nil, append_assoc, length-append, take_at, drop_at}
-use Rattle.bay_mms.specs.declared.fault.WriteFault.{WriteFault}
-use Rattle.bay_mms.specs.declared.fault.WriteFault.TheVariants.{TooLong, OutOfMemory}
+use Rattle.bay_mms.specs.declared.fault.EncodeFault.{EncodeFault}
+use Rattle.bay_mms.specs.declared.fault.EncodeFault.TheVariants.{TooLong, OutOfMemory}
 use Rattle.std.proofs.lemmas.Bool.{cases_lt, le-ltb, lt-ltb}
 use Rattle.bay_mms.specs.Writing.{IsFaultOf, Adds, Appends, written}
 use Rattle.bay_ber.specs.declared.tag.Tag.{Tag}
@@ -31,7 +31,7 @@ remains_more front writer new one rest later whole split added r =
 pub remains_end : (front writer whole : List ℕ) → Remains front writer [] whole → writer ≡ front ++ whole
 remains_end front writer whole r = sym (append-nil writer) ∙ r.is
 
-pub remains_fault : (fault : WriteFault) (front writer one rest later whole : List ℕ) → rest ≡ one ++ later → Remains front writer rest whole → IsFaultOf fault one → IsFaultOf fault whole
+pub remains_fault : (fault : EncodeFault) (front writer one rest later whole : List ℕ) → rest ≡ one ++ later → Remains front writer rest whole → IsFaultOf fault one → IsFaultOf fault whole
 remains_fault fault front writer one rest later whole split r f =
     part_fault fault one whole (λ over.
     let g = r.grown in
@@ -40,20 +40,20 @@ remains_fault fault front writer one rest later whole split r f =
     omega arith) f
 
 -- the last of several texts
-pub adds_last : (old middle new front one : List ℕ) (r : Result (Unit {0}) WriteFault) → middle ≡ old ++ front → Appends middle r new one → Adds old r new (front ++ one)
+pub adds_last : (old middle new front one : List ℕ) (r : Result (Unit {0}) EncodeFault) → middle ≡ old ++ front → Appends middle r new one → Adds old r new (front ++ one)
 adds_last old middle new front one (Ok done) is a = a.0 ∙ ap (λ (ys : List ℕ). ys ++ one) is ∙ append_assoc old front one
 adds_last old middle new front one (Err fault) is a = part_fault fault one (front ++ one) (λ over. omega (arith, length-append front one)) a
 
-pub fault_left : (fault : WriteFault) (one later : List ℕ) → IsFaultOf fault one → IsFaultOf fault (one ++ later)
+pub fault_left : (fault : EncodeFault) (one later : List ℕ) → IsFaultOf fault one → IsFaultOf fault (one ++ later)
 fault_left fault one later f = part_fault fault one (one ++ later) (λ over. omega (arith, length-append one later)) f
 
-pub fault_right : (fault : WriteFault) (front one : List ℕ) → IsFaultOf fault one → IsFaultOf fault (front ++ one)
+pub fault_right : (fault : EncodeFault) (front one : List ℕ) → IsFaultOf fault one → IsFaultOf fault (front ++ one)
 fault_right fault front one f = part_fault fault one (front ++ one) (λ over. omega (arith, length-append front one)) f
 
-pub around_fault : (fault : WriteFault) (tag : Tag) (content : List ℕ) → IsFaultOf fault content → IsFaultOf fault (element tag content)
+pub around_fault : (fault : EncodeFault) (tag : Tag) (content : List ℕ) → IsFaultOf fault content → IsFaultOf fault (element tag content)
 around_fault fault tag content f = part_fault fault content (element tag content) (λ over. around_over tag content over) f
 
-pub last_fault : (fault : WriteFault) (tag : Tag) (front one : List ℕ) → IsFaultOf fault one → IsFaultOf fault (element tag (front ++ one))
+pub last_fault : (fault : EncodeFault) (tag : Tag) (front one : List ℕ) → IsFaultOf fault one → IsFaultOf fault (element tag (front ++ one))
 last_fault fault tag front one f = around_fault fault tag (front ++ one) (fault_right fault front one f)
 
 -- what is behind two places
@@ -79,19 +79,19 @@ wrapped start inner tag front one two three first second s i o t u =
     behind start front one three first (element tag second) s o (u ∙ ap (λ (ys : List ℕ). ys ++ element tag (drop inner two)) a ∙ ap (λ (ys : List ℕ). one ++ element tag ys) b)
 
 -- more behind what was written
-pub adds_then : (old middle new front one : List ℕ) (r : Result (Unit {0}) WriteFault) → middle ≡ old ++ front → Adds middle r new one → Adds old r new (front ++ one)
+pub adds_then : (old middle new front one : List ℕ) (r : Result (Unit {0}) EncodeFault) → middle ≡ old ++ front → Adds middle r new one → Adds old r new (front ++ one)
 adds_then old middle new front one (Ok done) is a = a ∙ ap (λ (ys : List ℕ). ys ++ one) is ∙ append_assoc old front one
 adds_then old middle new front one (Err fault) is a = part_fault fault one (front ++ one) (λ over. omega (arith, length-append front one)) a
 
-pub adds_third : (old one two new a b d : List ℕ) (r : Result (Unit {0}) WriteFault) → one ≡ old ++ a → two ≡ one ++ b → Appends two r new d → Adds old r new (a ++ (b ++ d))
+pub adds_third : (old one two new a b d : List ℕ) (r : Result (Unit {0}) EncodeFault) → one ≡ old ++ a → two ≡ one ++ b → Appends two r new d → Adds old r new (a ++ (b ++ d))
 adds_third old one two new a b d r is then last = adds_then old one new a (b ++ d) r is (adds_last one two new b d r then last)
 
-appended : (old new text : List ℕ) (r : Result (Unit {0}) WriteFault) → Appends old r new text → Adds old r new text
+appended : (old new text : List ℕ) (r : Result (Unit {0}) EncodeFault) → Appends old r new text → Adds old r new text
 appended old new text (Ok done) a = a.0
 appended old new text (Err fault) a = a
 
 -- a value around what was written since a place
-pub adds_around : (start : ℕ) (tag : Tag) (old one new content : List ℕ) (r : Result (Unit {0}) WriteFault) → start ≡ length old → one ≡ old ++ content → Appends (take start one) r new (element tag (drop start one)) → Adds old r new (element tag content)
+pub adds_around : (start : ℕ) (tag : Tag) (old one new content : List ℕ) (r : Result (Unit {0}) EncodeFault) → start ≡ length old → one ≡ old ++ content → Appends (take start one) r new (element tag (drop start one)) → Adds old r new (element tag content)
 adds_around start tag old one new content r s o a =
     let t : take start one ≡ old = ap (take start) o ∙ take_at old content start (sym s) in
     let d : drop start one ≡ content = ap (drop start) o ∙ drop_at old content start (sym s) in
@@ -103,13 +103,13 @@ adds_around start tag old one new content r s o a =
 abbrev pub report_of : List ℕ → List ℕ → List ℕ
 report_of names values = element (constructed 3) (element (constructed 0) (element (constructed 0) names ++ element (constructed 0) values))
 
-pub named_fault : (fault : WriteFault) (name : List ℕ) → IsFaultOf fault name → IsFaultOf fault (variable_text name)
+pub named_fault : (fault : EncodeFault) (name : List ℕ) → IsFaultOf fault name → IsFaultOf fault (variable_text name)
 named_fault fault name f = around_fault fault sequence _ (around_fault fault (constructed 0) name f)
 
-pub names_fault : (fault : WriteFault) (names values : List ℕ) → IsFaultOf fault (element (constructed 0) names) → IsFaultOf fault (report_of names values)
+pub names_fault : (fault : EncodeFault) (names values : List ℕ) → IsFaultOf fault (element (constructed 0) names) → IsFaultOf fault (report_of names values)
 names_fault fault names values f = around_fault fault (constructed 3) _ (around_fault fault (constructed 0) _ (fault_left fault (element (constructed 0) names) _ f))
 
-pub values_fault : (fault : WriteFault) (names values : List ℕ) → IsFaultOf fault values → IsFaultOf fault (report_of names values)
+pub values_fault : (fault : EncodeFault) (names values : List ℕ) → IsFaultOf fault values → IsFaultOf fault (report_of names values)
 values_fault fault names values f = around_fault fault (constructed 3) _ (last_fault fault (constructed 0) (element (constructed 0) names) _ (around_fault fault (constructed 0) values f))
 
 -- ---- a page
@@ -181,7 +181,7 @@ never_long text short (inl memory) = cc
 never_long text short (inr long) = let e : Ok text ≡ Err TooLong = sym (gives_text text short) ∙ long in cc
 
 -- a fault of a text that is not written
-pub gives_fault : (fault : WriteFault) (text : List ℕ) → IsFaultOf fault text → (fault ≡ OutOfMemory) ⊎ (written text ≡ Err fault)
+pub gives_fault : (fault : EncodeFault) (text : List ℕ) → IsFaultOf fault text → (fault ≡ OutOfMemory) ⊎ (written text ≡ Err fault)
 gives_fault TooLong text long = inr (rw (le-ltb (length text) 4294967296 long) refl)
 gives_fault OutOfMemory text memory = inl refl
 
@@ -207,5 +207,5 @@ contained id number response content head named whole r h n w =
     let all : confirmed id service ≡ header (constructed 1) response ++ (name ++ service) = element-header (constructed 1) (name ++ service) ∙ ap (λ (k : ℕ). header (constructed 1) k ++ (name ++ service)) size in
     w ∙ ap (λ (xs : List ℕ). xs ++ service) (n ∙ ap (λ (xs : List ℕ). xs ++ name) h) ∙ append_assoc (header (constructed 1) response) name service ∙ sym all
 
-pub confirmed_fault : (fault : WriteFault) (id number : ℕ) (content : List ℕ) → IsFaultOf fault content → IsFaultOf fault (confirmed id (element (constructed number) content))
+pub confirmed_fault : (fault : EncodeFault) (id number : ℕ) (content : List ℕ) → IsFaultOf fault content → IsFaultOf fault (confirmed id (element (constructed number) content))
 confirmed_fault fault id number content f = last_fault fault (constructed 1) (element int_tag (integer_octets (pos id))) _ (around_fault fault (constructed number) content f)

@@ -5,16 +5,17 @@ use Rattle.bay_ber.specs.declared.tag.Class.{Class}
 use Rattle.bay_ber.specs.declared.tag.Class.TheVariants.{Universal, Application, ContextSpecific, Private}
 use Rattle.bay_ber.specs.declared.tag.Tag.{Tag}
 use Rattle.bay_ber.specs.Content.{IsInteger, integer_in}
-use Rattle.bay_ber.specs.Options.{◌>>=◌}
+use Rattle.bay_base.specs.Options.{◌>>=◌}
 use Rattle.bay_ber.specs.Tags.{same_class, same_tag}
 use Rattle.bay_ber.specs.Values.{Part, value, SpellAll, value_in, few_in, each_in, under}
 use Rattle.bay_ber.proofs.ReadLemmas.{IsBytes}
 use Rattle.bay_ber.proofs.ContentLemmas.{both, integer_again}
 use Rattle.bay_ber.proofs.ListingLemmas.{values_again}
-use Rattle.bay_ber.proofs.BackLemmas.{bind_some, AllBytes, tag_is, under_is, integer_back, one_back, few_back, each_back, one_read, few_read}
+use Rattle.bay_ber.proofs.BackLemmas.{bind_some, some_is, AllBytes, tag_is, under_is, integer_back, one_back, few_back, each_back, one_read, few_read}
 use Rattle.bay_mms.specs.Data.{Datum}
 use Rattle.bay_mms.specs.Tags.{context, constructed}
-use Rattle.bay_mms.specs.Spelled.{◌>>◌, spelled}
+use Rattle.bay_base.specs.Results.{◌>>=◌ as ◌>>◌}
+use Rattle.bay_mms.specs.Spelled.{spelled}
 use Rattle.bay_mms.specs.Requests.{Naming, Place, whole_vmd, in_domain, of_association, Access, variables, named_list, Asking, identify, names, attributes, read, write}
 use Rattle.bay_mms.specs.Grammar.{nothing, place_as, class_as, scope_as, names_of, listing_in, name_in, access_as, judged, attributes_as, read_as, read_of, written_with, datum_as, write_of, is_unlisted, other_as, service_as}
 use Rattle.bay_mms.specs.SpelledNames.{IsAccess}
@@ -23,7 +24,7 @@ use Rattle.bay_mms.specs.SpelledInitiate.{field}
 use Rattle.bay_mms.specs.SpelledServices.{IsPlace, IsListing, IsWish, IsReading, AreAsMany, IsWriting, IsNamed, IsService, IsUnlisted, IsUnserved, IsOverfull}
 use Rattle.bay_mms.specs.declared.fault.Refusal.{Refusal}
 use Rattle.bay_mms.specs.declared.fault.Refusal.TheVariants.{Bad, Unknown, Many, OutOfMemory}
-use Rattle.bay_mms.proofs.AccessLemmas.{some_is, IsFair, spelled_then, by_tag, spelled_under, name_read, name_back, access_read, access_back, judged_served, judged_unserved, judged_many, Judged, judged_is}
+use Rattle.bay_mms.proofs.AccessLemmas.{IsFair, spelled_then, by_tag, spelled_under, name_read, name_back, access_read, access_back, judged_served, judged_unserved, judged_many, Judged, judged_is}
 use Rattle.bay_mms.proofs.ReceivedLemmas.{written_read, written_back}
 
 -- ---- what is spelled is read

@@ -5,7 +5,7 @@ use Rattle.bay_ber.specs.declared.fault.BerFault.{BerFault}
 use Rattle.bay_ber.specs.declared.tag.Class.TheVariants.{ContextSpecific}
 use Rattle.bay_ber.specs.declared.tag.Tag.{Tag}
 use Rattle.bay_ber.specs.Tags.{same_class, same_tag}
-use Rattle.bay_ber.specs.Options.{◌>>=◌}
+use Rattle.bay_base.specs.Options.{◌>>=◌}
 use Rattle.bay_ber.specs.Content.{BitString, integer_in, bits_in, truth_in}
 use Rattle.bay_ber.specs.Reading.{Reading, tlv_at}
 use Rattle.bay_ber.specs.Values.{Part, part_in, value_in, few_in, known_in, each_in, under}
@@ -13,8 +13,9 @@ use Rattle.bay_mms.specs.Data as mms
 use Rattle.bay_mms.specs.Data.{Datum}
 use Rattle.bay_mms.specs.Views.{data_before}
 use Rattle.bay_mms.specs.Tags.{context, constructed, sequence, int_tag, visible_tag}
-use Rattle.bay_mms.specs.Spelled.{◌>>◌, spelled}
-use Rattle.bay_mms.specs.Requests.{Naming, vmd, domain, association, Place, whole_vmd, in_domain, of_association, Variable, Access, variables, named_list, Asking, identify, names, attributes, read, write, Message, initiate, conclude, confirmed}
+use Rattle.bay_base.specs.Results.{◌>>=◌ as ◌>>◌}
+use Rattle.bay_mms.specs.Spelled.{spelled}
+use Rattle.bay_mms.specs.Requests.{Naming, vmd, domain, association, Place, whole_vmd, in_domain, of_association, VariableSpecification, Access, variables, named_list, Asking, identify, names, attributes, read, write, Message, initiate, conclude, confirmed}
 use Rattle.bay_mms.specs.declared.request.Proposal.{Proposal}
 use Rattle.bay_mms.specs.declared.fault.Refusal.{Refusal}
 use Rattle.bay_mms.specs.declared.fault.Refusal.TheVariants.{Bad, Unknown, Many, OutOfMemory}
@@ -48,7 +49,7 @@ name_in octets = value_in octets >>= name_as
 
 -- a variable: its name, and behind it the part of it that is asked for, whose content is not looked
 -- at
-abbrev pub variable_of : List Part → Option Variable
+abbrev pub variable_of : List Part → Option VariableSpecification
 variable_of (name ∷ []) = do
   octets ← under (constructed 0) name
   n ← name_in octets
@@ -60,7 +61,7 @@ variable_of (name ∷ access ∷ []) = do
   Some (record { name = n; is_alternate = true })
 variable_of parts = None
 
-unfoldable pub variable_as : Part → Option Variable
+unfoldable pub variable_as : Part → Option VariableSpecification
 variable_as part = under sequence part >>= few_in >>= variable_of
 
 -- a list of variables, or the name of a list
@@ -70,7 +71,7 @@ access_as part =
     else (if same_tag part.tag (constructed 1) then spelled (name_in part.content) >> (λ n. Ok named_list)
     else Err Bad)
 
-abbrev pub any_alternate : List Variable → Bool
+abbrev pub any_alternate : List VariableSpecification → Bool
 any_alternate [] = false
 any_alternate (v ∷ vs) = v.is_alternate || any_alternate vs
 

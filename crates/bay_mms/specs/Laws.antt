@@ -41,7 +41,7 @@ response_tag (response.Error id class) = constructed 2
 response_tag (response.Reject id reason) = constructed 4
 
 -- The list is one value under the tag.
-pub record IsRead (list : List ℕ) (tag : Tag) : Type 0 where
+pub record IsOneValue (list : List ℕ) (tag : Tag) : Type 0 where
   pub content : List ℕ
   pub spelled : Spells list tag content
 

@@ -1,20 +1,20 @@
 -- Requests of the code, without where they lie in memory.
 use Rattle.std.specs.Prelude.{option_map, map}
-use Rattle.bay_mms.specs.declared.request.Name.{Name}
-use Rattle.bay_mms.specs.declared.request.Name.TheVariants as name
+use Rattle.bay_mms.specs.declared.request.ObjectName.{ObjectName}
+use Rattle.bay_mms.specs.declared.request.ObjectName.TheVariants as name
 use Rattle.bay_mms.specs.declared.request.Scope.{Scope}
 use Rattle.bay_mms.specs.declared.request.Scope.TheVariants as scope
 use Rattle.bay_mms.specs.declared.request.Call.{Call}
 use Rattle.bay_mms.specs.declared.request.Call.TheVariants as call
 use Rattle.bay_mms.specs.declared.request.Request.{Request}
 use Rattle.bay_mms.specs.declared.request.Request.TheVariants as request
-use Rattle.bay_mms.specs.declared.access.Variable as code
+use Rattle.bay_mms.specs.declared.access.VariableSpecification as code
 use Rattle.bay_mms.specs.declared.access.Access as list
 use Rattle.bay_mms.specs.declared.access.Access.TheVariants as access
 use Rattle.bay_mms.specs.Views.{data_in}
-use Rattle.bay_mms.specs.Requests.{Naming, vmd, domain, association, Place, whole_vmd, in_domain, of_association, Variable, Access, variables, named_list, Asking, identify, names, attributes, read, write, Message, initiate, conclude, confirmed}
+use Rattle.bay_mms.specs.Requests.{Naming, vmd, domain, association, Place, whole_vmd, in_domain, of_association, VariableSpecification, Access, variables, named_list, Asking, identify, names, attributes, read, write, Message, initiate, conclude, confirmed}
 
-abbrev pub naming : Name → Naming
+abbrev pub naming : ObjectName → Naming
 naming (name.Vmd text) = vmd text.now
 naming (name.Domain d item) = domain d.now item.now
 naming (name.Association text) = association text.now
@@ -24,7 +24,7 @@ place scope.Vmd = whole_vmd
 place (scope.Domain d) = in_domain d.now
 place scope.Association = of_association
 
-abbrev pub variable : code.Variable → Variable
+abbrev pub variable : code.VariableSpecification → VariableSpecification
 variable v = record { name = naming v.name; is_alternate = v.is_alternate }
 
 abbrev pub accessed : list.Access → Access

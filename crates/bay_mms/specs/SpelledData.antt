@@ -4,6 +4,7 @@ use Rattle.std.specs.Prelude.{ℕ, suc, ◌≡◌, ◌≤◌, ◌⊎◌, false, 
 use Rattle.bay_ber.specs.declared.tag.Tag.{Tag}
 use Rattle.bay_ber.specs.Content.{IsInteger, IsBits, IsTruth}
 use Rattle.bay_ber.specs.Values.{Part, value, SpellAll, is_known}
+use Rattle.bay_mms.specs.Spelled.{AreEach}
 use Rattle.bay_mms.specs.Tags.{context, constructed}
 use Rattle.bay_mms.specs.Data.{Datum, Data, structure, truth, bits, integer, unsigned, octets, text, utc, other, no_data, datum}
 
@@ -54,7 +55,4 @@ abbrev mutual
 
 -- Each of the values is data, at most 10 deep.
 abbrev pub AreWritten : List Part → List Datum → Type 0
-AreWritten [] [] = Unit {0}
-AreWritten [] (d ∷ ds) = ⊥
-AreWritten (part ∷ parts) [] = ⊥
-AreWritten (part ∷ parts) (d ∷ ds) = IsDatum part d × (depth_of d ≤ 10) × AreWritten parts ds
+AreWritten = AreEach (λ part d. IsDatum part d × (depth_of d ≤ 10))

@@ -13,7 +13,7 @@ ghost use Rattle.bay_mms.specs.Asks.{Asks, AsksUnknown, AsksMany, AsksNothing};
 ghost use Rattle.bay_mms.specs.Grammar.{initiate_in, answer_to};
 ghost use Rattle.bay_ber.specs.Values.{value};
 ghost use Rattle.bay_mms.specs.Controls.{Control, Operate, IsOperate, operate_datum, cancel_datum, operate_as, cancel_as, is_in_range, operate_in};
-ghost use Rattle.bay_mms.specs.Laws.{IsPlain, IsRead, datum_tag, datum_content, response_tag};
+ghost use Rattle.bay_mms.specs.Laws.{IsPlain, IsOneValue, datum_tag, datum_content, response_tag};
 ghost use Rattle.bay_mms.specs.SpelledData.{IsDatum};
 ghost use Rattle.bay_mms.specs.Requests.{Message};
 ghost use Rattle.bay_mms.specs.RequestViews.{message};
@@ -30,9 +30,9 @@ ghost use Rattle.bay_mms.specs.declared.response.Response.{Response};
 pub fn written_is_read()
     ensures datum { (datum : Datum) → (datum_tag datum).number < 31 → length (datum_text datum) < 4294967296 → Spells (datum_text datum) (datum_tag datum) (datum_content datum) }
     ensures received { (datum : Datum) → IsPlain datum → length (datum_text datum) < 4294967296 → IsDatum (value (datum_tag datum) (datum_content datum)) datum }
-    ensures response { (response : Response) → length (response_text response) < 4294967296 → IsRead (response_text response) (response_tag response) }
-    ensures confirmed { (id : ℕ) (service : List ℕ) → length (confirmed id service) < 4294967296 → IsRead (confirmed id service) (constructed 1) }
-    ensures report { (names : List (List ℕ)) (values : Data) → length (report_text names values) < 4294967296 → IsRead (report_text names values) (constructed 3) }
+    ensures response { (response : Response) → length (response_text response) < 4294967296 → IsOneValue (response_text response) (response_tag response) }
+    ensures confirmed { (id : ℕ) (service : List ℕ) → length (confirmed id service) < 4294967296 → IsOneValue (confirmed id service) (constructed 1) }
+    ensures report { (names : List (List ℕ)) (values : Data) → length (report_text names values) < 4294967296 → IsOneValue (report_text names values) (constructed 3) }
 {}
 
 /// Octets ask at most one request: what is in the relation by whole nested spellings is read as

@@ -12,7 +12,7 @@ ghost use Rattle.bay_mms.specs.Tags.{visible_tag};
 ghost use Rattle.bay_mms.specs.Writing.{written};
 
 use crate::confirmed::write_list;
-use crate::fault::WriteFault;
+use crate::fault::EncodeFault;
 use bay_ber::tag::Tag;
 use bay_ber::writer::{Writer, element_length, integer_length};
 use bay_tree::fault::NamesFault;
@@ -95,10 +95,10 @@ fn page_from(
     first: Option<Handle>,
     id: u32,
     size: u32,
-) -> Result<Vec<u8>, WriteFault>
+) -> Result<Vec<u8>, EncodeFault>
     requires there { IfSome first (IsHandle tree.now) }
     requires size { size < 2 ^ 31 }
-    ensures { Gives WriteFault.OutOfMemory (λ octets. octets.items) result (written (first_page id size (names_from tree.now first))) }
+    ensures { Gives EncodeFault.OutOfMemory (λ octets. octets.items) result (written (first_page id size (names_from tree.now first))) }
 {
     let mut names = Writer::new(alloc);
     let more = put_fitting(&mut names, tree, first, id, size)?;
@@ -140,7 +140,7 @@ pub fn write_page(
     let first = first_after(tree, after)?;
     match page_from(alloc, tree, first, id, size) {
         Ok(octets) => Ok(octets),
-        Err(WriteFault::OutOfMemory) => Err(NamesFault::OutOfMemory),
-        Err(WriteFault::TooLong) => unreachable!(),
+        Err(EncodeFault::OutOfMemory) => Err(NamesFault::OutOfMemory),
+        Err(EncodeFault::TooLong) => unreachable!(),
     }
 }

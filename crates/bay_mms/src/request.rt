@@ -21,7 +21,7 @@ use std::alloc::Global;
 
 /// The name of an object (ISO 9506-2, ObjectName), in any octets.
 #[derive(Clone, Copy, Debug)]
-pub enum Name<'a> {
+pub enum ObjectName<'a> {
     /// A name of the device's own.
     Vmd(&'a [u8]),
     /// An item of a domain.
@@ -65,12 +65,12 @@ pub enum Call<'a> {
         after: Option<&'a [u8]>,
     },
     /// The type of a variable.
-    Attributes(Name<'a>),
+    Attributes(ObjectName<'a>),
     /// The values of at most 32 variables.
-    Read(Vec<Name<'a>>),
+    Read(Vec<ObjectName<'a>>),
     /// Values for at most 32 variables, as many as variables.
     Write {
-        names: Vec<Name<'a>>,
+        names: Vec<ObjectName<'a>>,
         values: Vec<Data<'a>>,
     },
 }

@@ -2,7 +2,7 @@
 -- of it, by the octets of its answer (ISO 9506-2, Read and Write; IEC 61850-8-1). Nothing here
 -- looks at controls.
 use Rattle.std.specs.Prelude.{ℕ, ◌≡◌, Bool, true, false, ◌&&◌, List, [], ◌∷◌, ◌++◌, Option, Some, None, is_some, if◌then◌else◌, unwrap_or, Result, Ok, Err}
-use Rattle.bay_ber.specs.Options.{◌>>=◌}
+use Rattle.bay_base.specs.Options.{◌>>=◌}
 use Rattle.bay_ber.specs.Tags.{same_tag}
 use Rattle.bay_ber.specs.Values.{Part, under, value_in, values_in}
 use Rattle.bay_tree.specs.Rows.{names_of}
