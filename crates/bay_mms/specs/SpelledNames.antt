@@ -11,7 +11,9 @@ use Rattle.bay_mms.specs.Requests.{Naming, vmd, domain, association, VariableSpe
 -- association.
 abbrev pub IsName : List ℕ → Naming → Type 0
 IsName octets (vmd text) = SpellAll octets (value (context 0) text ∷ [])
-IsName octets (domain d item) = (content : List ℕ) × SpellAll octets (value (constructed 1) content ∷ []) × SpellAll content (value visible_tag d ∷ value visible_tag item ∷ [])
+IsName octets (domain d item) =
+    (content : List ℕ) × SpellAll octets (value (constructed 1) content ∷ [])
+    × SpellAll content (value visible_tag d ∷ value visible_tag item ∷ [])
 IsName octets (association text) = SpellAll octets (value (context 2) text ∷ [])
 
 -- what may follow a name: nothing, or the part of the variable that is asked for, whose content is
@@ -33,8 +35,12 @@ pub record IsVariable (octets : List ℕ) (v : VariableSpecification) : Type 0 w
 
 -- The value is a list of variables, or the name of a list.
 abbrev pub IsAccess : Part → Access → Type 0
-IsAccess part (variables vs) = (content : List ℕ) × (lists : List (List ℕ)) × (part ≡ value (constructed 0) content) × SpellAll content (map (value sequence) lists) × AreEach IsVariable lists vs
-IsAccess part named_list = (content : List ℕ) × (name : Naming) × (part ≡ value (constructed 1) content) × IsName content name
+IsAccess part (variables vs) =
+    (content : List ℕ) × (lists : List (List ℕ)) × (part ≡ value (constructed 0) content)
+    × SpellAll content (map (value sequence) lists) × AreEach IsVariable lists vs
+IsAccess part named_list =
+    (content : List ℕ) × (name : Naming) × (part ≡ value (constructed 1) content)
+    × IsName content name
 
 -- a variable as a whole
 abbrev pub as_whole : Naming → VariableSpecification

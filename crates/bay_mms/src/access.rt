@@ -95,16 +95,24 @@ fn variable_as<'a>(value: &Value<'a>) -> Option<VariableSpecification<'a>>
 }
 
 // Keeps one variable more.
-fn push_variable<'a>(variables: &mut Vec<VariableSpecification<'a>>, one: VariableSpecification<'a>) -> Result<(), AllocError>
-    ensures { OnOk result (map variable variables.new.items ≡ map variable variables.old.items ++ variable one.entry ∷ []) }
+fn push_variable<'a>(
+    variables: &mut Vec<VariableSpecification<'a>>,
+    one: VariableSpecification<'a>,
+) -> Result<(), AllocError>
+    ensures { OnOk result (map variable variables.new.items
+        ≡ map variable variables.old.items ++ variable one.entry ∷ []) }
 {
     variables.push(one)?;
     Ok(())
 }
 
 // The variables that octets are, one after another.
-fn read_variables<'a>(alloc: Global, octets: &'a [u8]) -> Result<Vec<VariableSpecification<'a>>, Refusal>
-    ensures { Gives Refusal.OutOfMemory (λ v. map variable v.items) result (spelled (each_in spec.variable_as octets.now)) }
+fn read_variables<'a>(
+    alloc: Global,
+    octets: &'a [u8],
+) -> Result<Vec<VariableSpecification<'a>>, Refusal>
+    ensures { Gives Refusal.OutOfMemory (λ v. map variable v.items) result
+        (spelled (each_in spec.variable_as octets.now)) }
 {
     let mut variables = Vec::new(alloc);
     let mut values = Values::new(octets);
@@ -148,7 +156,10 @@ fn any_alternate(variables: &[VariableSpecification<'_>]) -> bool
 }
 
 // The names of variables.
-fn names_of<'a>(alloc: Global, variables: &[VariableSpecification<'a>]) -> Result<Vec<ObjectName<'a>>, AllocError>
+fn names_of<'a>(
+    alloc: Global,
+    variables: &[VariableSpecification<'a>],
+) -> Result<Vec<ObjectName<'a>>, AllocError>
     ensures { IfOk result (λ names. names.items ≡ map (λ v. v.name) variables.now) }
 {
     variables.iter().map(|one| one.name).collect(alloc)
@@ -157,7 +168,8 @@ fn names_of<'a>(alloc: Global, variables: &[VariableSpecification<'a>]) -> Resul
 /// The names that are asked for.
 #[tactic(auto, unfolding(crate::specs::Grammar::judged))]
 pub(crate) fn judged<'a>(alloc: Global, access: Access<'a>) -> Result<Vec<ObjectName<'a>>, Refusal>
-    ensures { Gives Refusal.OutOfMemory (λ v. map naming v.items) result (spec.judged (accessed access.entry)) }
+    ensures { Gives Refusal.OutOfMemory (λ v. map naming v.items) result
+        (spec.judged (accessed access.entry)) }
 {
     let variables = match access {
         Access::Variables(variables) => variables,

@@ -28,7 +28,8 @@ pub(crate) fn put_octets(writer: &mut Writer, tag: Tag, octets: &[u8]) -> Result
 pub(crate) fn put_around(writer: &mut Writer, start: usize, tag: Tag) -> Result<(), EncodeFault>
     requires tag { tag.number < 31 }
     requires start { start ≤ length writer.old }
-    ensures { Appends (take start writer.old) result writer.new (element tag (drop start writer.old)) }
+    ensures { Appends (take start writer.old) result writer.new
+        (element tag (drop start writer.old)) }
 {
     if writer.len() - start > CONTENT_MAX {
         return Err(EncodeFault::TooLong);
@@ -40,7 +41,8 @@ pub(crate) fn put_around(writer: &mut Writer, start: usize, tag: Tag) -> Result<
 /// Writes an integer under a context-specific tag.
 pub(crate) fn put_integer(writer: &mut Writer, number: u8, value: i64) -> Result<(), EncodeFault>
     requires { number < 31 }
-    ensures { Appends writer.old result writer.new (element (context number) (integer_octets value)) }
+    ensures { Appends writer.old result writer.new
+        (element (context number) (integer_octets value)) }
 {
     writer.int(Tag::context(number), value)?;
     Ok(())
@@ -60,7 +62,8 @@ pub(crate) fn put_bits(writer: &mut Writer, number: u8, bits: Bits<'_>) -> Resul
     requires low { number < 31 }
     requires held { bits.count ≤ 8 * length bits.octets.now }
     requires few { bits.count ≤ 64 }
-    ensures { Appends writer.old result writer.new (element (context number) (bit_string_octets bits.entry.octets.now bits.entry.count)) }
+    ensures { Appends writer.old result writer.new
+        (element (context number) (bit_string_octets bits.entry.octets.now bits.entry.count)) }
 {
     writer.bits(Tag::context(number), bits)?;
     Ok(())

@@ -36,7 +36,8 @@ fn put_both_around(
     requires start { start ≤ length writer.old }
     requires inner { inner.number < 31 }
     requires outer { outer.number < 31 }
-    ensures { Appends (take start writer.old) result writer.new (element outer (element inner (drop start writer.old))) }
+    ensures { Appends (take start writer.old) result writer.new
+        (element outer (element inner (drop start writer.old))) }
 {
     put_around(writer, start, inner)?;
     put_around(writer, start, outer)
@@ -48,7 +49,10 @@ fn put_report_around(writer: &mut Writer, start: usize, inner: usize) -> Result<
     requires start { start ≤ inner }
     requires inner { inner ≤ length writer.old }
     ensures { Appends (take start writer.old) result writer.new
-        (element (constructed 3) (element (constructed 0) (drop start (take inner writer.old) ++ element (constructed 0) (drop inner writer.old)))) }
+        (element (constructed 3)
+        (element (constructed 0)
+        (drop start (take inner writer.old)
+        ++ element (constructed 0) (drop inner writer.old)))) }
 {
     put_around(writer, inner, Tag::context_constructed(0))?;
     let list = Tag::context_constructed(0);
@@ -58,14 +62,16 @@ fn put_report_around(writer: &mut Writer, start: usize, inner: usize) -> Result<
 // Writes a small number under the context-specific tag of a number.
 fn put_small(writer: &mut Writer, number: u8, value: u8) -> Result<(), EncodeFault>
     requires { number < 31 }
-    ensures { Appends writer.old result writer.new (element (context number) (integer_octets (pos value))) }
+    ensures { Appends writer.old result writer.new
+        (element (context number) (integer_octets (pos value))) }
 {
     put_integer(writer, number, i64::from(value))
 }
 
 // Writes the category of an originator.
 fn put_category(writer: &mut Writer, origin: &Origin<'_>) -> Result<(), EncodeFault>
-    ensures { Appends writer.old result writer.new (element (context 5) (integer_octets origin.now.or_cat)) }
+    ensures { Appends writer.old result writer.new
+        (element (context 5) (integer_octets origin.now.or_cat)) }
 {
     put_integer(writer, 5, i64::from(origin.or_cat))
 }
@@ -111,7 +117,8 @@ fn put_operate_back(writer: &mut Writer, operate: &Operate<'_>) -> Result<(), En
 
 // Writes the parts of an operate, one behind the other.
 fn put_operate_parts(writer: &mut Writer, operate: &Operate<'_>) -> Result<(), EncodeFault>
-    ensures { Adds writer.old result writer.new (operate_front operate.now ++ operate_back operate.now) }
+    ensures { Adds writer.old result writer.new
+        (operate_front operate.now ++ operate_back operate.now) }
 {
     put_operate_front(writer, operate)?;
     put_operate_back(writer, operate)
@@ -145,7 +152,8 @@ fn put_failure_back(writer: &mut Writer, failure: &ControlError<'_>) -> Result<(
 
 // Writes the parts of a failure, one behind the other.
 fn put_failure_parts(writer: &mut Writer, failure: &ControlError<'_>) -> Result<(), EncodeFault>
-    ensures { Adds writer.old result writer.new (failure_front failure.now ++ failure_back failure.now) }
+    ensures { Adds writer.old result writer.new
+        (failure_front failure.now ++ failure_back failure.now) }
 {
     put_failure_front(writer, failure)?;
     put_failure_back(writer, failure)
@@ -178,7 +186,8 @@ fn put_failure_name(writer: &mut Writer) -> Result<(), EncodeFault>
 
 // Writes the two parts of a name in a domain.
 fn put_item_parts(writer: &mut Writer, domain: &str, item: &str) -> Result<(), EncodeFault>
-    ensures { Adds writer.old result writer.new (element visible_tag domain.now ++ element visible_tag item.now) }
+    ensures { Adds writer.old result writer.new
+        (element visible_tag domain.now ++ element visible_tag item.now) }
 {
     put_octets(writer, Tag::universal(26), domain.as_bytes())?;
     put_octets(writer, Tag::universal(26), item.as_bytes())
@@ -204,7 +213,8 @@ fn put_item_name(writer: &mut Writer, domain: &str, item: &str) -> Result<(), En
 
 // Writes the variables of a control that was refused, that ended, and that failed.
 fn put_failure_list(writer: &mut Writer) -> Result<(), EncodeFault>
-    ensures { Adds writer.old result writer.new (element (constructed 0) (variable_text failure_name)) }
+    ensures { Adds writer.old result writer.new
+        (element (constructed 0) (variable_text failure_name)) }
 {
     let start = writer.len();
     put_failure_name(writer)?;
@@ -213,7 +223,8 @@ fn put_failure_list(writer: &mut Writer) -> Result<(), EncodeFault>
 
 // Writes a list of that variable alone.
 fn put_item_list(writer: &mut Writer, domain: &str, item: &str) -> Result<(), EncodeFault>
-    ensures { Adds writer.old result writer.new (element (constructed 0) (variable_text (item_name domain.now item.now))) }
+    ensures { Adds writer.old result writer.new
+        (element (constructed 0) (variable_text (item_name domain.now item.now))) }
 {
     let start = writer.len();
     put_item_name(writer, domain, item)?;
@@ -222,7 +233,8 @@ fn put_item_list(writer: &mut Writer, domain: &str, item: &str) -> Result<(), En
 
 // Writes the variables of a failure and of what was operated.
 fn put_both_names(writer: &mut Writer, domain: &str, item: &str) -> Result<(), EncodeFault>
-    ensures { Adds writer.old result writer.new (variable_text failure_name ++ variable_text (item_name domain.now item.now)) }
+    ensures { Adds writer.old result writer.new
+        (variable_text failure_name ++ variable_text (item_name domain.now item.now)) }
 {
     put_failure_name(writer)?;
     put_item_name(writer, domain, item)
@@ -230,7 +242,9 @@ fn put_both_names(writer: &mut Writer, domain: &str, item: &str) -> Result<(), E
 
 // Writes the list of both.
 fn put_both_list(writer: &mut Writer, domain: &str, item: &str) -> Result<(), EncodeFault>
-    ensures { Adds writer.old result writer.new (element (constructed 0) (variable_text failure_name ++ variable_text (item_name domain.now item.now))) }
+    ensures { Adds writer.old result writer.new
+        (element (constructed 0)
+        (variable_text failure_name ++ variable_text (item_name domain.now item.now))) }
 {
     let start = writer.len();
     put_both_names(writer, domain, item)?;
@@ -243,7 +257,8 @@ fn put_both(
     failure: &ControlError<'_>,
     operate: &Operate<'_>,
 ) -> Result<(), EncodeFault>
-    ensures { Adds writer.old result writer.new (failure_data failure.now ++ operate_text operate.now) }
+    ensures { Adds writer.old result writer.new
+        (failure_data failure.now ++ operate_text operate.now) }
 {
     put_failure(writer, failure)?;
     put_operate(writer, operate)
@@ -267,7 +282,8 @@ fn put_ended(
     item: &str,
     operate: &Operate<'_>,
 ) -> Result<(), EncodeFault>
-    ensures { Appends writer.old result writer.new (termination_text domain.now item.now operate.now) }
+    ensures { Appends writer.old result writer.new
+        (termination_text domain.now item.now operate.now) }
 {
     let start = writer.len();
     put_item_list(writer, domain, item)?;
@@ -284,7 +300,8 @@ fn put_failed(
     item: &str,
     operate: &Operate<'_>,
 ) -> Result<(), EncodeFault>
-    ensures { Appends writer.old result writer.new (failed_text failure.now domain.now item.now operate.now) }
+    ensures { Appends writer.old result writer.new
+        (failed_text failure.now domain.now item.now operate.now) }
 {
     let start = writer.len();
     put_both_list(writer, domain, item)?;
@@ -296,7 +313,8 @@ fn put_failed(
 /// The text of the report that a control was refused (IEC 61850-8-1, LastApplError; ISO 9506-2,
 /// informationReport); TooLong where it would have 2^32 octets or more, which no PDU has.
 pub fn write_failure(alloc: Global, failure: &ControlError<'_>) -> Result<Vec<u8>, EncodeFault>
-    ensures { Gives EncodeFault.OutOfMemory (λ octets. octets.items) result (written (failure_text failure.now)) }
+    ensures { Gives EncodeFault.OutOfMemory (λ octets. octets.items) result
+        (written (failure_text failure.now)) }
 {
     let mut writer = Writer::new(alloc);
     put_refused(&mut writer, failure)?;
@@ -312,7 +330,8 @@ pub fn write_termination(
     item: &str,
     operate: &Operate<'_>,
 ) -> Result<Vec<u8>, EncodeFault>
-    ensures { Gives EncodeFault.OutOfMemory (λ octets. octets.items) result (written (termination_text domain.now item.now operate.now)) }
+    ensures { Gives EncodeFault.OutOfMemory (λ octets. octets.items) result
+        (written (termination_text domain.now item.now operate.now)) }
 {
     let mut writer = Writer::new(alloc);
     put_ended(&mut writer, domain, item, operate)?;
@@ -329,7 +348,8 @@ pub fn write_failed_termination(
     item: &str,
     operate: &Operate<'_>,
 ) -> Result<Vec<u8>, EncodeFault>
-    ensures { Gives EncodeFault.OutOfMemory (λ octets. octets.items) result (written (failed_text failure.now domain.now item.now operate.now)) }
+    ensures { Gives EncodeFault.OutOfMemory (λ octets. octets.items) result
+        (written (failed_text failure.now domain.now item.now operate.now)) }
 {
     let mut writer = Writer::new(alloc);
     put_failed(&mut writer, failure, domain, item, operate)?;

@@ -126,7 +126,9 @@ fn put_names(writer: &mut Writer, names: &[Text]) -> Result<(), EncodeFault>
 // Writes that a variable can't be deleted, and its type.
 fn put_attributes(writer: &mut Writer, tree: &Tree, handle: &Handle) -> Result<(), EncodeFault>
     requires { IsHandle tree.now handle.now }
-    ensures { Adds writer.old result writer.new (element (context 0) (truth_octets false) ++ element (constructed 2) (type_text (type_at tree.now handle.now))) }
+    ensures { Adds writer.old result writer.new
+        (element (context 0) (truth_octets false)
+        ++ element (constructed 2) (type_text (type_at tree.now handle.now))) }
 {
     writer.boolean(Tag::context(0), false)?;
     let start = writer.len();
@@ -144,7 +146,8 @@ pub(crate) fn put_id(writer: &mut Writer, id: u32) -> Result<(), AllocError>
 // Writes a number under a context-specific tag.
 fn put_number(writer: &mut Writer, number: u8, value: u32) -> Result<(), AllocError>
     requires { number < 31 }
-    ensures { OnOk result (writer.new ≡ writer.old ++ element (context number) (integer_octets (pos value))) }
+    ensures { OnOk result (writer.new
+        ≡ writer.old ++ element (context number) (integer_octets (pos value))) }
 {
     writer.int(Tag::context(number), i64::from(value))
 }
@@ -157,7 +160,10 @@ fn write_identity(
     model: &str,
     revision: &str,
 ) -> Result<Vec<u8>, EncodeFault>
-    ensures { Gives EncodeFault.OutOfMemory (λ octets. octets.items) result (written (confirmed id (element (constructed 2) (identity_text vendor.now model.now revision.now)))) }
+    ensures { Gives EncodeFault.OutOfMemory (λ octets. octets.items) result
+        (written
+        (confirmed id
+        (element (constructed 2) (identity_text vendor.now model.now revision.now)))) }
 {
     let mut content = Writer::new(alloc);
     put_identity(&mut content, vendor, model, revision)?;
@@ -166,7 +172,8 @@ fn write_identity(
 
 // The response with these names, and whether more follow.
 fn write_names(alloc: Global, id: u32, names: &[Text], more: bool) -> Result<Vec<u8>, EncodeFault>
-    ensures { Gives EncodeFault.OutOfMemory (λ octets. octets.items) result (written (page_text id names.now more)) }
+    ensures { Gives EncodeFault.OutOfMemory (λ octets. octets.items) result
+        (written (page_text id names.now more)) }
 {
     let mut list = Writer::new(alloc);
     put_names(&mut list, names)?;
@@ -194,7 +201,8 @@ fn write_attributes(
 // The response to a confirmed request.
 fn write_confirmed(alloc: Global, id: u32, service: &Service<'_>) -> Result<Vec<u8>, EncodeFault>
     requires { IsOfTree service.now }
-    ensures { Gives EncodeFault.OutOfMemory (λ octets. octets.items) result (written (confirmed id (service_text service.now))) }
+    ensures { Gives EncodeFault.OutOfMemory (λ octets. octets.items) result
+        (written (confirmed id (service_text service.now))) }
 {
     match service {
         Service::Identify {
@@ -317,7 +325,8 @@ fn put_agreed(writer: &mut Writer, agreed: Agreed) -> Result<(), EncodeFault>
 /// have 2^32 octets or more. The handles in it are of its trees.
 pub fn write_response(alloc: Global, response: &Response<'_>) -> Result<Vec<u8>, EncodeFault>
     requires { IsAnswerable response.now }
-    ensures { Gives EncodeFault.OutOfMemory (λ octets. octets.items) result (written (response_text response.now)) }
+    ensures { Gives EncodeFault.OutOfMemory (λ octets. octets.items) result
+        (written (response_text response.now)) }
 {
     match response {
         Response::Initiate(agreed) => Ok(write_agreed(alloc, *agreed)?),

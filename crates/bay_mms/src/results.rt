@@ -70,7 +70,8 @@ impl ReadResponse {
     /// The response under an invoke id; TooLong where it would have 2^32 octets or more, which is
     /// answered as a response over the size of a PDU is.
     pub fn finish(self, id: u32) -> Result<Vec<u8>, EncodeFault>
-        ensures { Gives EncodeFault.OutOfMemory (λ octets. octets.items) result (written (read_text id self)) }
+        ensures { Gives EncodeFault.OutOfMemory (λ octets. octets.items) result
+            (written (read_text id self)) }
     {
         let ReadResponse { alloc, results } = self;
         write_list(alloc, id, 4, 1, results.finish().as_slice(), None)
@@ -120,7 +121,8 @@ impl WriteResponse {
 
     /// The response under an invoke id; TooLong as for a read.
     pub fn finish(self, id: u32) -> Result<Vec<u8>, EncodeFault>
-        ensures { Gives EncodeFault.OutOfMemory (λ octets. octets.items) result (written (write_text id self)) }
+        ensures { Gives EncodeFault.OutOfMemory (λ octets. octets.items) result
+            (written (write_text id self)) }
     {
         let WriteResponse { alloc, results } = self;
         write_content(alloc, id, 5, results.finish().as_slice())

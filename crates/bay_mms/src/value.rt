@@ -40,7 +40,9 @@ pub(crate) fn put_value(writer: &mut Writer, tree: &Tree, handle: Handle) -> Res
 fn put_component_around(writer: &mut Writer, start: usize, inner: usize) -> Result<(), EncodeFault>
     requires start { start ≤ inner }
     requires inner { inner ≤ length writer.old }
-    ensures { Appends (take start writer.old) result writer.new (element sequence (drop start (take inner writer.old) ++ element (constructed 1) (drop inner writer.old))) }
+    ensures { Appends (take start writer.old) result writer.new
+        (element sequence (drop start (take inner writer.old)
+        ++ element (constructed 1) (drop inner writer.old))) }
 {
     put_around(writer, inner, Tag::context_constructed(1))?;
     put_around(writer, start, Tag::sequence())
@@ -72,7 +74,8 @@ pub(crate) fn put_type(writer: &mut Writer, tree: &Tree, handle: Handle) -> Resu
 // Makes a structure's type of the components that were written since a place.
 fn put_component_list(writer: &mut Writer, start: usize) -> Result<(), EncodeFault>
     requires { start ≤ length writer.old }
-    ensures { Appends (take start writer.old) result writer.new (element (constructed 2) (element (constructed 1) (drop start writer.old))) }
+    ensures { Appends (take start writer.old) result writer.new
+        (element (constructed 2) (element (constructed 1) (drop start writer.old))) }
 {
     put_around(writer, start, Tag::context_constructed(1))?;
     put_around(writer, start, Tag::context_constructed(2))
@@ -82,7 +85,8 @@ fn put_component_list(writer: &mut Writer, start: usize) -> Result<(), EncodeFau
 /// it would have 2^32 octets or more.
 pub fn write_value(alloc: Global, tree: &Tree, handle: Handle) -> Result<Vec<u8>, EncodeFault>
     requires { IsHandle tree.now handle }
-    ensures { Gives EncodeFault.OutOfMemory (λ octets. octets.items) result (written (datum_text (data_at tree.now handle))) }
+    ensures { Gives EncodeFault.OutOfMemory (λ octets. octets.items) result
+        (written (datum_text (data_at tree.now handle))) }
 {
     let mut writer = Writer::new(alloc);
     put_value(&mut writer, tree, handle)?;
@@ -93,7 +97,8 @@ pub fn write_value(alloc: Global, tree: &Tree, handle: Handle) -> Result<Vec<u8>
 /// octets or more.
 pub fn write_type(alloc: Global, tree: &Tree, handle: Handle) -> Result<Vec<u8>, EncodeFault>
     requires { IsHandle tree.now handle }
-    ensures { Gives EncodeFault.OutOfMemory (λ octets. octets.items) result (written (type_text (type_at tree.now handle))) }
+    ensures { Gives EncodeFault.OutOfMemory (λ octets. octets.items) result
+        (written (type_text (type_at tree.now handle))) }
 {
     let mut writer = Writer::new(alloc);
     put_type(&mut writer, tree, handle)?;
