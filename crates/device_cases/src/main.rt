@@ -26,21 +26,14 @@ mod words;
 
 use anyhow::{Context, Result, bail};
 use bay::check_bay;
-use cases::told::Told;
+use cases::sections::{BETWEEN, head_and_body, sections_of};
+use cases::told::{Told, check_answer, outcome_of};
 use cases::words::{first_word, is_case};
 use controls::Session;
 use names::check_names;
 use scenario::{Texts, check_octets, check_report};
 use std::alloc::Global;
 use std::io::Read;
-
-/// Fails where an answer isn't the one that is wanted.
-fn check_answer(found: &str, wanted: &str) -> Result<()> {
-    if found != wanted {
-        bail!("it is {found}");
-    }
-    Ok(())
-}
 
 /// The answer to a question that no device is asked, by the section that it stands in.
 fn answer(alloc: Global, texts: &Texts, head: &str, question: &str) -> Result<String> {
@@ -63,12 +56,6 @@ fn check_line(alloc: Global, texts: &Texts, head: &str, line: &str) -> Result<()
     }
     let (question, wanted) = line.split_once(" -> ").context("no answer")?;
     check_answer(answer(alloc, texts, head, question)?.as_str(), wanted)
-}
-
-/// What came of a case that fails where it is not as it says.
-fn outcome_of(checked: Result<()>) -> Result<bool> {
-    checked?;
-    Ok(true)
 }
 
 /// The cases of a section with a case in each line.
@@ -124,12 +111,10 @@ fn tell_section(
 
 /// What is told of the cases of all sections.
 fn run(alloc: Global, text: &str) -> Result<String> {
-    let text = text.strip_prefix("== ").context("no section")?;
-    let text = text.strip_suffix("\n").unwrap_or(text);
     let mut texts = Texts::new();
     let mut told = Told::new(alloc);
-    for section in text.split("\n== ") {
-        let (head, body) = section.split_once("\n").unwrap_or((section, ""));
+    for section in sections_of(text)?.split(BETWEEN) {
+        let (head, body) = head_and_body(section);
         match head {
             "bay" => texts.bay = body,
             "frame" => texts.frame = body,
