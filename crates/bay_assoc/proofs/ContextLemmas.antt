@@ -3,7 +3,7 @@ use Rattle.std.proofs.Common.{◌≡◌, ℕ, ◌+◌, ◌-◌, ◌<◌, ◌||�
 use Rattle.std.specs.List.{list_any}
 use Rattle.std.proofs.lemmas.List.{drop_more, length-drop}
 use Rattle.std.proofs.Math.Seq.{take-length}
-use Rattle.bay_ber.specs.Options.{◌>>=◌}
+use Rattle.bay_base.specs.Options.{◌>>=◌}
 use Rattle.bay_ber.specs.Values.{Part, onto, values_in}
 use Rattle.bay_ber.proofs.ListingLemmas.{Passed, passed_first, passed_more, passed_end, passed_bad, passed_stop}
 use Rattle.bay_assoc.specs.declared.presentation.Context.{Context}

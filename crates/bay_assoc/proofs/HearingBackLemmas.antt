@@ -3,14 +3,14 @@ use Rattle.std.proofs.Common.{◌≡◌, ℕ, zero, suc, ℤ, pos, negsuc, ◌+�
 use Rattle.std.specs.Prelude.{⊤}
 use Rattle.std.proofs.lemmas.Bool.{eqb-true, ltb-false}
 use Rattle.std.proofs.lemmas.Bool.Decides.{nat_tests}
-use Rattle.bay_ber.specs.Options.{◌>>=◌}
-use Rattle.bay_ber.proofs.ReadLemmas.{IsBytes}
+use Rattle.bay_base.specs.Options.{◌>>=◌}
+use Rattle.bay_ber.proofs.ReadLemmas.{IsBytes, bind_ok}
 use Rattle.bay_ber.proofs.ContentLemmas.{both}
-use Rattle.bay_ber.proofs.BackLemmas.{bind_some, bytes_behind, bytes_before, guard_false}
+use Rattle.bay_ber.proofs.BackLemmas.{bind_some, some_is, bytes_behind, bytes_before, guard_false}
 use Rattle.bay_mms.specs.declared.response.Agreed.{Agreed}
 use Rattle.bay_mms.specs.Grammar.{initiate_in}
 use Rattle.bay_mms.proofs.InitiateLemmas.{initiate_back}
-use Rattle.bay_mms.specs.Spelled.{◌>>◌}
+use Rattle.bay_base.specs.Results.{◌>>=◌ as ◌>>◌}
 use Rattle.bay_assoc.specs.declared.fault.AssocFault.{AssocFault}
 use Rattle.bay_assoc.specs.declared.fault.AssocFault.TheVariants as fault
 use Rattle.bay_assoc.specs.declared.hearing.Accepted.{Accepted}
@@ -27,9 +27,6 @@ use Rattle.bay_assoc.specs.SpelledSession.{IsSize, SpellUnits, Framed, user_data
 use Rattle.bay_assoc.specs.SpelledValues.{IsUser, IsAssociate}
 use Rattle.bay_assoc.specs.SpelledHearing.{IsHeard}
 use Rattle.bay_assoc.proofs.ValueBackLemmas.{user_back, request_back, associate_back, release_back}
-
-some_is : {A : Type 0} (x y : A) → Some x ≡ Some y → x ≡ y
-some_is x y e = cc
 
 -- ---- units
 
@@ -293,10 +290,6 @@ pub spdu_spelled : (octets : List ℕ) (s : Spdu) → IsBytes octets → spdu_in
 spdu_spelled octets s b e = (spdu_back octets s b e).0
 
 -- ---- what is heard
-
-bind_ok : {A B : Type 0} (r : Result A AssocFault) (f : A → Result B AssocFault) (y : B) → (r >> f) ≡ Ok y → (x : A) × (r ≡ Ok x) × (f x ≡ Ok y)
-bind_ok (Ok x) f y e = (x, refl, e)
-bind_ok (Err g) f y e = absurd cc
 
 wanted_is : {A : Type 0} (f : AssocFault) (o : Option A) (x : A) → wanted f o ≡ Ok x → o ≡ Some x
 wanted_is f (Some y) x e = cc

@@ -2,7 +2,7 @@
 use Rattle.std.proofs.Common.{◌≡◌, ℕ, true, false, eqb, ltb, List, [], ◌∷◌, ◌++◌, length, filter, take, drop, Option, Some, None, refl, sym, ap, ◌∙◌, arith}
 use Rattle.std.proofs.lemmas.Bool.{eq-eqb, ne_eqb, le-ltb}
 use Rattle.std.proofs.lemmas.List.{length-append, take_at, drop_at}
-use Rattle.bay_ber.specs.Options.{◌>>=◌}
+use Rattle.bay_base.specs.Options.{◌>>=◌}
 use Rattle.bay_assoc.specs.Session.{Unit, size_at, counted_at, unit_at, onto, units_in, only_one, unit_in, is_user, users_of, users_in, Spdu, connect, accept, finish, disconnect, abort, transfer, spdu_of, is_transfer, spdu_in}
 use Rattle.bay_assoc.specs.SpelledSession.{IsSize, SpellUnits, Framed, IsSpdu}
 use Rattle.bay_assoc.proofs.UnitLemmas.{no_units, units_step}

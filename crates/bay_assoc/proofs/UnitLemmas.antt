@@ -3,7 +3,7 @@ use Rattle.std.proofs.Common.{◌≡◌, ℕ, zero, suc, ◌<◌, ◌≤◌, Boo
 use Rattle.std.proofs.lemmas.Bool.{eqb-true}
 use Rattle.std.proofs.lemmas.List.{length-drop, append-nil}
 use Rattle.std.proofs.lemmas.List.Elements.{filter-append}
-use Rattle.bay_ber.specs.Options.{◌>>=◌}
+use Rattle.bay_base.specs.Options.{◌>>=◌}
 use Rattle.bay_ber.proofs.BackLemmas.{bind_some}
 use Rattle.bay_assoc.specs.Session.{Unit, long_size, size_at, counted_at, unit_at, onto, with_front, units_within, units_in, only_one, unit_in, is_user, Users, missing, users_of, users_in}
 use Rattle.bay_assoc.specs.SessionReading.{then_user, with_user}

@@ -5,23 +5,22 @@ use Rattle.std.specs.Str.{bytes_eq}
 use Rattle.std.proofs.lemmas.Bool.{eqb-true, ltb-true, ltb-false}
 use Rattle.std.proofs.lemmas.Slice.Eq.{bytes_eq-Decides}
 use Rattle.bay_ber.specs.declared.tag.Tag.{Tag}
-use Rattle.bay_ber.specs.Options.{◌>>=◌}
+use Rattle.bay_base.specs.Options.{◌>>=◌}
 use Rattle.bay_ber.specs.Content.{IsInteger, integer_in}
 use Rattle.bay_ber.specs.Tags.{same_tag}
 use Rattle.bay_ber.specs.Values.{Part, value, SpellAll, value_in, few_in, all_of, each_in, known_in, under}
 use Rattle.bay_ber.proofs.ReadLemmas.{IsBytes}
 use Rattle.bay_ber.proofs.ContentLemmas.{both}
-use Rattle.bay_ber.proofs.BackLemmas.{bind_some, AllBytes, tag_is, guard_true, guard_false, under_is, integer_back, one_back, one_under, few_back, known_back, each_back}
+use Rattle.bay_ber.proofs.BackLemmas.{bind_some, some_is, AllBytes, tag_is, guard_true, guard_false, under_is, integer_back, one_back, one_under, few_back, known_back, each_back}
+use Rattle.bay_mms.specs.Spelled.{AreEach}
+use Rattle.bay_mms.proofs.EachLemmas.{each_listed}
 use Rattle.bay_mms.specs.Tags.{context, constructed, sequence, int_tag}
 use Rattle.bay_assoc.specs.Tags.{oid_tag, set_tag, external_tag, application, acse_syntax, mms_syntax, ber_syntax, mms_application}
 use Rattle.bay_assoc.specs.declared.presentation.Context.{Context}
 use Rattle.bay_assoc.specs.Presentation.{integer_under, is_ber, offers_ber, context_id, context_with, context_of, context_as, are_distinct, limited, contexts_in, Carried, carried_as, carried_of, carried_in, carried_under, user_in, Connect, selector_of, selector_as, connect_with, connect_of, normal_in, normal_as, mode_of, mode_as, request_of, request_in}
 use Rattle.bay_assoc.specs.Acse.{application_of, application_as, information_as, associate_of, associate_in, release_in}
-use Rattle.bay_assoc.specs.SpelledValues.{IsCarried, IsListed, IsUser, IsContext, AreContexts, IsOffer, IsSelectors, IsNormal, IsMode, IsRequest, IsAssociate, IsRelease}
+use Rattle.bay_assoc.specs.SpelledValues.{IsCarried, IsListed, IsUser, IsContext, IsOffer, IsSelectors, IsNormal, IsMode, IsRequest, IsAssociate, IsRelease}
 use Rattle.bay_assoc.proofs.ValueLemmas.{any_map}
-
-some_is : {A : Type 0} (x y : A) → Some x ≡ Some y → x ≡ y
-some_is x y e = cc
 
 -- an integer under its tag
 pub number_back : (p : Part) (z : ℤ) → integer_under p ≡ Some z → (number : List ℕ) × (p ≡ value int_tag number) × IsInteger number z
@@ -210,24 +209,6 @@ context_back p c b e =
     let f = few_back y.0 x.0 (subst IsBytes (ap (λ (q : Part). q.content) same) b) y.2 in
     (y.0, same, context_parts y.0 x.0 c f.0 f.1 x.2)
 
-record Contexts (parts : List Part) (contexts : List Context) : Type 0 where
-  lists : List (List ℕ)
-  are : parts ≡ map (value sequence) lists
-  each : AreContexts lists contexts
-
-contexts_back : (parts : List Part) (contexts : List Context) → AllBytes parts → all_of context_as parts ≡ Some contexts → Contexts parts contexts
-contexts_back [] contexts b e = record { lists = []; are = refl; each = subst (AreContexts []) (some_is [] contexts e) tt }
-contexts_back (p ∷ parts) contexts b e =
-    let x = bind_some (context_as p) (λ c. all_of context_as parts >>= λ cs. Some (c ∷ cs)) contexts e in
-    let y = bind_some (all_of context_as parts) (λ cs. Some (x.0 ∷ cs)) contexts x.2 in
-    let first = context_back p x.0 b.0 x.1 in
-    let more = contexts_back parts y.0 b.1 y.1 in
-    record {
-      lists = first.0 ∷ more.lists;
-      are = ap (λ (q : Part). q ∷ parts) first.1 ∙ ap (λ (ps : List Part). value sequence first.0 ∷ ps) more.are;
-      each = subst (AreContexts (first.0 ∷ more.lists)) (some_is (x.0 ∷ y.0) contexts y.2) (first.2, more.each);
-    }
-
 limits_back : (given contexts : List Context) → limited given ≡ Some contexts → (given ≡ contexts) × (length contexts ≤ 16) × (are_distinct contexts ≡ true)
 limits_back given contexts e =
     let g = guard_false_then (ltb 16 (length given)) _ contexts e in
@@ -244,12 +225,12 @@ unfolding contexts_in
 offer_back octets contexts b e =
     let x = bind_some (each_in context_as octets) limited contexts e in
     let each = each_back context_as octets x.0 b x.1 in
-    let lists = contexts_back each.parts x.0 each.bytes each.all in
+    let lists = each_listed context_as (value sequence) IsContext context_back each.parts x.0 each.bytes each.all in
     let limit = limits_back x.0 contexts x.2 in
     record {
       lists = lists.lists;
       parts = subst (SpellAll octets) lists.are each.spelled;
-      each = subst (AreContexts lists.lists) limit.0 lists.each;
+      each = subst (AreEach IsContext lists.lists) limit.0 lists.each;
       few = limit.1;
       distinct = limit.2;
     }

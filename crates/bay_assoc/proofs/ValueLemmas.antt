@@ -3,18 +3,19 @@ use Rattle.std.proofs.Common.{◌≡◌, ℕ, ℤ, pos, ◌<◌, ◌≤◌, ◌&
 use Rattle.std.specs.List.{list_any}
 use Rattle.std.specs.Str.{bytes_eq}
 use Rattle.std.proofs.lemmas.Bool.{lt-ltb, le-ltb}
-use Rattle.bay_ber.specs.Options.{◌>>=◌}
+use Rattle.bay_base.specs.Options.{◌>>=◌}
 use Rattle.bay_ber.specs.Content.{IsInteger}
 use Rattle.bay_ber.specs.Values.{Part, value, SpellAll, at_most_five, few_in, all_of}
 use Rattle.bay_ber.proofs.ContentLemmas.{integer_again}
 use Rattle.bay_ber.proofs.ListingLemmas.{values_again}
 use Rattle.bay_ber.proofs.BackLemmas.{one_read, few_read, known_read}
+use Rattle.bay_mms.proofs.EachLemmas.{each_read}
 use Rattle.bay_mms.specs.Tags.{context, constructed, sequence, int_tag}
 use Rattle.bay_assoc.specs.Tags.{oid_tag, set_tag, external_tag, application, mms_syntax, ber_syntax, mms_application}
 use Rattle.bay_assoc.specs.declared.presentation.Context.{Context}
 use Rattle.bay_assoc.specs.Presentation.{integer_under, is_ber, offers_ber, context_id, context_with, context_as, contexts_in, Carried, carried_as, carried_of, carried_in, carried_under, user_in, Connect, selector_of, selector_as, connect_with, connect_of, normal_in, normal_as, mode_as, request_in}
 use Rattle.bay_assoc.specs.Acse.{application_as, information_as, associate_in, release_in}
-use Rattle.bay_assoc.specs.SpelledValues.{IsName, IsCarried, IsListed, IsUser, IsContext, AreContexts, IsOffer, IsSelectors, IsNormal, IsMode, IsRequest, IsAssociate, IsRelease}
+use Rattle.bay_assoc.specs.SpelledValues.{IsName, IsCarried, IsListed, IsUser, IsContext, IsOffer, IsSelectors, IsNormal, IsMode, IsRequest, IsAssociate, IsRelease}
 
 -- ---- integers
 
@@ -78,16 +79,10 @@ context_read : (octets : List ℕ) (c : Context) → IsContext octets c → cont
 unfolding context_as
 context_read octets c x = rw (few_read octets (value int_tag x.number ∷ value oid_tag x.name ∷ value sequence x.list ∷ []) x.parts) (with_read octets c x)
 
-contexts_read : (lists : List (List ℕ)) (contexts : List Context) → AreContexts lists contexts → all_of context_as (map (value sequence) lists) ≡ Some contexts
-contexts_read [] [] are = refl
-contexts_read [] (c ∷ contexts) are = absurd are
-contexts_read (octets ∷ lists) [] are = absurd are
-contexts_read (octets ∷ lists) (c ∷ contexts) are = rw (context_read octets c are.0, contexts_read lists contexts are.1) refl
-
 offer_read : (octets : List ℕ) (contexts : List Context) → IsOffer octets contexts → contexts_in octets ≡ Some contexts
 unfolding contexts_in
 offer_read octets contexts o =
-    rw (values_again octets (map (value sequence) o.lists) o.parts, contexts_read o.lists contexts o.each, le-ltb 16 (length contexts) o.few, o.distinct) refl
+    rw (values_again octets (map (value sequence) o.lists) o.parts, each_read context_as (value sequence) IsContext context_read o.lists contexts o.each, le-ltb 16 (length contexts) o.few, o.distinct) refl
 
 -- ---- the request for a connection
 

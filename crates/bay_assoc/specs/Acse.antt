@@ -1,7 +1,7 @@
 -- Association control (ISO 8650-1 9), by the values that octets are.
 use Rattle.std.specs.Prelude.{List, [], ◌∷◌, ℕ, Option, Some, None, if◌then◌else◌}
 use Rattle.std.specs.Str.{bytes_eq}
-use Rattle.bay_ber.specs.Options.{◌>>=◌}
+use Rattle.bay_base.specs.Options.{◌>>=◌}
 use Rattle.bay_ber.specs.Values.{Part, value_in, few_in, known_in, under}
 use Rattle.bay_mms.specs.Tags.{constructed}
 use Rattle.bay_assoc.specs.Tags.{oid_tag, external_tag, application, mms_application}

@@ -2,7 +2,7 @@
 use Rattle.std.specs.Prelude.{ℕ, ℤ, pos, negsuc, ◌==◌, ◌&&◌, Bool, true, not, List, [], ◌∷◌, length, Option, Some, None, nat_lt, if◌then◌else◌}
 use Rattle.std.specs.List.{list_any}
 use Rattle.std.specs.Str.{bytes_eq}
-use Rattle.bay_ber.specs.Options.{◌>>=◌}
+use Rattle.bay_base.specs.Options.{◌>>=◌}
 use Rattle.bay_ber.specs.declared.tag.Tag.{Tag}
 use Rattle.bay_ber.specs.Tags.{same_tag}
 use Rattle.bay_ber.specs.Content.{integer_in}

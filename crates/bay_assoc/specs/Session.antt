@@ -1,7 +1,7 @@
 -- Session protocol data units (X.225 8): an identifier, a length, and parameters, which are spelled
 -- likewise.
 use Rattle.std.specs.Prelude.{ℕ, zero, suc, ◌+◌, ◌*◌, ◌==◌, ◌&&◌, Bool, false, List, [], ◌∷◌, ◌++◌, length, take, drop, filter, Option, Some, None, option_map, nat_lt, if◌then◌else◌}
-use Rattle.bay_ber.specs.Options.{◌>>=◌}
+use Rattle.bay_base.specs.Options.{◌>>=◌}
 
 -- an identifier and the octets that the length behind it counts: an SPDU, a parameter or a group of
 -- parameters

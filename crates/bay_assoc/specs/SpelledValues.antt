@@ -5,6 +5,7 @@ use Rattle.std.specs.List.{list_any}
 use Rattle.std.specs.Str.{bytes_eq}
 use Rattle.bay_ber.specs.Content.{IsInteger}
 use Rattle.bay_ber.specs.Values.{Part, value, SpellAll, is_known}
+use Rattle.bay_mms.specs.Spelled.{AreEach}
 use Rattle.bay_mms.specs.Tags.{context, constructed, sequence, int_tag}
 use Rattle.bay_assoc.specs.Tags.{oid_tag, set_tag, external_tag, application, acse_syntax, mms_syntax, ber_syntax, mms_application}
 use Rattle.bay_assoc.specs.declared.presentation.Context.{Context}
@@ -54,18 +55,11 @@ pub record IsContext (octets : List ℕ) (c : Context) : Type 0 where
   pub is_acse : c.is_acse ≡ (list_any (λ t. bytes_eq t ber_syntax) transfers && bytes_eq name acse_syntax)
   pub is_mms : c.is_mms ≡ (list_any (λ t. bytes_eq t ber_syntax) transfers && bytes_eq name mms_syntax)
 
--- Each of the octets offers a context.
-abbrev pub AreContexts : List (List ℕ) → List Context → Type 0
-AreContexts [] [] = Unit {0}
-AreContexts [] (c ∷ contexts) = ⊥
-AreContexts (octets ∷ lists) [] = ⊥
-AreContexts (octets ∷ lists) (c ∷ contexts) = IsContext octets c × AreContexts lists contexts
-
 -- The octets offer at most 16 contexts, no two of one identifier.
 pub record IsOffer (octets : List ℕ) (contexts : List Context) : Type 0 where
   pub lists : List (List ℕ)
   pub parts : SpellAll octets (map (value sequence) lists)
-  pub each : AreContexts lists contexts
+  pub each : AreEach IsContext lists contexts
   pub few : length contexts ≤ 16
   pub distinct : are_distinct contexts ≡ true
 

@@ -31,6 +31,7 @@ FeedsFrom (Going link rest) t piece used (Some indication) = Comes t piece used 
 FeedsFrom Over t piece used answer = (used ≡ 0) × (answer ≡ Some ends)
 FeedsFrom Broken t piece used answer = ⊥
 
+-- The same for a connection: what its stream left decides.
 abbrev pub Feeds : Talk → List ℕ → ℕ → Option Indication → Type 0
 Feeds t piece used answer = FeedsFrom t.stream.left t piece used answer
 

@@ -18,9 +18,11 @@ AreJoined (Going link rest) phase = IfSome (link_of phase) (λ _. IsSome link.si
 AreJoined Over phase = phase ≡ phases.Over
 AreJoined Broken phase = ⊥
 
+-- The stream and the association of a connection fit each other.
 abbrev pub IsJoined : Talk → Type 0
 IsJoined t = AreJoined t.stream.left t.phase
 
+-- what the octets of a line left
 abbrev pub talk_of : Line → Talk
 talk_of l = record { stream = l.transport.stream; phase = l.assoc }
 
@@ -28,9 +30,11 @@ talk_of l = record { stream = l.transport.stream; phase = l.assoc }
 abbrev pub pdu_of : Line → List ℕ
 pdu_of l = drop (length l.transport.shown - l.pdu) l.transport.shown
 
+-- a line as its user sees it
 abbrev pub client_of : Line → Client
 client_of l = record { talk = talk_of l; pdu = pdu_of l }
 
+-- What holds of a line between pieces.
 pub record IsKept (l : Line) : Type 0 where
   pub within : l.pdu ≤ length l.transport.shown
   pub joined : IsJoined (talk_of l)
@@ -53,6 +57,7 @@ TakesMemory got.Ended = ⊥
 abbrev pub Tells : Talk → Doing → Option Indication → Talk → Type 0
 Tells old doing heard new = told old.stream (doing ∷ []) (agreed old.stream) old.phase ≡ record { indications = option_to_list heard; left = new }
 
+-- The same where the transport completed something; else nothing is heard, and nothing changes.
 abbrev pub TellsOf : Talk → Option Doing → Option Indication → Talk → Type 0
 TellsOf old None heard new = (heard ≡ None) × (new ≡ old)
 TellsOf old (Some doing) heard new = Tells old doing heard new

@@ -24,6 +24,7 @@ pub record Terms : Type 0 where
   pub size : Option ℕ
   pub phase : Phase
 
+-- the terms on which something can be answered now
 abbrev pub terms_of : Talk → Terms
 terms_of t = record { size = agreed t.stream; phase = t.phase }
 
@@ -59,6 +60,7 @@ on_heard s (mms pdu) terms later = record { indications = tells terms pdu ∷ la
 on_heard s (released tsdu) terms later = record { indications = releases (sent terms.size tsdu) ∷ []; left = closed s }
 on_heard s aborted terms later = record { indications = ends ∷ []; left = closed s }
 
+-- what a TSDU comes to, as it is heard or refused, and then what is told later
 abbrev pub on_hearing : Option ℕ → Stream → Result (Hearing × Phase) AssocFault → (Phase → Told) → Told
 on_hearing size s (Ok x) later = on_heard s x.0 (record { size = size; phase = x.1 }) (later x.1)
 on_hearing size s (Err fault) later = record { indications = fails (unwrap_or (association_code fault) 0) ∷ []; left = closed s }
@@ -73,12 +75,15 @@ told s (Delivers tsdu ∷ later) size phase = on_hearing size s (hearing phase t
 told s (Ends ∷ later) size phase = record { indications = ends ∷ []; left = closed s }
 told s (Fails fault ∷ later) size phase = record { indications = fails (unwrap_or (transport_code fault) 0) ∷ []; left = closed s }
 
+-- what octets come to, and what they leave
 abbrev pub comes_to : Talk → List ℕ → Told
 comes_to t octets = told (after t.stream octets) (doings t.stream octets) (agreed t.stream) t.phase
 
+-- what octets come to
 abbrev pub indications : Talk → List ℕ → List Indication
 indications t octets = (comes_to t octets).indications
 
+-- what octets leave
 abbrev pub left_by : Talk → List ℕ → Talk
 left_by t octets = (comes_to t octets).left
 
@@ -87,5 +92,6 @@ abbrev pub sending_in : Option ℕ → Option Link → List ℕ → List ℕ
 sending_in size None pdu = []
 sending_in size (Some link) pdu = sent size (transfer_text (user_text link.contexts.mms pdu))
 
+-- what is sent of a PDU of MMS on these terms
 abbrev pub sending : Terms → List ℕ → List ℕ
 sending terms pdu = sending_in terms.size (link_of terms.phase) pdu

@@ -16,7 +16,7 @@ use Rattle.il_scan.specs.Scans.{Held, Scans, outputs_of, started}
 use Rattle.bay_connection.specs.Talk.{Talk}
 use Rattle.bay_device.specs.Device.{Ran, after_run, ending_at, inputs_of, point_value, ran_at, ran_of, scanned}
 use Rattle.bay_process.specs.Values.{measure_leaf, number_of_leaf, output_at, position_leaf, position_value, with_output, with_outputs}
-use Rattle.bay_process.specs.Layout.{Layout, layout_of, switches_of, IsBound, AreBound, AreKinded, AreMetersBound, AreMeterKinded}
+use Rattle.bay_process.specs.Layout.{Layout, layout_of, switches_of, IsBound, AreBound, AreLeafTyped, AreMetersBound, AreMetersLeafTyped}
 use Rattle.bay_device.specs.Meaning.{Halts}
 use Rattle.bay_nodes.specs.Names.{StatusNames, SwitchNames, switch_names}
 use Rattle.bay_process.specs.Names.{field_names}
@@ -29,17 +29,17 @@ use Rattle.bay_process.specs.declared.switch.BoundSwitch.{BoundSwitch}
 use Rattle.bay_process.proofs.FieldLemmas.{field-named}
 
 -- the values at the handles of bound switches and meters have the kinds that a step wants
-pub kinded : (layout : Layout) (writes : List Source) (bound : List BoundSwitch) → AreBound layout writes bound → AreKinded layout bound
-kinded layout writes bound all k d lt = (all k (get_or bound k d) (slice_get-get_or bound k d lt)).kinded
+pub leaf_typed : (layout : Layout) (writes : List Source) (bound : List BoundSwitch) → AreBound layout writes bound → AreLeafTyped layout bound
+leaf_typed layout writes bound all k d lt = (all k (get_or bound k d) (slice_get-get_or bound k d lt)).leaf_typed
 
-pub meters-kinded : (layout : Layout) (bound : List BoundMeter) → AreMetersBound layout bound → AreMeterKinded layout bound
-meters-kinded layout bound all k d lt = (all k (get_or bound k d) (slice_get-get_or bound k d lt)).kinded
+pub meters-leaf_typed : (layout : Layout) (bound : List BoundMeter) → AreMetersBound layout bound → AreMetersLeafTyped layout bound
+meters-leaf_typed layout bound all k d lt = (all k (get_or bound k d) (slice_get-get_or bound k d lt)).leaf_typed
 
 -- those of the interlocking values have their names
 pub interlocked : (layout : Layout) (writes : List Source) (bound : List BoundSwitch) → AreBound layout writes bound → AreInterlocked layout bound
 interlocked layout writes bound all k b here =
     let is = all k b here in
-    record { kinded = is.kinded; named = record { opening = ap (λ (n : SwitchNames). n.ena_opn) is.named; closing = ap (λ (n : SwitchNames). n.ena_cls) is.named } }
+    record { leaf_typed = is.leaf_typed; named = record { opening = ap (λ (n : SwitchNames). n.ena_opn) is.named; closing = ap (λ (n : SwitchNames). n.ena_cls) is.named } }
 
 -- what is read at handles is read by names
 module _ (connections : List (Option Talk)) (d : DeviceState) where

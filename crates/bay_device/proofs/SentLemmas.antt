@@ -1,6 +1,6 @@
 -- The PDU of MMS that is read in octets that are sent is the one that they send.
 use Rattle.std.proofs.Common.{◌≡◌, ◌≤◌, ◌<◌, ◌-◌, ℕ, pos, List, [], ◌∷◌, ◌++◌, length, Option, Some, None, IsSome, unwrap_or, refl, ap, sym, ◌∙◌, arith, append-nil, length-append}
-use Rattle.bay_ber.specs.Options.{◌>>=◌}
+use Rattle.bay_base.specs.Options.{◌>>=◌}
 use Rattle.bay_ber.specs.Values.{Part, under, value, value_in, values_in}
 use Rattle.bay_ber.specs.Writing.{element, integer_octets}
 use Rattle.bay_ber.specs.declared.tag.Tag.{Tag}

@@ -1,11 +1,11 @@
 -- The terms on which a PDU of a client is answered: a size of TPDUs is agreed, and one of PDUs, of
 -- at most 65,000 octets.
 use Rattle.std.proofs.Common.{◌≡◌, ◌≤◌, ℕ, ℤ, pos, negsuc, Bool, true, false, cond, nat_lt, min, List, [], ◌∷◌, ◌++◌, drop, Option, Some, None, Result, Ok, Err, IsSome, refl, arith, ◌==◌}
-use Rattle.bay_ber.specs.Options.{◌>>=◌}
+use Rattle.bay_base.specs.Options.{◌>>=◌}
 use Rattle.bay_mms.specs.declared.request.Proposal.{Proposal}
 use Rattle.bay_mms.specs.declared.response.Agreed.{Agreed}
 use Rattle.bay_mms.specs.Grammar.{initiate_in}
-use Rattle.bay_mms.specs.Spelled.{◌>>◌}
+use Rattle.bay_base.specs.Results.{◌>>=◌ as ◌>>◌}
 use Rattle.bay_transport.specs.declared.fault.TransportFault.{TransportFault}
 use Rattle.bay_transport.specs.declared.fault.TransportFault.TheVariants.{BadCotp}
 use Rattle.bay_transport.specs.declared.frame.Front.{Front}
@@ -13,8 +13,8 @@ use Rattle.bay_transport.specs.declared.frame.Front.TheVariants.{Begun, NoFrame,
 use Rattle.bay_transport.specs.declared.frame.Tpdu.{Tpdu}
 use Rattle.bay_transport.specs.declared.frame.Tpdu.TheVariants.{Request, Data, Release, Unknown}
 use Rattle.bay_transport.specs.Frame.{front_of, tpdu_of, cut}
-use Rattle.bay_transport.specs.Connect.{Connection}
-use Rattle.bay_transport.specs.Doings.{Doing, Answers, Delivers, Ends, Fails, Link, Left, Going, Over, Broken, Run, Event, Joins, Completes, Agrees, Closes, Refuses, connected as connected_event, data_event, kind_event, tpdu_event, event_of, link_after, on_event, at_rest, frames_run, run, Stream, doings, after}
+use Rattle.bay_transport.specs.Connect.{Confirmation}
+use Rattle.bay_transport.specs.Doings.{Doing, Answers, Delivers, Ends, Fails, TransportConnection, Left, Going, Over, Broken, Run, TpduEffect, Joins, Finishes, Agrees, Closes, Refuses, connected as connected_effect, data_effect, kind_effect, tpdu_effect, effect_of, connection_after, on_effect, at_rest, frames_run, run, Stream, doings, after}
 use Rattle.bay_transport.specs.Feeding.{agreed_from, agreed}
 use Rattle.bay_assoc.specs.declared.fault.AssocFault.{AssocFault}
 use Rattle.bay_assoc.specs.declared.fault.AssocFault.TheVariants as fault
@@ -34,33 +34,33 @@ use Rattle.bay_connection.specs.Talk.{Indication, Talk, Told, answers, tells, re
 -- ---- a TSDU comes where a size is agreed
 
 -- its data join a group or complete it
-abbrev Gathers : Event → Type 0
+abbrev Gathers : TpduEffect → Type 0
 Gathers (Joins group) = Unit {0}
-Gathers (Completes group) = Unit {0}
+Gathers (Finishes group) = Unit {0}
 Gathers (Agrees size reply) = ⊥
 Gathers Closes = ⊥
 Gathers (Refuses fault) = ⊥
 
-connected-not : (c : Result Connection TransportFault) → Gathers (connected_event c) → ⊥
+connected-not : (c : Result Confirmation TransportFault) → Gathers (connected_effect c) → ⊥
 connected-not (Ok c) h = h
 connected-not (Err fault) h = h
 
-data-sized : (size : Option ℕ) (group : List ℕ) (indicator : ℕ) (octets : List ℕ) → Gathers (data_event (record { size = size; group = group }) indicator octets) → IsSome size
+data-sized : (size : Option ℕ) (group : List ℕ) (indicator : ℕ) (octets : List ℕ) → Gathers (data_effect (record { size = size; group = group }) indicator octets) → IsSome size
 data-sized size group indicator [] h = absurd h
 data-sized (Some size) group indicator (mark ∷ octets) h = refl
 data-sized None group indicator (mark ∷ octets) h =
     absurd (elim (indicator == 2) as (λ b. Gathers (cond b (Refuses BadCotp) (Refuses BadCotp)) → ⊥) [ true ↦ λ k. k | false ↦ λ k. k ] h)
 
-kind-sized : (number : ℕ) (link : Link) (kind : Tpdu) (indicator : ℕ) (octets : List ℕ) → Gathers (kind_event number link kind indicator octets) → IsSome link.size
-kind-sized number link Request indicator octets h = absurd (connected-not _ h)
-kind-sized number link Data indicator octets h = data-sized link.size link.group indicator octets h
-kind-sized number link Release indicator octets h = absurd h
-kind-sized number link Unknown indicator octets h = absurd h
+kind-sized : (number : ℕ) (connection : TransportConnection) (kind : Tpdu) (indicator : ℕ) (octets : List ℕ) → Gathers (kind_effect number connection kind indicator octets) → IsSome connection.size
+kind-sized number connection Request indicator octets h = absurd (connected-not _ h)
+kind-sized number connection Data indicator octets h = data-sized connection.size connection.group indicator octets h
+kind-sized number connection Release indicator octets h = absurd h
+kind-sized number connection Unknown indicator octets h = absurd h
 
-tpdu-sized : (number : ℕ) (link : Link) (tpdu : List ℕ) → Gathers (tpdu_event number link tpdu) → IsSome link.size
-tpdu-sized number link [] h = absurd h
-tpdu-sized number link (indicator ∷ []) h = absurd h
-tpdu-sized number link (indicator ∷ code ∷ octets) h = kind-sized number link (tpdu_of code) indicator octets h
+tpdu-sized : (number : ℕ) (connection : TransportConnection) (tpdu : List ℕ) → Gathers (tpdu_effect number connection tpdu) → IsSome connection.size
+tpdu-sized number connection [] h = absurd h
+tpdu-sized number connection (indicator ∷ []) h = absurd h
+tpdu-sized number connection (indicator ∷ code ∷ octets) h = kind-sized number connection (tpdu_of code) indicator octets h
 
 -- each TSDU of these doings comes where a size is agreed, before them or among them
 abbrev AreSized : Option ℕ → List Doing → Type 0
@@ -70,26 +70,26 @@ AreSized size (Delivers tsdu ∷ ds) = IsSome size × AreSized size ds
 AreSized size (Ends ∷ ds) = Unit {0}
 AreSized size (Fails fault ∷ ds) = Unit {0}
 
-rest-sized : (front : Front) (link : Link) (rest : List ℕ) → AreSized link.size (at_rest front link rest).doings
-rest-sized Begun link rest = tt
-rest-sized NoFrame link rest = tt
-rest-sized (Whole frame) link rest = tt
+rest-sized : (front : Front) (connection : TransportConnection) (rest : List ℕ) → AreSized connection.size (at_rest front connection rest).doings
+rest-sized Begun connection rest = tt
+rest-sized NoFrame connection rest = tt
+rest-sized (Whole frame) connection rest = tt
 
-event-sized : (event : Event) (link : Link) (later : Run) → (Gathers event → IsSome link.size) → AreSized (link_after event link).size later.doings → AreSized link.size (on_event event later).doings
-event-sized (Joins group) link later some rest = rest
-event-sized (Completes group) link later some rest = (some tt, rest)
-event-sized (Agrees size reply) link later some rest = rest
-event-sized Closes link later some rest = tt
-event-sized (Refuses fault) link later some rest = tt
+effect-sized : (effect : TpduEffect) (connection : TransportConnection) (later : Run) → (Gathers effect → IsSome connection.size) → AreSized (connection_after effect connection).size later.doings → AreSized connection.size (on_effect effect later).doings
+effect-sized (Joins group) connection later some rest = rest
+effect-sized (Finishes group) connection later some rest = (some tt, rest)
+effect-sized (Agrees size reply) connection later some rest = rest
+effect-sized Closes connection later some rest = tt
+effect-sized (Refuses fault) connection later some rest = tt
 
-frames-sized : (number : ℕ) (link : Link) (frames : List (List ℕ)) (rest : List ℕ) → AreSized link.size (frames_run number link frames rest).doings
-frames-sized number link [] rest = rest-sized (front_of rest) link rest
-frames-sized number link (frame ∷ frames) rest =
-    let next : Link = link_after (event_of number link frame) link in
-    event-sized (event_of number link frame) link (frames_run number next frames rest) (tpdu-sized number link (drop 4 frame)) (frames-sized number next frames rest)
+frames-sized : (number : ℕ) (connection : TransportConnection) (frames : List (List ℕ)) (rest : List ℕ) → AreSized connection.size (frames_run number connection frames rest).doings
+frames-sized number connection [] rest = rest-sized (front_of rest) connection rest
+frames-sized number connection (frame ∷ frames) rest =
+    let next : TransportConnection = connection_after (effect_of number connection frame) connection in
+    effect-sized (effect_of number connection frame) connection (frames_run number next frames rest) (tpdu-sized number connection (drop 4 frame)) (frames-sized number next frames rest)
 
 left-sized : (number : ℕ) (left : Left) (octets : List ℕ) → AreSized (agreed_from left) (run number left octets).doings
-left-sized number (Going link rest) octets = frames-sized number link (cut (rest ++ octets)).frames (cut (rest ++ octets)).rest
+left-sized number (Going connection rest) octets = frames-sized number connection (cut (rest ++ octets)).frames (cut (rest ++ octets)).rest
 left-sized number Over octets = tt
 left-sized number Broken octets = tt
 

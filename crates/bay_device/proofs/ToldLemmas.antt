@@ -1,7 +1,7 @@
 -- What events and their answers tell is what the device's definitions say of them.
 use Rattle.std.specs.Prelude.{replicate}
 use Rattle.std.proofs.Common.{◌≡◌, ◌≤◌, ℕ, zero, suc, ℤ, Bool, true, false, cond, nat_lt, List, [], ◌∷◌, ◌++◌, length, map, slice_get, slice_set, Option, None, Some, IsSome, unwrap_or, Result, Ok, Err, refl, ap, ap₂, sym, ◌∙◌, subst, arith, append-nil, append_assoc}
-use Rattle.bay_ber.specs.Options.{◌>>=◌}
+use Rattle.bay_base.specs.Options.{◌>>=◌}
 use Rattle.bay_ber.specs.Values.{Part, only_one, under, value_in, values_in}
 use Rattle.bay_ber.proofs.ListingLemmas.{no_values}
 use Rattle.bay_nodes.specs.declared.switch.Switch.{Switch}

@@ -4,7 +4,7 @@ ghost use Rattle.std.specs.Prelude.{◌≡◌, ◌<◌, List, Option, Some, None
 ghost use Rattle.il_scan.specs.Scans.{Scans, outputs_of, read_only, type_of_point};
 ghost use Rattle.bay_connection.specs.Talk.{Talk};
 ghost use Rattle.bay_nodes.specs.declared.switch.Switch.{Switch};
-ghost use Rattle.bay_process.specs.Layout.{AreKinded, AreMeterKinded, layout_of, switches_of};
+ghost use Rattle.bay_process.specs.Layout.{AreLeafTyped, AreMetersLeafTyped, layout_of, switches_of};
 ghost use Rattle.bay_process.specs.Scans.{bound_value};
 ghost use Rattle.bay_process.specs.Sources.{type_of_source};
 ghost use Rattle.bay_device.specs.Device.{advanced, contact_taken, ended_at, ran_at, reached_at, scanned};
@@ -24,7 +24,7 @@ use crate::state::DeviceState;
 use bay_config::bay::{MeterField, Source};
 use bay_process::meter::BoundMeter;
 use bay_process::scan::ReadPoints;
-use bay_process::values::{Truths, same_truth};
+use bay_process::values::Truths;
 use bay_services::bay::ServedBay;
 use bay_tree::leaf::Dbpos;
 use il_scan::machine::Machine;
@@ -49,8 +49,8 @@ fn run_program(
     reads: &[Source],
     now: u64,
 ) -> u32
-    requires kinded { AreKinded (layout_of bay.now.tree) bay.now.switches }
-    requires metered { AreMeterKinded (layout_of bay.now.tree) meters.now }
+    requires leaf_typed { AreLeafTyped (layout_of bay.now.tree) bay.now.switches }
+    requires metered { AreMetersLeafTyped (layout_of bay.now.tree) meters.now }
     requires typed { map type_of_source reads.now ≡ map type_of_point (read_only machine.old.image.points) }
     ensures { Scans machine.old (map (bound_value bay.now.tree bay.now.switches inputs.now meters.now) reads.now) now machine.new result (outputs_of machine.new.image.points machine.new.slots) }
 {
@@ -102,7 +102,7 @@ impl DeviceState {
             ≡ contact_taken now switch s position (state_view connections self.old) }
     {
         let changed = process::contact(&mut self.bay, now, switch, position);
-        self.is_stale |= changed;
+        self.is_stale |= value != before;
         if process::reach(&mut self.bay, switch, position) {
             reached(&mut self.due)
         } else {
@@ -136,9 +136,8 @@ impl DeviceState {
             None => return Err(StepFault::NoSuchPoint),
         };
         let over = self.advance(now);
-        let changed = !same_truth(value, before);
         self.input_values.set(input, value);
-        self.is_stale |= changed;
+        self.is_stale |= value != before;
         Ok(over)
     }
 
@@ -158,7 +157,7 @@ impl DeviceState {
         };
         let over = self.advance(now);
         let changed = process::measure(&mut self.bay, now, meter, rows, field, value);
-        self.is_stale |= changed;
+        self.is_stale |= value != before;
         Ok(over)
     }
 

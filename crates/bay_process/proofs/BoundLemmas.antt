@@ -75,6 +75,6 @@ are-bound bay nodes layout writes rows named placed same long k b h =
           r.named ∙ ap (λ m. names_by_nodes m n.0.control n.0.interlocking) node ∙ ap (λ m. names_by_nodes (node_of bay.switches k b.switch) m n.0.interlocking) own.control_named.named
           ∙ ap (names_by_nodes (node_of bay.switches k b.switch) (control_of k)) own.interlocking_named.named
           ∙ ap (λ ss. switch_names ss k b.switch) (sym all);
-      kinded = r.kinded;
+      leaf_typed = r.leaf_typed;
       outputs = w.outputs_are ∙ ap (outputs_at writes) none;
     }

@@ -38,9 +38,9 @@ pub record AreEnabling (layout : Layout) (k : ℕ) (rows : SwitchRows) : Type 0 
   pub opening : status_in layout rows.ena_opn ≡ opening_of k
   pub closing : status_in layout rows.ena_cls ≡ closing_of k
 
--- and their kinds
+-- and their types
 pub record IsInterlocked (layout : Layout) (k : ℕ) (rows : SwitchRows) : Type 0 where
-  pub kinded : AreSwitchRows layout rows
+  pub leaf_typed : AreSwitchRows layout rows
   pub named : AreEnabling layout k rows
 
 -- those of each switch

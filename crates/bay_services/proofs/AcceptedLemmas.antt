@@ -3,7 +3,7 @@ use Rattle.std.proofs.Common.{◌≡◌, ◌<◌, ◌≤◌, ℕ, zero, suc, Boo
 use Rattle.std.proofs.lemmas.Bool.{leb-true}
 use Rattle.std.specs.Prelude.{pos, is_ok, is_some, option_to_list}
 use Rattle.std.specs.Str.{bytes_eq}
-use Rattle.bay_ber.specs.Options.{◌>>=◌}
+use Rattle.bay_base.specs.Options.{◌>>=◌}
 use Rattle.bay_ber.specs.Spelling.{Spells}
 use Rattle.bay_ber.specs.Tags.{same_tag}
 use Rattle.bay_ber.specs.Values.{Part, SpellAll, under, value, value_in, values_in}

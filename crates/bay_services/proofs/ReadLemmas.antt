@@ -12,7 +12,7 @@ use Rattle.bay_mms.specs.Nodes.{data_at}
 use Rattle.bay_mms.specs.RequestViews.{naming}
 use Rattle.bay_mms.specs.Requests.{Naming}
 use Rattle.bay_mms.specs.Responses.{failure_result}
-use Rattle.bay_mms.specs.declared.request.Name.{Name}
+use Rattle.bay_mms.specs.declared.request.ObjectName.{ObjectName}
 use Rattle.bay_tree.specs.Rows.{name_at}
 use Rattle.bay_services.specs.Reads.{Reading, read_all, read_one, read_part, read_row, read_target, select_done, selected_text}
 use Rattle.bay_services.specs.Rows.{row_named}
@@ -66,7 +66,7 @@ grows_all c [] r = omega arith
 grows_all c (name ∷ names) r = omega (arith, grows_row c r (row_named r.bay name), grows_all c names (read_one c name r))
 
 -- a variable whose results are too long makes all too long
-pub long_all : (c : Client) (names : List Name) (i : ℕ) (d : Name) (first r : Reading) → read_all c (map naming names) first ≡ read_all c (map naming (drop i names)) r → i < length names
+pub long_all : (c : Client) (names : List ObjectName) (i : ℕ) (d : ObjectName) (first r : Reading) → read_all c (map naming names) first ≡ read_all c (map naming (drop i names)) r → i < length names
     → 4294967296 ≤ length (read_one c (naming (get_or names i d)) r).results → 4294967296 ≤ length (read_all c (map naming names) first).results
 long_all c names i d first r so within long =
     let name = naming (get_or names i d) in

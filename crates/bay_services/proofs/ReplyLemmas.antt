@@ -9,8 +9,8 @@ use Rattle.bay_ber.proofs.SizeLemmas.{length-element-is}
 use Rattle.bay_mms.proofs.PageLemmas.{more_than}
 use Rattle.bay_mms.specs.Tags.{constructed, int_tag}
 use Rattle.bay_mms.specs.Responses.{error_text, read_text, write_text}
-use Rattle.bay_mms.specs.declared.fault.WriteFault.{WriteFault}
-use Rattle.bay_mms.specs.declared.fault.WriteFault.TheVariants.{TooLong, OutOfMemory}
+use Rattle.bay_mms.specs.declared.fault.EncodeFault.{EncodeFault}
+use Rattle.bay_mms.specs.declared.fault.EncodeFault.TheVariants.{TooLong, OutOfMemory}
 use Rattle.bay_mms.specs.declared.response.ErrorClass.TheVariants.{Resource}
 use Rattle.bay_mms.specs.Writing.{Adds, written}
 use Rattle.bay_services.specs.Answers.{Answered, read_done, responded, said, within, write_done}
@@ -83,11 +83,11 @@ pub mapped : (r : Result (Unit {0}) AllocError) (P R : Type 0) → OnOk r P → 
 mapped (Ok done) P R p f = f p
 mapped (Err e) P R p f = tt
 
-pub added : (r : Result (Unit {0}) WriteFault) (old new text : List ℕ) (P : Type 0) → Adds old r new text → (new ≡ old ++ text → P) → OnOk r P
+pub added : (r : Result (Unit {0}) EncodeFault) (old new text : List ℕ) (P : Type 0) → Adds old r new text → (new ≡ old ++ text → P) → OnOk r P
 added (Ok done) old new text P adds f = f adds
 added (Err e) old new text P adds f = tt
 
-pub too_long : (r : Result (Unit {0}) WriteFault) (old new text : List ℕ) (P : Type 0) → Adds old r new text → (4294967296 ≤ length text → P) → IfErr r (λ fault. fault ≡ TooLong → P)
+pub too_long : (r : Result (Unit {0}) EncodeFault) (old new text : List ℕ) (P : Type 0) → Adds old r new text → (4294967296 ≤ length text → P) → IfErr r (λ fault. fault ≡ TooLong → P)
 too_long (Ok done) old new text P adds f = tt
 too_long (Err TooLong) old new text P adds f = λ is. f adds
 too_long (Err OutOfMemory) old new text P adds f = λ is. absurd cc
@@ -104,7 +104,7 @@ over_written text long =
     let test : nat_lt (length text) 4294967296 ≡ false = grind (arith, nat_tests) in
     rw test refl
 
-pub fault_told : (e : WriteFault) (text : List ℕ) → (e ≡ TooLong → 4294967296 ≤ length text) → (e ≡ OutOfMemory) ⊎ (written text ≡ Err e)
+pub fault_told : (e : EncodeFault) (text : List ℕ) → (e ≡ TooLong → 4294967296 ≤ length text) → (e ≡ OutOfMemory) ⊎ (written text ≡ Err e)
 fault_told TooLong text long = inr (over_written text (long refl))
 fault_told OutOfMemory text long = inl refl
 
@@ -119,7 +119,7 @@ response_more id results =
     let number = element int_tag (integer_octets (pos id)) in
     omega (arith, element_more (constructed 1) results, element_more (constructed 4) one, length-append number four, element_more (constructed 1) (number ++ four))
 
-pub done : (r : Result (Vec ℕ Global) WriteFault) (P : Type 0) → is_ok r ≡ true → OnOk r P → P
+pub done : (r : Result (Vec ℕ Global) EncodeFault) (P : Type 0) → is_ok r ≡ true → OnOk r P → P
 done (Ok x) P is p = p
 done (Err e) P is p = absurd cc
 

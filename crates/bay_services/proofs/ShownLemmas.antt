@@ -5,11 +5,11 @@ use Rattle.std.proofs.lemmas.Slice.Eq.{bytes_eq-Decides}
 use Rattle.bay_tree.proofs.NamedLemmas.{same_text}
 use Rattle.bay_nodes.specs.Names.{control_names}
 use Rattle.bay_tree.specs.Rows.{with_leaf_of}
-use Rattle.bay_tree.specs.declared.leaf.Kind.{Kind}
+use Rattle.bay_tree.specs.declared.leaf.LeafType.{LeafType}
 use Rattle.bay_tree.specs.declared.leaf.Leaf.{Leaf}
 use Rattle.bay_tree.specs.declared.leaf.Leaf.TheVariants as leaf
 use Rattle.bay_tree.specs.declared.row.Row.{Row}
-use Rattle.bay_process.specs.Layout.{HasKind, Layout, layout_of, name_in}
+use Rattle.bay_process.specs.Layout.{HasLeafType, Layout, layout_of, name_in}
 use Rattle.bay_control.specs.Decisions.{State, selected_switch}
 use Rattle.bay_services.specs.Bay.{ShowSelection, is_selected, shown}
 
@@ -108,8 +108,8 @@ shown_more selected k old before after row value same at is shows put =
     rw add-one (put ∙ ap (λ (n : List ℕ). with_leaf_of n (leaf.Truth value) before) named ∙ ap (λ (b : Bool). with_leaf_of ((control_names k).selected) (leaf.Truth b) before) is
     ∙ ap (λ (rows : List Row). with_leaf_of ((control_names k).selected) (leaf.Truth (is_selected k selected)) rows) shows)
 
-pub kind_kept : (rows old : List Row) (row : ℕ) (kind : Kind) → layout_of rows ≡ layout_of old → HasKind (layout_of old) row kind → HasKind (layout_of rows) row kind
-kind_kept rows old row kind same has = subst (λ (l : Layout). HasKind l row kind) (sym same) has
+pub leaf_type_kept : (rows old : List Row) (row : ℕ) (leaf_type : LeafType) → layout_of rows ≡ layout_of old → HasLeafType (layout_of old) row leaf_type → HasLeafType (layout_of rows) row leaf_type
+leaf_type_kept rows old row leaf_type same has = subst (λ (l : Layout). HasLeafType l row leaf_type) (sym same) has
 
 -- ---- what is written elsewhere
 

@@ -23,8 +23,8 @@ use crate::reply::fitting;
 use crate::writing::Written;
 use bay_base::listing::Listing;
 use bay_mms::data::Data;
-use bay_mms::fault::{MmsFault, WriteFault};
-use bay_mms::request::{Call, Name, Request, read_request};
+use bay_mms::fault::{MmsFault, EncodeFault};
+use bay_mms::request::{Call, ObjectName, Request, read_request};
 use bay_mms::response::{
     ErrorClass, RejectReason, Response, Service, write_conclude, write_error, write_reject,
     write_response,
@@ -87,9 +87,9 @@ fn responded(
     alloc: Global,
     client: Client,
     id: u32,
-    response: Result<Vec<u8>, WriteFault>,
+    response: Result<Vec<u8>, EncodeFault>,
 ) -> Result<Answer, AllocError>
-    ensures { (pdu : List ℕ) (b : Bay) → Gives WriteFault.OutOfMemory (λ octets. octets.items) response (written pdu) → IfOk result (λ answer. AnswersAs answer b (spec.responded client id b pdu)) }
+    ensures { (pdu : List ℕ) (b : Bay) → Gives EncodeFault.OutOfMemory (λ octets. octets.items) response (written pdu) → IfOk result (λ answer. AnswersAs answer b (spec.responded client id b pdu)) }
 {
     match fitting(client.size, response)? {
         Some(pdu) => said(alloc, pdu),
@@ -117,7 +117,7 @@ impl ServedBay {
         alloc: Global,
         client: Client,
         id: u32,
-        name: &Name<'_>,
+        name: &ObjectName<'_>,
     ) -> Result<Answer, AllocError>
         ensures { IfOk result (λ answer. AnswersAs answer (bay_view self.now) (attributes_at client id (bay_view self.now) (row_named (bay_view self.now) (naming name.now)))) }
     {
@@ -138,9 +138,9 @@ impl ServedBay {
         alloc: Global,
         client: Client,
         id: u32,
-        names: &[Name<'_>],
-    ) -> Result<Vec<u8>, WriteFault>
-        ensures response { Gives WriteFault.OutOfMemory (λ octets. octets.items) result (written (read_text id (read_all client (map naming names.now) (nothing_read (bay_view self.old))).results)) }
+        names: &[ObjectName<'_>],
+    ) -> Result<Vec<u8>, EncodeFault>
+        ensures response { Gives EncodeFault.OutOfMemory (λ octets. octets.items) result (written (read_text id (read_all client (map naming names.now) (nothing_read (bay_view self.old))).results)) }
         ensures after { OnOk result (bay_view self.new ≡ (read_all client (map naming names.now) (nothing_read (bay_view self.old))).bay) }
         ensures back { (standing : Standing) → standing_again standing (bay_view self.new) ≡ standing_again standing (bay_view self.old) }
         ensures switches { self.new.switches ≡ self.old.switches }
@@ -158,7 +158,7 @@ impl ServedBay {
         alloc: Global,
         client: Client,
         id: u32,
-        names: &[Name<'_>],
+        names: &[ObjectName<'_>],
     ) -> Result<Answer, AllocError>
         ensures ok { IfOk result (λ answer. AnswersAs answer (bay_view self.new) (read_asked client id (bay_view self.old) (map naming names.now))) }
         ensures back { (standing : Standing) → standing_again standing (bay_view self.new) ≡ standing_again standing (bay_view self.old) }
@@ -183,7 +183,7 @@ impl ServedBay {
         alloc: Global,
         client: Client,
         id: u32,
-        names: &[Name<'_>],
+        names: &[ObjectName<'_>],
         values: &[Data<'_>],
     ) -> Result<Answer, AllocError>
         ensures ok { IfOk result (λ answer. AnswersAs answer (bay_view self.new) (write_asked client id (bay_view self.old) (map naming names.now) (data_in values.now))) }

@@ -28,9 +28,9 @@ use bay_control::cause::AddCause;
 use bay_control::request::{Ask, Origin};
 use bay_mms::control::{Cancel, Operate, cancel_of, operate_of};
 use bay_mms::data::Data;
-use bay_mms::fault::WriteFault;
+use bay_mms::fault::EncodeFault;
 use bay_mms::report::{ControlError, write_failed_termination, write_failure, write_termination};
-use bay_mms::request::Name;
+use bay_mms::request::ObjectName;
 use bay_mms::results::WriteResponse;
 use bay_tree::tree::Handle;
 use std::alloc::{AllocError, Global};
@@ -66,8 +66,8 @@ fn succeed(response: &mut WriteResponse) -> Result<(), AllocError>
 {
     match response.success() {
         Ok(()) => Ok(()),
-        Err(WriteFault::OutOfMemory) => Err(AllocError),
-        Err(WriteFault::TooLong) => unreachable!(),
+        Err(EncodeFault::OutOfMemory) => Err(AllocError),
+        Err(EncodeFault::TooLong) => unreachable!(),
     }
 }
 
@@ -77,8 +77,8 @@ fn fail(response: &mut WriteResponse, cause: u8) -> Result<(), AllocError>
 {
     match response.failure(cause) {
         Ok(()) => Ok(()),
-        Err(WriteFault::OutOfMemory) => Err(AllocError),
-        Err(WriteFault::TooLong) => unreachable!(),
+        Err(EncodeFault::OutOfMemory) => Err(AllocError),
+        Err(EncodeFault::TooLong) => unreachable!(),
     }
 }
 
@@ -374,7 +374,7 @@ impl ServedBay {
         &mut self,
         alloc: Global,
         client: Client,
-        name: &Name<'_>,
+        name: &ObjectName<'_>,
         given: &Data<'_>,
         written: &mut Written,
     ) -> Result<(), AllocError>
@@ -394,7 +394,7 @@ impl ServedBay {
         &mut self,
         alloc: Global,
         client: Client,
-        names: &[Name<'_>],
+        names: &[ObjectName<'_>],
         values: &[Data<'_>],
         written: &mut Written,
     ) -> Result<(), AllocError>

@@ -9,6 +9,7 @@ use Rattle.il_compile.specs.Code.{program_code}
 use Rattle.il_compile.specs.declared.fault.CompileFault.{CompileFault}
 use Rattle.il_compile.specs.declared.fault.CompileFault.TheVariants.{CodeTooLong}
 
+-- the point that an external is
 abbrev pub point_of : External → ImagePoint
 point_of e = record { name = e.name; elementary = e.kind; writable = e.writable }
 

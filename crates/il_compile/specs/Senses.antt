@@ -23,6 +23,7 @@ pub data Sense : Type 0 where
   computes : Operation → Sense
   compares : Comparison → Sense
 
+-- what an operator does
 abbrev pub sense_of : Operator → Sense
 sense_of operator.And = connects And
 sense_of operator.Or = connects Or
@@ -39,10 +40,12 @@ sense_of operator.Ne = compares Ne
 sense_of operator.Le = compares Le
 sense_of operator.Lt = compares Lt
 
+-- a conversion as the machine names it
 abbrev pub widening_of : Conversion → Widening
 widening_of conversion.IntToDint = widening.IntToDint
 widening_of conversion.DintToLint = widening.DintToLint
 
+-- when a jump goes
 abbrev pub when_of : Condition → When
 when_of condition.Always = when.Always
 when_of condition.IfTrue = when.IfTrue

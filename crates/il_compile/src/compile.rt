@@ -88,7 +88,8 @@ fn points_size(externals: &[External]) -> usize
 /// The octets of a program's code: a cell for the result, the instructions of the items, of which
 /// the last stands first, and HALT.
 fn spell_all(alloc: Global, behind: Vec<Instr>) -> Result<Vec<u8>, AllocError>
-    ensures { IfOk result (λ code. code.items ≡ all_spelled (spec.unset ∷ reverse behind.items ++ Instr.Halt ∷ [])) }
+    ensures { IfOk result (λ code. code.items
+        ≡ all_spelled (spec.unset ∷ reverse behind.items ++ Instr.Halt ∷ [])) }
 {
     let mut behind = behind;
     let mut code = Vec::new(alloc);
@@ -104,7 +105,8 @@ fn spell_all(alloc: Global, behind: Vec<Instr>) -> Result<Vec<u8>, AllocError>
 /// version, four counts, and what is counted.
 fn head_size(program: &Typed) -> usize
     requires { IsTyped (checked_view program.now) }
-    ensures value { result ≡ 13 + points_octets program.now.externals + 9 * length program.now.variables + length program.now.timers }
+    ensures value { result ≡ 13 + points_octets program.now.externals
+        + 9 * length program.now.variables + length program.now.timers }
     ensures bounded { result ≤ 40_000 }
 {
     13 + points_size(program.externals()) + 9 * program.variables().len() + program.timers().len()
@@ -112,7 +114,8 @@ fn head_size(program: &Typed) -> usize
 
 /// The image of a program; CodeTooLong where it would have more than 65,535 octets.
 fn compiled(alloc: Global, program: &Typed) -> Result<Image, CompileFault>
-    ensures image { Gives OutOfMemory (λ image. image) result (compiled_of (checked_view program.now)) }
+    ensures image { Gives OutOfMemory (λ image. image) result
+        (compiled_of (checked_view program.now)) }
     ensures typed { IsTyped (checked_view program.now) }
 {
     let behind = behind_all(alloc, program.externals().len(), program.items())?;
@@ -144,7 +147,8 @@ fn compiled(alloc: Global, program: &Typed) -> Result<Image, CompileFault>
 /// cases alone show that it comes only where memory was refused.
 pub fn compile(alloc: Global, program: &Typed) -> Result<Image, CompileFault>
     // The image of the program, or that it is too long, unless memory ran out.
-    ensures image { Gives OutOfMemory (λ image. image) result (compiled_of (checked_view program.now)) }
+    ensures image { Gives OutOfMemory (λ image. image) result
+        (compiled_of (checked_view program.now)) }
     // From all values of the program's types, at each moment, the machine runs the code without a
     // trap to HALT, in no more steps than the code has octets, and leaves in slots and timers what
     // the program means.

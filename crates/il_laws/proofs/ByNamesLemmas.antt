@@ -47,13 +47,13 @@ set_map : {X A : Type 0} (f g : X → A) (xs : List X) (n : ℕ) (x : X) (v : A)
 set_map f g [] n x v e is h = absurd cc
 set_map {X} {A} f g (y ∷ xs) zero x v e is h =
     (let same : y ≡ x = cc in
-        ap (λ (a : A). a ∷ map f xs) (sym is ∙ ap g (sym same))
-        ∙ ap (λ (ys : List A). g y ∷ ys) (map_same f g xs (λ i z d. h (suc i) z d (λ no. cc))))
+    ap (λ (a : A). a ∷ map f xs) (sym is ∙ ap g (sym same))
+    ∙ ap (λ (ys : List A). g y ∷ ys) (map_same f g xs (λ i z d. h (suc i) z d (λ no. cc))))
 set_map {X} {A} f g (y ∷ xs) (suc n) x v e is h =
     ap (λ (a : A). a ∷ slice_set (map f xs) n v) (h 0 y refl (λ no. cc))
-        ∙ ap (λ (ys : List A). g y ∷ ys)
-        (set_map f g xs n x v e is
-        (λ i z d ne. h (suc i) z d (λ same. ne (let p : i ≡ n = cc in p))))
+    ∙ ap (λ (ys : List A). g y ∷ ys)
+    (set_map f g xs n x v e is
+    (λ i z d ne. h (suc i) z d (λ same. ne (let p : i ≡ n = cc in p))))
 
 -- ---- a map that is changed
 
@@ -96,7 +96,7 @@ module _ (points : List Point) (program : text.PlainProgram) (c : Checked)
         (record { externals = fs; variables = ws; timers = us })
     memory_same es fs vs ws ts us e v t =
         let made : List Value → List Value → List TimerState → Memory =
-            λ x y z. record { externals = x; variables = y; timers = z } in
+        λ x y z. record { externals = x; variables = y; timers = z } in
         ap (λ x. made x vs ts) e ∙ ap (λ y. made fs y ts) v ∙ ap (λ z. made fs ws z) t
 
     reads_so : (s : Slot) (kind : ElementaryType) (writable : Bool)
@@ -105,30 +105,30 @@ module _ (points : List Point) (program : text.PlainProgram) (c : Checked)
     reads_so (slot.External n) kind writable e =
         let h = o.own name (meaning.Variable (slot.External n) kind writable) e in
         get_map (λ (x : External). values x.name) c.externals n h.0 h.1
-            ∙ ap (λ (k : List ℕ). Some (values k)) h.2
+        ∙ ap (λ (k : List ℕ). Some (values k)) h.2
     reads_so (slot.Variable n) kind writable e =
         let h = o.own name (meaning.Variable (slot.Variable n) kind writable) e in
         get_map (λ (x : Variable). values x.name) c.variables n h.0 h.1
-            ∙ ap (λ (k : List ℕ). Some (values k)) h.2
+        ∙ ap (λ (k : List ℕ). Some (values k)) h.2
 
     writes_so : (s : Slot) (kind : ElementaryType) (writable : Bool) (v : Value)
         → (names_in points program).meaning name ≡ Some (meaning.Variable s kind writable)
         → with_value s v (named_memory c values timers)
-            ≡ named_memory c (changed_at (upper name) v values) timers
+        ≡ named_memory c (changed_at (upper name) v values) timers
     writes_so (slot.External n) kind writable v e =
         let h = o.own name (meaning.Variable (slot.External n) kind writable) e in
         let new = changed_at (upper name) v values in
         memory_same _ _ _ _ _ _
         (set_map (λ (x : External). values x.name) (λ (x : External). new x.name) c.externals n h.0
-            v h.1 (changed_here (upper name) v values h.0.name h.2)
+        v h.1 (changed_here (upper name) v values h.0.name h.2)
         (λ i y at ne. changed_elsewhere (upper name) v values y.name
         (λ same. ne (let m = one_meaning y.name (meaning.Variable (slot.External n) kind writable)
-            (meaning.Variable (slot.External i) y.kind y.writable) e (o.externals i y at) same in
-            let p : i ≡ n = cc in p))))
+        (meaning.Variable (slot.External i) y.kind y.writable) e (o.externals i y at) same in
+        let p : i ≡ n = cc in p))))
         (map_same (λ (x : Variable). values x.name) (λ (x : Variable). new x.name) c.variables
         (λ i y at. changed_elsewhere (upper name) v values y.name
         (λ same. (let m = one_meaning y.name (meaning.Variable (slot.External n) kind writable)
-            (meaning.Variable (slot.Variable i) _ true) e (o.variables i y at) same in cc))))
+        (meaning.Variable (slot.Variable i) _ true) e (o.variables i y at) same in cc))))
         refl
     writes_so (slot.Variable n) kind writable v e =
         let h = o.own name (meaning.Variable (slot.Variable n) kind writable) e in
@@ -137,14 +137,14 @@ module _ (points : List Point) (program : text.PlainProgram) (c : Checked)
         (map_same (λ (x : External). values x.name) (λ (x : External). new x.name) c.externals
         (λ i y at. changed_elsewhere (upper name) v values y.name
         (λ same. (let m = one_meaning y.name (meaning.Variable (slot.Variable n) kind writable)
-            (meaning.Variable (slot.External i) y.kind y.writable) e (o.externals i y at) same in
-            cc))))
+        (meaning.Variable (slot.External i) y.kind y.writable) e (o.externals i y at) same in
+        cc))))
         (set_map (λ (x : Variable). values x.name) (λ (x : Variable). new x.name) c.variables n h.0
-            v h.1 (changed_here (upper name) v values h.0.name h.2)
+        v h.1 (changed_here (upper name) v values h.0.name h.2)
         (λ i y at ne. changed_elsewhere (upper name) v values y.name
         (λ same. ne (let m = one_meaning y.name (meaning.Variable (slot.Variable n) kind writable)
-            (meaning.Variable (slot.Variable i) _ true) e (o.variables i y at) same in
-            let p : i ≡ n = cc in p))))
+        (meaning.Variable (slot.Variable i) _ true) e (o.variables i y at) same in
+        let p : i ≡ n = cc in p))))
         refl
 
     timer_read : (n : ℕ) → (names_in points program).meaning name ≡ Some (meaning.Timer n)
@@ -152,20 +152,20 @@ module _ (points : List Point) (program : text.PlainProgram) (c : Checked)
     timer_read n e =
         let h = o.own name (meaning.Timer n) e in
         get_map (λ (x : Declared). timers x.name) c.timers n h.0 h.1
-            ∙ ap (λ (k : List ℕ). Some (timers k)) h.2
+        ∙ ap (λ (k : List ℕ). Some (timers k)) h.2
 
     timer_written : (n : ℕ) (t : TimerState)
         → (names_in points program).meaning name ≡ Some (meaning.Timer n)
         → slice_set (map (λ (x : Declared). timers x.name) c.timers) n t
-            ≡ map (λ (x : Declared). changed_at (upper name) t timers x.name) c.timers
+        ≡ map (λ (x : Declared). changed_at (upper name) t timers x.name) c.timers
     timer_written n t e =
         let h = o.own name (meaning.Timer n) e in
         set_map (λ (x : Declared). timers x.name)
-            (λ (x : Declared). changed_at (upper name) t timers x.name) c.timers n h.0 t h.1
-            (changed_here (upper name) t timers h.0.name h.2)
+        (λ (x : Declared). changed_at (upper name) t timers x.name) c.timers n h.0 t h.1
+        (changed_here (upper name) t timers h.0.name h.2)
         (λ i y at ne. changed_elsewhere (upper name) t timers y.name
         (λ same. ne (let m = one_meaning y.name (meaning.Timer n) (meaning.Timer i) e
-            (o.timers i y at) same in let p : i ≡ n = cc in p)))
+        (o.timers i y at) same in let p : i ≡ n = cc in p)))
 
 pub goes_by_names : (points : List Point) (program : text.PlainProgram) (c : Checked)
     (values : List ℕ → Value) (timers : List ℕ → TimerState) → checked_of points program ≡ Ok c

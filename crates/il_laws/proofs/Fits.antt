@@ -26,7 +26,7 @@ use Rattle.il_image.specs.declared.instr.Instr.{Instr}
 use Rattle.il_image.specs.declared.instr.Instr.TheVariants.{Halt, Push, Drop, Slot, Not, Combine, Compute, Compare, Widen, Jump, Timer}
 use Rattle.il_image.specs.declared.opcode.SlotUse.TheVariants.{Load, Store, SetIf, ResetIf}
 use Rattle.il_image.proofs.KindLemmas.{same_is, same_self}
-use Rattle.il_check.specs.Checking.{checked_of, checked_program, faults_of, start}
+use Rattle.il_check.specs.Checking.{checked_of, checked_program, faults_of, initial_standing}
 use Rattle.il_check.specs.Declaring.{declaration_faults, declarations_faults, external_at, external_in, externals_of, is_typed, names_in, point_of as declared_point, is_name}
 use Rattle.il_check.specs.Faults.{fault_if, least_fault}
 use Rattle.il_check.specs.Program.{Checked}
@@ -82,8 +82,7 @@ found_holds : (test : Point → Bool) (points : List Point) (p : Point) → find
     → test p ≡ true
 found_holds test [] p e = absurd cc
 found_holds test (q ∷ points) p e =
-    elim (test q) as (λ b. test q ≡ b → cond b (Some q) (find test points) ≡ Some p → test p ≡ true)
-        [
+    elim (test q) as (λ b. test q ≡ b → cond b (Some q) (find test points) ≡ Some p → test p ≡ true) [
       | true ↦ (λ t g. (let same : q ≡ p = some_same q p g in subst (λ x. test x ≡ true) same t))
       | false ↦ (λ t g. found_holds test points p g)
     ] refl e
@@ -93,7 +92,7 @@ found_any : (test other : Point → Bool) (points : List Point) (p : Point)
 found_any test other [] p e h = absurd cc
 found_any test other (q ∷ points) p e h =
     elim (test q) as (λ b. cond b (Some q) (find test points) ≡ Some p
-        → other q || list_any other points ≡ true) [
+    → other q || list_any other points ≡ true) [
       | true ↦
           (λ g. (let same : q ≡ p = some_same q p g in
           ap (λ b. b || list_any other points) (ap other same ∙ h)))
@@ -128,21 +127,21 @@ named_so name other h =
 bound_at : (points : List Point) (name : List ℕ) (kind : ElementaryType) (o : Option Point)
     (es : List External) → declared_point points name ≡ o
     → is_typed scope.External (type.Elementary kind) o None ≡ true → Each (IsBound points) es
-        → Each (IsBound points) (cons_option (external_at name kind o) es)
+    → Each (IsBound points) (cons_option (external_at name kind o) es)
 bound_at points name kind None es e t rest = rest
 bound_at points name kind (Some p) es e t rest =
     let e : find (λ q. same_name q.name name) points ≡ Some p =
-        of_a_name (is_name name) (find (λ q. same_name q.name name) points) p e in
+    of_a_name (is_name name) (find (λ q. same_name q.name name) points) p e in
     let named : same_name (upper name) p.name ≡ true =
-        named_so name p.name (found_holds (λ q. same_name q.name name) points p e) in
+    named_so name p.name (found_holds (λ q. same_name q.name name) points p e) in
     let typed : same_type kind p.kind ≡ true =
-        subst (λ k. same_type kind k ≡ true) (sym (same_is p.kind kind t)) (same_self kind) in (
+    subst (λ k. same_type kind k ≡ true) (sym (same_is p.kind kind t)) (same_self kind) in (
       found_any (λ q. same_name q.name name)
           (λ b. is_point (point_of
           (record { name = upper name; kind = kind; writable = p.writable; source = p.source })) b)
           points p e
           (both (same_name (upper name) p.name) (same_type kind p.kind && beq p.writable p.writable)
-              named
+          named
           (both (same_type kind p.kind) (beq p.writable p.writable) typed (equal_self p.writable))),
       rest,
     )
@@ -150,7 +149,7 @@ bound_at points name kind (Some p) es e t rest =
 bound_in : (points : List Point) (d : text.Declared) (s : Scope) (k : DeclaredType)
     (given : Option Literal) (es : List External)
     → is_typed s k (declared_point points d.name) given ≡ true → Each (IsBound points) es
-        → Each (IsBound points) (cons_option (external_in points d s k) es)
+    → Each (IsBound points) (cons_option (external_in points d s k) es)
 bound_in points d scope.External (type.Elementary kind) given es t rest =
     bound_at points d.name kind (declared_point points d.name) es refl t rest
 bound_in points d scope.External (type.Timer kind) given es t rest = rest
@@ -170,12 +169,12 @@ all_bound : (points : List Point) (before ds : List text.Declared)
 all_bound points before [] none = tt
 all_bound points before (d ∷ ds) none =
     let two =
-        append-none (declaration_faults points before d)
-        (declarations_faults points (before ++ d ∷ []) ds) none in
+    append-none (declaration_faults points before d)
+    (declarations_faults points (before ++ d ∷ []) ds) none in
     let typed : is_typed d.scope d.kind (declared_point points d.name) d.initial ≡ true =
     not_not _ (no_fault _ _ (append-none _ _ (append-none _ _ (append-none _ _ two.0).1).1).0) in
     bound_in points d d.scope d.kind d.initial (externals_of points ds) typed
-        (all_bound points (before ++ d ∷ []) ds two.1)
+    (all_bound points (before ++ d ∷ []) ds two.1)
 
 -- ---- no name stands twice
 
@@ -190,7 +189,7 @@ none_alike name (e ∷ es) ns h =
     (let same : e.name ≡ name = (bytes_eq-Decides e.name name).0 t in
     let first : same_name name e.name ≡ false = h 0 (omega arith) in
     clash (same_name name name) (same_self_name name)
-        (subst (λ x. same_name name x ≡ false) same first))))
+    (subst (λ x. same_name name x ≡ false) same first))))
     (none_alike name es ns (λ j lt. h (suc j) (omega arith)))
 
 apart_rest : (x : List ℕ) (xs : List (List ℕ)) → AreApart (x ∷ xs) → AreApart xs
@@ -202,12 +201,12 @@ points_fit : (points : List Point) (es : List External) (ns : List (List ℕ))
 points_fit points [] ns h apart = refl
 points_fit points (e ∷ es) ns h apart =
     let alone : list_any (λ q. bytes_eq q.name e.name) (map point_of es) ≡ false =
-        none_alike e.name es ns (λ j lt. apart 0 (suc j) (omega arith) (omega arith)) in
+    none_alike e.name es ns (λ j lt. apart 0 (suc j) (omega arith) (omega arith)) in
     both (list_any (λ b. is_point (point_of e) b) points
-        && not (list_any (λ q. bytes_eq q.name e.name) (map point_of es)))
-        (are_points points (map point_of es))
+    && not (list_any (λ q. bytes_eq q.name e.name) (map point_of es)))
+    (are_points points (map point_of es))
     (both (list_any (λ b. is_point (point_of e) b) points)
-        (not (list_any (λ q. bytes_eq q.name e.name) (map point_of es))) h.0 (ap not alone))
+    (not (list_any (λ q. bytes_eq q.name e.name) (map point_of es))) h.0 (ap not alone))
     (points_fit points es ns h.1 (apart_rest e.name (map (λ x. x.name) es ++ ns) apart))
 
 -- ---- what is known of a checked program
@@ -229,26 +228,26 @@ image_fits points c ok h =
     let b = length-map c.variables (λ v. v.initial) in
     let d = length-map c.timers (λ x. x.kind) in
     both (nat_le (length (map point_of c.externals) + length (map (λ v. v.initial) c.variables)) 512
-        && nat_le (length (map (λ x. x.kind) c.timers)) 64)
-        (are_points points (map point_of c.externals))
+    && nat_le (length (map (λ x. x.kind) c.timers)) 64)
+    (are_points points (map point_of c.externals))
     (both (nat_le (length (map point_of c.externals) + length (map (λ v. v.initial) c.variables))
-        512) (nat_le (length (map (λ x. x.kind) c.timers)) 64)
+    512) (nat_le (length (map (λ x. x.kind) c.timers)) 64)
     (le-leb (length (map point_of c.externals) + length (map (λ v. v.initial) c.variables)) 512
-        (omega arith)) (le-leb (length (map (λ x. x.kind) c.timers)) 64 (omega arith))) h
+    (omega arith)) (le-leb (length (map (λ x. x.kind) c.timers)) 64 (omega arith))) h
 
 checked_fits : (points : List Point) (program : text.PlainProgram) (c : Checked)
     → checked_of points program ≡ Ok c → IsTyped c → fits points (image_of c) ≡ true
 checked_fits points program c e ok =
     let p = passed (least_fault (faults_of points program)) (checked_program points program) c e in
     let none =
-        (append-none (declarations_faults points [] program.declarations)
-        (items_faults (names_in points program) program.items (start program))
-        (least_fault-none (faults_of points program) p.0)).0 in
+    (append-none (declarations_faults points [] program.declarations)
+    (items_faults (names_in points program) program.items (initial_standing program))
+    (least_fault-none (faults_of points program) p.0)).0 in
     image_fits points c ok
     (subst (λ x. are_points points (map point_of x.externals) ≡ true) p.1
     (points_fit points (externals_of points program.declarations) _
-        (all_bound points [] program.declarations none)
-        (all_apart points program.declarations none)))
+    (all_bound points [] program.declarations none)
+    (all_apart points program.declarations none)))
 
 -- ---- what the code writes
 
@@ -260,7 +259,7 @@ map_both f (x ∷ xs) ys = ap (λ l. f x ∷ l) (map_both f xs ys)
 not_fixed : (es : List External) (vs : List Variable) (n : ℕ)
     → slice_get (map (λ e. e.writable) es ++ map (λ v. true) vs) n ≡ Some true
     → is_read_only (map point_slot (map point_of es) ++ map variable_slot (map (λ v. v.initial) vs))
-        n ≡ false
+    n ≡ false
 not_fixed [] [] n h = refl
 not_fixed [] (v ∷ vs) zero h = refl
 not_fixed [] (v ∷ vs) (suc n) h = not_fixed [] vs n h
@@ -298,11 +297,12 @@ short : (c : Checked) (image : Image) → compiled_of c ≡ Ok image
     → (image_size c ≤ 65_535) × (image_of c ≡ image)
 short c image e =
     elim (nat_le (image_size c) 65_535) as
-        (λ b. nat_le (image_size c) 65_535 ≡ b
-        → (if b then Ok (image_of c) else Err CodeTooLong) ≡ Ok image
-        → (image_size c ≤ 65_535) × (image_of c ≡ image))
-    [ true ↦ (λ t g. (leb-true (image_size c) 65_535 t, ok_same (image_of c) image g))
-        | false ↦ (λ t g. absurd cc) ] refl e
+    (λ b. nat_le (image_size c) 65_535 ≡ b
+    → (if b then Ok (image_of c) else Err CodeTooLong) ≡ Ok image
+    → (image_size c ≤ 65_535) × (image_of c ≡ image)) [
+      | true ↦ (λ t g. (leb-true (image_size c) 65_535 t, ok_same (image_of c) image g))
+      | false ↦ (λ t g. absurd cc)
+    ] refl e
 
 pub verified : (points : List Point) (program : text.PlainProgram) (c : Checked)
     → checked_of points program ≡ Ok c → IsTyped c

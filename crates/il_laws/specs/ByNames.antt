@@ -33,10 +33,10 @@ pub record GoesByNames (names : Names) (c : Checked) (values : List ℕ → Valu
   pub writes : (name : List ℕ) (s : Slot) (kind : ElementaryType) (writable : Bool) (v : Value)
       → names.meaning name ≡ Some (meaning.Variable s kind writable) →
       with_value s v (named_memory c values timers)
-          ≡ named_memory c (changed_at (upper name) v values) timers
+      ≡ named_memory c (changed_at (upper name) v values) timers
   pub timer_reads : (name : List ℕ) (n : ℕ) → names.meaning name ≡ Some (meaning.Timer n)
       → slice_get (named_memory c values timers).timers n ≡ Some (timers (upper name))
   pub timer_writes : (name : List ℕ) (n : ℕ) (t : TimerState)
       → names.meaning name ≡ Some (meaning.Timer n) →
       slice_set (named_memory c values timers).timers n t
-          ≡ (named_memory c values (changed_at (upper name) t timers)).timers
+      ≡ (named_memory c values (changed_at (upper name) t timers)).timers

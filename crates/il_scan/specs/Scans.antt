@@ -21,7 +21,8 @@ pub record Held : Type 0 where
 
 -- what callers see of words and timers
 abbrev pub held : Image → List ℤ → List TimerState → Held
-held image slots timers = record { image = image; slots = values_of (slot_types image) slots; timers = timers }
+held image slots timers =
+    record { image = image; slots = values_of (slot_types image) slots; timers = timers }
 
 -- ---- the first state
 
@@ -30,8 +31,14 @@ abbrev pub first_slots : List ImagePoint → List Value → List Value
 first_slots [] variables = variables
 first_slots (p ∷ points) variables = default_value p.elementary ∷ first_slots points variables
 
+-- a machine before its first scan
 abbrev pub held_first : Image → Held
-held_first image = record { image = image; slots = first_slots image.points image.variables; timers = map first_state image.timers }
+held_first image =
+    record {
+      image = image;
+      slots = first_slots image.points image.variables;
+      timers = map first_state image.timers;
+    }
 
 -- The image has a slot or a timer, so that a machine keeps something beside it.
 abbrev pub TakesMemory : Image → Type 0
@@ -43,6 +50,7 @@ TakesMemory image = 0 < length image.points + length image.variables + length im
 abbrev pub read_only : List ImagePoint → List ImagePoint
 read_only points = filter (λ p. not p.writable) points
 
+-- the type of a point's values
 abbrev pub type_of_point : ImagePoint → ElementaryType
 type_of_point p = p.elementary
 
@@ -61,13 +69,15 @@ abbrev pub with_inputs : {A : Type 0} → List ImagePoint → List A → List A 
 with_inputs [] inputs slots = slots
 with_inputs (p ∷ points) inputs [] = []
 with_inputs (p ∷ points) inputs (slot ∷ slots) =
-    (if p.writable then slot else first_input inputs slot) ∷ with_inputs points (if p.writable then inputs else drop 1 inputs) slots
+    (if p.writable then slot else first_input inputs slot)
+    ∷ with_inputs points (if p.writable then inputs else drop 1 inputs) slots
 
 -- the slots of the points that may be written
 abbrev pub outputs_of : {A : Type 0} → List ImagePoint → List A → List A
 outputs_of [] slots = []
 outputs_of (p ∷ points) [] = []
-outputs_of (p ∷ points) (slot ∷ slots) = if p.writable then slot ∷ outputs_of points slots else outputs_of points slots
+outputs_of (p ∷ points) (slot ∷ slots) =
+    if p.writable then slot ∷ outputs_of points slots else outputs_of points slots
 
 -- ---- a scan
 
@@ -78,21 +88,27 @@ started held inputs = initial_state (with_inputs held.image.points inputs held.s
 -- No state of a run of at most so many steps has more cells than this on its stack.
 abbrev pub IsWithin : List ℕ → ℕ → ℕ → ℕ → State → Type 0
 IsWithin code now depth zero s = length s.cells ≤ depth
-IsWithin code now depth (suc most) s = (length s.cells ≤ depth) × ((next : State) → turn code now s ≡ Goes next → IsWithin code now depth most next)
+IsWithin code now depth (suc most) s =
+    (length s.cells ≤ depth)
+    × ((next : State) → turn code now s ≡ Goes next → IsWithin code now depth most next)
 
 -- The machine's run from these inputs at this moment ends at HALT, after so many steps, with these
 -- slots and timers.
-pub record Scans (old : Held) (inputs : List Value) (now : ℕ) (new : Held) (steps : ℕ) (outputs : List Value) : Type 0 where
+pub record Scans (old : Held) (inputs : List Value) (now : ℕ) (new : Held) (steps : ℕ)
+    (outputs : List Value) : Type 0 where
   -- the image stays
   pub image : new.image ≡ old.image
   -- the run is over at HALT, given as many steps as it takes, and no step of it is a trap
-  pub halts : (most : ℕ) → steps ≤ most → run old.image.code now most (started old inputs) 0 ≡ Halted new.slots new.timers steps
+  pub halts : (most : ℕ) → steps ≤ most
+      → run old.image.code now most (started old inputs) 0 ≡ Halted new.slots new.timers steps
   -- it takes no more steps than the budget, nor than the code has octets
   pub within : (budget : ℕ) → IsBudget old.image.code budget → steps ≤ budget
   pub few : steps ≤ length old.image.code
   -- the stack is never deeper than the image's depth
-  pub depth : (most : ℕ) (steps : ℕ) → IsDepth old.image most → IsWithin old.image.code now most steps (started old inputs)
+  pub depth : (most : ℕ) (steps : ℕ) → IsDepth old.image most
+      → IsWithin old.image.code now most steps (started old inputs)
   -- a point that may only be read keeps its input
-  pub keeps : (n : ℕ) (p : ImagePoint) → slice_get old.image.points n ≡ Some p → p.writable ≡ false → slice_get new.slots n ≡ slice_get (started old inputs).slots n
+  pub keeps : (n : ℕ) (p : ImagePoint) → slice_get old.image.points n ≡ Some p → p.writable ≡ false
+      → slice_get new.slots n ≡ slice_get (started old inputs).slots n
   -- the outputs are the points that may be written
   pub given : outputs ≡ outputs_of old.image.points new.slots

@@ -32,7 +32,8 @@ abbrev pub IsTimer : TimerState → Type 0
 IsTimer t = (t.preset ≤ 0x7FFF_FFFF) × (t.elapsed ≤ 0x7FFF_FFFF)
 
 -- The slots hold values of these types, and there are so many timers.
-pub record Typed (types : List ElementaryType) (count : ℕ) (slots : List Value) (timers : List TimerState) : Type 0 where
+pub record Typed (types : List ElementaryType) (count : ℕ) (slots : List Value)
+    (timers : List TimerState) : Type 0 where
   pub of_types : AreTyped types slots
   pub so_many : length timers ≡ count
   pub times : Each IsTimer timers
@@ -59,14 +60,18 @@ pub record StandsAt (image : Image) (place : ℕ) (w : Words) (s : State) : Type
 
 -- The slots of points that may only be read are the same.
 abbrev pub KeepsSlots : Image → Words → Words → Type 0
-KeepsSlots image old new = (n : ℕ) → is_read_only (slots_of image) n ≡ true → slice_get new.slots n ≡ slice_get old.slots n
+KeepsSlots image old new = (n : ℕ) → is_read_only (slots_of image) n ≡ true
+    → slice_get new.slots n ≡ slice_get old.slots n
 
 -- What the machine of typed values does from the state, words have come to: it halts where there is
 -- no next place, and else goes there.
 abbrev pub Turns : Image → ℕ → State → Option ℕ → Words → Type 0
-Turns image now s None after = (turn image.code now s ≡ Halts) × (after ≡ words_at s) × IsHalt image.code s.place
+Turns image now s None after =
+    (turn image.code now s ≡ Halts) × (after ≡ words_at s) × IsHalt image.code s.place
 Turns image now s (Some to) after =
-    IsSuccessor image.code s.place to × ((t : State) × (turn image.code now s ≡ Goes t) × StandsAt image to after t) × KeepsSlots image (words_at s) after
+    IsSuccessor image.code s.place to
+    × ((t : State) × (turn image.code now s ≡ Goes t) × StandsAt image to after t)
+    × KeepsSlots image (words_at s) after
 
 -- ---- between runs
 
@@ -82,19 +87,25 @@ first_state image slots timers = initial_state (values_of (slot_types image) slo
 
 -- The run of the image's code from these slots and timers ends with the others, after so many
 -- steps.
-pub record RunsTo (image : Image) (now : ℕ) (slots : List ℤ) (timers : List TimerState) (new_slots : List ℤ) (new_timers : List TimerState) (steps : ℕ) : Type 0 where
-  pub halts : (most : ℕ) → steps ≤ most → run image.code now most (first_state image slots timers) 0 ≡ Halted (values_of (slot_types image) new_slots) new_timers steps
+pub record RunsTo (image : Image) (now : ℕ) (slots : List ℤ) (timers : List TimerState)
+    (new_slots : List ℤ) (new_timers : List TimerState) (steps : ℕ) : Type 0 where
+  pub halts : (most : ℕ) → steps ≤ most
+      → run image.code now most (first_state image slots timers) 0
+      ≡ Halted (values_of (slot_types image) new_slots) new_timers steps
   pub within : (budget : ℕ) → IsBudget image.code budget → steps ≤ budget
   pub few : steps ≤ length image.code
-  pub depth : (most : ℕ) (count : ℕ) → IsDepth image most → IsWithin image.code now most count (first_state image slots timers)
-  pub keeps : (n : ℕ) → is_read_only (slots_of image) n ≡ true → slice_get new_slots n ≡ slice_get slots n
+  pub depth : (most : ℕ) (count : ℕ) → IsDepth image most
+      → IsWithin image.code now most count (first_state image slots timers)
+  pub keeps : (n : ℕ) → is_read_only (slots_of image) n ≡ true
+      → slice_get new_slots n ≡ slice_get slots n
   pub held : IsHeld image new_slots new_timers
 
 -- ---- the machine
 
 -- what a machine keeps: it knows the places of its points, and there is an output for each point
 -- that may be written
-pub record IsKept (image : Image) (slots : List ℤ) (timers : List TimerState) (reads writes : List ℕ) (outputs : List Value) : Type 0 where
+pub record IsKept (image : Image) (slots : List ℤ) (timers : List TimerState)
+    (reads writes : List ℕ) (outputs : List Value) : Type 0 where
   pub held : IsHeld image slots timers
   pub read : reads ≡ read_places 0 image.points
   pub written : writes ≡ write_places 0 image.points
@@ -110,4 +121,5 @@ AreWords (p ∷ points) (w ∷ words) = IsSome (value_of p.elementary w) × AreW
 abbrev pub given_by : List ImagePoint → List ℤ → List Value
 given_by [] words = []
 given_by (p ∷ points) [] = []
-given_by (p ∷ points) (w ∷ words) = if p.writable then value_at p.elementary w ∷ given_by points words else given_by points words
+given_by (p ∷ points) (w ∷ words) =
+    if p.writable then value_at p.elementary w ∷ given_by points words else given_by points words

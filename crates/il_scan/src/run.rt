@@ -23,9 +23,11 @@ fn turn(
     timers: &mut [TimerState],
 ) -> Option<usize>
     requires code { code.now ≡ _image.now.code }
-    requires stands { (s : State) × StandsAt _image.now place (words stack.old slots.old timers.old) s }
+    requires stands { (s : State)
+        × StandsAt _image.now place (words stack.old slots.old timers.old) s }
     ensures within { place < length _image.now.code }
-    ensures turns { (s : State) → StandsAt _image.now place (words stack.old slots.old timers.old) s →
+    ensures turns { (s : State) → StandsAt _image.now place (words stack.old slots.old timers.old) s
+        →
         Turns _image.now now s result (words stack.new slots.new timers.new) }
 {
     let (instr, next) = fetch(code, place);

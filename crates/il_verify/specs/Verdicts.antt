@@ -12,7 +12,9 @@ use Rattle.il_verify.specs.Slots.{slots_of}
 
 -- No instruction of the code writes a point that may only be read.
 abbrev pub KeepsReadOnly : Image → Type 0
-KeepsReadOnly image = (place : ℕ) (instr : Instr) (next : ℕ) → IsPlace image.code place → instr_at image.code place ≡ Some (instr, next) → writes_read_only (slots_of image) instr ≡ false
+KeepsReadOnly image = (place : ℕ) (instr : Instr) (next : ℕ) → IsPlace image.code place
+    → instr_at image.code place ≡ Some (instr, next)
+    → writes_read_only (slots_of image) instr ≡ false
 
 -- A table agrees with the code, and it writes what it may.
 pub record IsSafe (image : Image) : Type 0 where
@@ -26,7 +28,8 @@ pub record IsBudget (code : List ℕ) (budget : ℕ) : Type 0 where
 
 -- the length of a longest list of the table
 pub record IsLongest (table : Table) (depth : ℕ) : Type 0 where
-  pub some : (place : ℕ) × (kinds : List CellKind) × (table place ≡ Some kinds) × (length kinds ≡ depth)
+  pub some : (place : ℕ) × (kinds : List CellKind) × (table place ≡ Some kinds)
+      × (length kinds ≡ depth)
   pub most : (place : ℕ) (kinds : List CellKind) → table place ≡ Some kinds → length kinds ≤ depth
 
 -- A table agrees with the code, and this is the length of a longest list of each that does.

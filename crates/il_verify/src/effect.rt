@@ -1,5 +1,5 @@
-// What an instruction does to the kinds on the stack, and the faults that it has by itself. The top
-// is the last element.
+// The transfer function of each instruction: what it makes of the kinds on the stack, and the
+// faults that it has by itself. The top is the last element.
 ghost use Rattle.std.specs.Prelude.{◌≡◌, ◌≢◌, Some, None, reverse, length, OnOk, OnErr, IfErr, IfSome, IfNone, IsTrue, MatchResult, [], ◌∷◌, ◌⊎◌, ℕ, List};
 ghost use Rattle.il_image.specs.Machine as spec_machine;
 ghost use Rattle.il_image.specs.Effects.{below, compares, effect, looks_at, second_kind, two, type_of_kind, widens, with_truth};
@@ -11,7 +11,7 @@ ghost use Rattle.il_verify.specs.Judging as spec_judging;
 ghost use Rattle.il_verify.specs.Slots.{types_of};
 
 use crate::fault::VerifyFault;
-use crate::slots::Slot;
+use crate::slots::SlotType;
 use bay_base::types::ElementaryType;
 use il_image::arithmetic::{Comparison, Operation, Width};
 use il_image::instr::Instr;
@@ -30,8 +30,10 @@ fn put(kinds: &mut Vec<CellKind>, kind: CellKind) -> Result<(), VerifyFault>
 
 // Takes the top, where it is within the wanted kind.
 fn take(kinds: &mut Vec<CellKind>, wanted: CellKind) -> Result<(), VerifyFault>
-    ensures ok { OnOk result (below wanted (reverse kinds.old.items) ≡ Some (reverse kinds.new.items)) }
-    ensures err { IfErr result (λ f. (f ≡ VerifyFault.WrongKind) × (below wanted (reverse kinds.old.items) ≡ None)) }
+    ensures ok { OnOk result
+        (below wanted (reverse kinds.old.items) ≡ Some (reverse kinds.new.items)) }
+    ensures err { IfErr result
+        (λ f. (f ≡ VerifyFault.WrongKind) × (below wanted (reverse kinds.old.items) ≡ None)) }
 {
     match kinds.pop() {
         Some(top) if is_within(top, wanted) => Ok(()),
@@ -42,7 +44,8 @@ fn take(kinds: &mut Vec<CellKind>, wanted: CellKind) -> Result<(), VerifyFault>
 // Looks at the top, and leaves it.
 fn look(kinds: &[CellKind], wanted: CellKind) -> Result<(), VerifyFault>
     ensures ok { OnOk result (looks_at wanted (reverse kinds.now) ≡ Some (reverse kinds.now)) }
-    ensures err { IfErr result (λ f. (f ≡ VerifyFault.WrongKind) × (looks_at wanted (reverse kinds.now) ≡ None)) }
+    ensures err { IfErr result
+        (λ f. (f ≡ VerifyFault.WrongKind) × (looks_at wanted (reverse kinds.now) ≡ None)) }
 {
     match kinds.last() {
         Some(top) if is_within(*top, wanted) => Ok(()),
@@ -64,8 +67,10 @@ fn kind_of(value: Value) -> CellKind
 
 // The two values on top, the first of them the topmost.
 fn take_two(kinds: &mut Vec<CellKind>) -> Option<(CellKind, CellKind)>
-    ensures some { IfSome result (λ r. reverse kinds.old.items ≡ r.0 ∷ r.1 ∷ reverse kinds.new.items) }
-    ensures none { IfNone result ((reverse kinds.old.items ≡ []) ⊎ ((k : CellKind) × (reverse kinds.old.items ≡ k ∷ []))) }
+    ensures some { IfSome result
+        (λ r. reverse kinds.old.items ≡ r.0 ∷ r.1 ∷ reverse kinds.new.items) }
+    ensures none { IfNone result
+        ((reverse kinds.old.items ≡ []) ⊎ ((k : CellKind) × (reverse kinds.old.items ≡ k ∷ []))) }
 {
     let top = kinds.pop()?;
     let second = kinds.pop()?;
@@ -84,9 +89,11 @@ fn divides(operation: Operation) -> bool
 
 // Two numbers of a width become one. A divisor has to be not zero.
 fn compute(kinds: &mut Vec<CellKind>, operation: Operation, width: Width) -> Result<(), VerifyFault>
-    ensures ok { OnOk result (computes operation width (reverse kinds.old.items) ≡ Some (reverse kinds.new.items)) }
+    ensures ok { OnOk result
+        (computes operation width (reverse kinds.old.items) ≡ Some (reverse kinds.new.items)) }
     ensures err { IfErr result (λ f. f ≢ VerifyFault.OutOfMemory →
-        unfit (computes Operation.Add width (reverse kinds.old.items)) (computes operation width (reverse kinds.old.items)) ≡ Some f) }
+        unfit (computes Operation.Add width (reverse kinds.old.items))
+        (computes operation width (reverse kinds.old.items)) ≡ Some f) }
 {
     let number = CellKind::Plain(width.elementary());
     match take_two(kinds) {
@@ -102,8 +109,11 @@ fn compute(kinds: &mut Vec<CellKind>, operation: Operation, width: Width) -> Res
 
 // Two BOOLs become one.
 fn combine(kinds: &mut Vec<CellKind>) -> Result<(), VerifyFault>
-    ensures ok { OnOk result (two truth truth truth (reverse kinds.old.items) ≡ Some (reverse kinds.new.items)) }
-    ensures err { IfErr result (λ f. f ≢ VerifyFault.OutOfMemory → (f ≡ VerifyFault.WrongKind) × (two truth truth truth (reverse kinds.old.items) ≡ None)) }
+    ensures ok { OnOk result
+        (two truth truth truth (reverse kinds.old.items) ≡ Some (reverse kinds.new.items)) }
+    ensures err { IfErr result
+        (λ f. f ≢ VerifyFault.OutOfMemory
+        → (f ≡ VerifyFault.WrongKind) × (two truth truth truth (reverse kinds.old.items) ≡ None)) }
 {
     let truth = CellKind::Plain(ElementaryType::Bool);
     match take_two(kinds) {
@@ -138,8 +148,11 @@ fn are_compared(comparison: Comparison, first: ElementaryType, second: Elementar
 
 // Two values that show one type become a BOOL.
 fn compare(kinds: &mut Vec<CellKind>, comparison: Comparison) -> Result<(), VerifyFault>
-    ensures ok { OnOk result (compares comparison (reverse kinds.old.items) ≡ Some (reverse kinds.new.items)) }
-    ensures err { IfErr result (λ f. f ≢ VerifyFault.OutOfMemory → (f ≡ VerifyFault.WrongKind) × (compares comparison (reverse kinds.old.items) ≡ None)) }
+    ensures ok { OnOk result
+        (compares comparison (reverse kinds.old.items) ≡ Some (reverse kinds.new.items)) }
+    ensures err { IfErr result
+        (λ f. f ≢ VerifyFault.OutOfMemory
+        → (f ≡ VerifyFault.WrongKind) × (compares comparison (reverse kinds.old.items) ≡ None)) }
 {
     let Some((top, second)) = take_two(kinds) else {
         return Err(VerifyFault::WrongKind);
@@ -154,8 +167,11 @@ fn compare(kinds: &mut Vec<CellKind>, comparison: Comparison) -> Result<(), Veri
 
 // The top becomes one of a wider type, and stays not zero.
 fn widen(kinds: &mut Vec<CellKind>, from: Width, to: Width) -> Result<(), VerifyFault>
-    ensures ok { OnOk result (widens from to (reverse kinds.old.items) ≡ Some (reverse kinds.new.items)) }
-    ensures err { IfErr result (λ f. f ≢ VerifyFault.OutOfMemory → (f ≡ VerifyFault.WrongKind) × (widens from to (reverse kinds.old.items) ≡ None)) }
+    ensures ok { OnOk result
+        (widens from to (reverse kinds.old.items) ≡ Some (reverse kinds.new.items)) }
+    ensures err { IfErr result
+        (λ f. f ≢ VerifyFault.OutOfMemory
+        → (f ≡ VerifyFault.WrongKind) × (widens from to (reverse kinds.old.items) ≡ None)) }
 {
     match kinds.pop() {
         Some(top) if is_within(top, CellKind::NotZero(from)) => put(kinds, CellKind::NotZero(to)),
@@ -167,9 +183,12 @@ fn widen(kinds: &mut Vec<CellKind>, from: Width, to: Width) -> Result<(), Verify
 }
 
 // A BOOL on top is set or reset into a slot, which has to be a BOOL.
-fn look_at_truth(slots: &[Slot], number: u16, kinds: &[CellKind]) -> Result<(), VerifyFault>
-    ensures ok { OnOk result (with_truth (types_of slots.now) number (reverse kinds.now) ≡ Some (reverse kinds.now)) }
-    ensures err { IfErr result (λ f. (f ≡ VerifyFault.WrongKind) × (with_truth (types_of slots.now) number (reverse kinds.now) ≡ None)) }
+fn look_at_truth(slots: &[SlotType], number: u16, kinds: &[CellKind]) -> Result<(), VerifyFault>
+    ensures ok { OnOk result
+        (with_truth (types_of slots.now) number (reverse kinds.now) ≡ Some (reverse kinds.now)) }
+    ensures err { IfErr result
+        (λ f. (f ≡ VerifyFault.WrongKind)
+        × (with_truth (types_of slots.now) number (reverse kinds.now) ≡ None)) }
 {
     match slots.get(usize::from(number)) {
         Some(slot) if slot.elementary == ElementaryType::Bool => {
@@ -181,14 +200,18 @@ fn look_at_truth(slots: &[Slot], number: u16, kinds: &[CellKind]) -> Result<(), 
 
 // What an instruction does with a slot.
 fn use_slot(
-    slots: &[Slot],
+    slots: &[SlotType],
     slot_use: SlotUse,
     number: u16,
     kinds: &mut Vec<CellKind>,
 ) -> Result<(), VerifyFault>
-    ensures ok { OnOk result (effect (types_of slots.now) 0 (Instr.Slot slot_use number) (reverse kinds.old.items) ≡ Some (reverse kinds.new.items)) }
+    ensures ok { OnOk result
+        (effect (types_of slots.now) 0 (Instr.Slot slot_use number) (reverse kinds.old.items)
+        ≡ Some (reverse kinds.new.items)) }
     ensures err { IfErr result (λ f. f ≢ VerifyFault.OutOfMemory →
-        (f ≡ VerifyFault.WrongKind) × (effect (types_of slots.now) 0 (Instr.Slot slot_use number) (reverse kinds.old.items) ≡ None)) }
+        (f ≡ VerifyFault.WrongKind)
+        × (effect (types_of slots.now) 0 (Instr.Slot slot_use number) (reverse kinds.old.items)
+        ≡ None)) }
 {
     match slot_use {
         SlotUse::Load => match slots.get(usize::from(number)) {
@@ -205,9 +228,12 @@ fn use_slot(
 
 // What an instruction does with a timer that is there.
 fn use_timer(timer_use: TimerUse, kinds: &mut Vec<CellKind>) -> Result<(), VerifyFault>
-    ensures ok { OnOk result (effect [] 1 (Instr.Timer timer_use 0) (reverse kinds.old.items) ≡ Some (reverse kinds.new.items)) }
+    ensures ok { OnOk result
+        (effect [] 1 (Instr.Timer timer_use 0) (reverse kinds.old.items)
+        ≡ Some (reverse kinds.new.items)) }
     ensures err { IfErr result (λ f. f ≢ VerifyFault.OutOfMemory →
-        (f ≡ VerifyFault.WrongKind) × (effect [] 1 (Instr.Timer timer_use 0) (reverse kinds.old.items) ≡ None)) }
+        (f ≡ VerifyFault.WrongKind)
+        × (effect [] 1 (Instr.Timer timer_use 0) (reverse kinds.old.items) ≡ None)) }
 {
     match timer_use {
         TimerUse::SetInput => take(kinds, CellKind::Plain(ElementaryType::Bool)),
@@ -220,14 +246,18 @@ fn use_timer(timer_use: TimerUse, kinds: &mut Vec<CellKind>) -> Result<(), Verif
 
 // Does to the kinds what an instruction does, where they are of the kinds that it wants.
 fn apply(
-    slots: &[Slot],
+    slots: &[SlotType],
     timers: usize,
     instr: Instr,
     kinds: &mut Vec<CellKind>,
 ) -> Result<(), VerifyFault>
     requires { missing (length slots.now) timers instr ≡ None }
-    ensures ok { OnOk result (effect (types_of slots.now) timers instr (reverse kinds.old.items) ≡ Some (reverse kinds.new.items)) }
-    ensures err { IfErr result (λ f. f ≢ VerifyFault.OutOfMemory → misfit slots.now timers instr (reverse kinds.old.items) ≡ Some f) }
+    ensures ok { OnOk result
+        (effect (types_of slots.now) timers instr (reverse kinds.old.items)
+        ≡ Some (reverse kinds.new.items)) }
+    ensures err { IfErr result
+        (λ f. f ≢ VerifyFault.OutOfMemory
+        → misfit slots.now timers instr (reverse kinds.old.items) ≡ Some f) }
 {
     match instr {
         Instr::Halt | Instr::Jump(When::Always, _) => Ok(()),
@@ -250,7 +280,8 @@ fn apply(
 
 // Whether the slot or the timer that an instruction names is there.
 fn find_named(slots: usize, timers: usize, instr: Instr) -> Result<(), VerifyFault>
-    ensures { MatchResult result (λ _. missing slots timers instr ≡ None) (λ f. missing slots timers instr ≡ Some f) }
+    ensures { MatchResult result (λ _. missing slots timers instr ≡ None)
+        (λ f. missing slots timers instr ≡ Some f) }
 {
     match instr {
         Instr::Slot(_, number) if usize::from(number) >= slots => Err(VerifyFault::NoSlot),
@@ -275,7 +306,7 @@ fn operands(instr: Instr) -> usize
 }
 
 // Whether an instruction writes a slot that may only be read.
-fn writes_read_only(slots: &[Slot], instr: Instr) -> bool
+fn writes_read_only(slots: &[SlotType], instr: Instr) -> bool
     ensures { result ≡ spec_judging.writes_read_only slots.now instr }
 {
     match instr {
@@ -289,17 +320,23 @@ fn writes_read_only(slots: &[Slot], instr: Instr) -> bool
     }
 }
 
-/// Does to the kinds what an instruction does, or tells its first fault.
+/// The transfer function of an instruction: the kinds behind it take the place of those before it,
+/// or it has a fault, of which this is the first.
 #[tactic(auto, unfolding(crate::specs::Judging::fault_of))]
-pub(crate) fn judge(
-    slots: &[Slot],
+pub(crate) fn transfer(
+    slots: &[SlotType],
     timers: usize,
     instr: Instr,
     kinds: &mut Vec<CellKind>,
 ) -> Result<(), VerifyFault>
-    ensures ok { OnOk result (effect (types_of slots.now) timers instr (reverse kinds.old.items) ≡ Some (reverse kinds.new.items)) }
-    ensures faultless { OnOk result (fault_of slots.now timers instr (reverse kinds.old.items) ≡ None) }
-    ensures err { IfErr result (λ f. f ≢ VerifyFault.OutOfMemory → fault_of slots.now timers instr (reverse kinds.old.items) ≡ Some f) }
+    ensures ok { OnOk result
+        (effect (types_of slots.now) timers instr (reverse kinds.old.items)
+        ≡ Some (reverse kinds.new.items)) }
+    ensures faultless { OnOk result
+        (fault_of slots.now timers instr (reverse kinds.old.items) ≡ None) }
+    ensures err { IfErr result
+        (λ f. f ≢ VerifyFault.OutOfMemory
+        → fault_of slots.now timers instr (reverse kinds.old.items) ≡ Some f) }
 {
     find_named(slots.len(), timers, instr)?;
     if kinds.len() < operands(instr) {

@@ -56,7 +56,7 @@ invariant_of-result c =
     let rows = did.of_switches.rows in
     let made : c.new.result ≡ bound_from writes 0 bay.switches rows = c.new.ensures ∙ rw (c.as_slice-4.ensures.value, c.into_vec-2.ensures) at did.of_switches.is in
     let bound = are-bound bay nodes layout writes rows c.in_ok-nodes.ensures.switches_named did.of_switches.named c.in_ok-nodes.ensures.switches_sized did.of_switches.sized in
-    let placed : ArePlaced layout (bound_from writes 0 bay.switches rows) = λ k b h. record { named = (bound k b h).named; kinded = (bound k b h).kinded } in
+    let placed : ArePlaced layout (bound_from writes 0 bay.switches rows) = λ k b h. record { named = (bound k b h).named; leaf_typed = (bound k b h).leaf_typed } in
     let same = did.of_switches.sized ∙ c.in_ok-nodes.ensures.switches_sized in
     let count : length (switches_of c.new.result) ≡ c.len.result = omega (
       arith,

@@ -13,7 +13,7 @@ pub take_position-requires : goal.take_position-requires
 take_position-requires c =
     let d = c.args.bay.now in
     let bound = get_or c.as_slice.result.now c.args.switch c.index-as_slice-switch.result in
-    (d.placed c.args.switch bound (there d.switches _ c.args.switch _ c.as_slice.ensures c.requires)).kinded
+    (d.placed c.args.switch bound (there d.switches _ c.args.switch _ c.as_slice.ensures c.requires)).leaf_typed
 
 pub invariant_of-bay : goal.invariant_of-bay
 invariant_of-bay c =

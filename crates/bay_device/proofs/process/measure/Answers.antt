@@ -4,14 +4,14 @@ use Rattle.bay_nodes.specs.Names.{StatusNames, meter_names}
 use Rattle.bay_process.specs.Layout.{layout_of, status_in, switches_of}
 use Rattle.bay_process.specs.Names.{field_names}
 use Rattle.bay_process.specs.Values.{rows_after_measure, tells_measure}
-use Rattle.bay_process.proofs.FieldLemmas.{field-kinded, field-named}
+use Rattle.bay_process.proofs.FieldLemmas.{field-leaf_typed, field-named}
 use Rattle.bay_services.specs.Views.{bay_view}
 use Rattle.bay_services.proofs.PlaceLemmas.{rows_kept}
 use Rattle.bay_device.proofs.ApartLemmas.{shows-measure}
 use Rattle.bay_device.proofs.process.measure.Goals as goal
 
 pub take_measure-requires : goal.take_measure-requires
-take_measure-requires c = rw c.field.ensures (field-kinded (layout_of c.args.bay.now.tree) c.args.rows c.args.field c.requires.kinded)
+take_measure-requires c = rw c.field.ensures (field-leaf_typed (layout_of c.args.bay.now.tree) c.args.rows c.args.field c.requires.leaf_typed)
 
 pub invariant_of-bay : goal.invariant_of-bay
 invariant_of-bay c =

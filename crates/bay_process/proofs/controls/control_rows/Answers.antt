@@ -1,11 +1,11 @@
 use Rattle.std.proofs.Common.{◌≡◌, ◌∙◌, sym, subst}
-use Rattle.bay_tree.specs.declared.leaf.Kind.TheVariants.{Truth}
+use Rattle.bay_tree.specs.declared.leaf.LeafType.TheVariants.{Truth}
 use Rattle.bay_nodes.specs.Names.{control_names_of, control_of}
 use Rattle.bay_process.specs.Controls.{AreControlRows}
 use Rattle.bay_process.specs.Nodes.{HasLeaf}
 use Rattle.bay_process.specs.declared.controls.ControlRows.{ControlRows}
 use Rattle.bay_process.proofs.ListLemmas.{length-snoc}
-use Rattle.bay_process.proofs.NodeLemmas.{controls-snoc, selected-kind}
+use Rattle.bay_process.proofs.NodeLemmas.{controls-snoc, selected-leaf_type}
 use Rattle.bay_process.proofs.controls.control_rows.Goals as goal
 
 pub selected_at-requires : goal.selected_at-requires
@@ -28,7 +28,7 @@ loop-place-preserved c =
     } in
     let own : AreControlRows rows (control_names_of c.as_str-node.result.now) handles = record {
       selected = c.in_ok-selected.ensures;
-      selected_kind = selected-kind rows _ c.in_ok-selected.selected has c.in_ok-selected.ensures;
+      selected_type = selected-leaf_type rows _ c.in_ok-selected.selected has c.in_ok-selected.ensures;
       select = c.in_ok-select.ensures;
       select_with_value = c.in_ok-select_with_value.ensures;
       operate = c.in_ok-operate.ensures;

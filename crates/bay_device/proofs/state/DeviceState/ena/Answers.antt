@@ -18,7 +18,7 @@ enabled_at-enabled-requires c =
     let d = c.args.self.now in
     let bound = c.in_ok-bound.bound in
     let here : slice_get d.bay.switches c.args.switch ≡ Some bound.now = rw c.as_slice.ensures at (got-some _ c.args.switch bound c.in_ok-bound.ensures.lookup) in
-    (d.bound c.args.switch bound.now here).kinded
+    (d.bound c.args.switch bound.now here).leaf_typed
 
 within : (k n : ℕ) (o : Option (Bool × Bool)) → k < n → o ≡ cond (nat_lt k n) o None
 within k n o lt = grind (arith, nat_tests)

@@ -5,14 +5,14 @@ use Rattle.bay_services.specs.Bay.{Bay}
 use Rattle.bay_device.specs.Device.{Ran, State, with_bay}
 use Rattle.bay_device.specs.StateView.{state_view}
 use Rattle.bay_process.specs.Layout.{layout_of}
-use Rattle.bay_device.proofs.ScanLemmas.{halted, inputs-named, interlocked, kinded, meters-kinded, ran, scan-done}
+use Rattle.bay_device.proofs.ScanLemmas.{halted, inputs-named, interlocked, leaf_typed, meters-leaf_typed, ran, scan-done}
 use Rattle.bay_device.proofs.state.DeviceState.scan.Goals as goal
 
-pub run_program-steps-requires-clause-kinded : goal.run_program-steps-requires-clause-kinded
-run_program-steps-requires-clause-kinded c = let d = c.args.self.now in kinded (layout_of d.bay.tree) d.writes d.bay.switches d.bound
+pub run_program-steps-requires-clause-leaf_typed : goal.run_program-steps-requires-clause-leaf_typed
+run_program-steps-requires-clause-leaf_typed c = let d = c.args.self.now in leaf_typed (layout_of d.bay.tree) d.writes d.bay.switches d.bound
 
 pub run_program-steps-requires-clause-metered : goal.run_program-steps-requires-clause-metered
-run_program-steps-requires-clause-metered c = let d = c.args.self.now in rw c.as_slice.ensures (meters-kinded (layout_of d.bay.tree) d.meters d.metered)
+run_program-steps-requires-clause-metered c = let d = c.args.self.now in rw c.as_slice.ensures (meters-leaf_typed (layout_of d.bay.tree) d.meters d.metered)
 
 pub write_scan-requires-clause-interlocked : goal.write_scan-requires-clause-interlocked
 write_scan-requires-clause-interlocked c = let d = c.args.self.now in interlocked (layout_of d.bay.tree) d.writes d.bay.switches d.bound

@@ -6,17 +6,17 @@ use Rattle.bay_services.proofs.bay.ServedBay.view.Goals as goal
 pub position_at-requires : goal.position_at-requires
 position_at-requires c =
     let d = c.args.self.now in
-    (d.placed c.args.switch _ (there d.switches c.as_slice.result.now c.args.switch c.index-as_slice-switch.result c.as_slice.ensures c.requires)).kinded.position.value_kind
+    (d.placed c.args.switch _ (there d.switches c.as_slice.result.now c.args.switch c.index-as_slice-switch.result c.as_slice.ensures c.requires)).leaf_typed.position.value_type
 
 pub is_truth-requires : goal.is_truth-requires
 is_truth-requires c =
     let d = c.args.self.now in
-    (d.placed c.args.switch _ (there d.switches c.as_slice.result.now c.args.switch c.index-as_slice-switch.result c.as_slice.ensures c.requires)).kinded.ena_opn.value_kind
+    (d.placed c.args.switch _ (there d.switches c.as_slice.result.now c.args.switch c.index-as_slice-switch.result c.as_slice.ensures c.requires)).leaf_typed.ena_opn.value_type
 
 pub is_truth-requires-2 : goal.is_truth-requires-2
 is_truth-requires-2 c =
     let d = c.args.self.now in
-    (d.placed c.args.switch _ (there d.switches c.as_slice.result.now c.args.switch c.index-as_slice-switch.result c.as_slice.ensures c.requires)).kinded.ena_cls.value_kind
+    (d.placed c.args.switch _ (there d.switches c.as_slice.result.now c.args.switch c.index-as_slice-switch.result c.as_slice.ensures c.requires)).leaf_typed.ena_cls.value_type
 
 pub returns : goal.returns
 returns c =
