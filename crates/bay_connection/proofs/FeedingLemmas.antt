@@ -14,9 +14,9 @@ use Rattle.bay_assoc.specs.declared.fault.AssocFault.{AssocFault}
 use Rattle.bay_assoc.specs.declared.hearing.Phase.{Phase}
 use Rattle.bay_assoc.specs.declared.hearing.Phase.TheVariants as phases
 use Rattle.bay_assoc.specs.Hearing.{Hearing, answer, mms, released, aborted, hearing}
-use Rattle.bay_assoc.specs.Hears.{link_of}
+use Rattle.bay_assoc.specs.Hears.{association_terms}
 use Rattle.bay_connection.specs.Talk.{Talk, Indication, answers, tells, releases, ends, fails, Told, closed, on_hearing, told, comes_to, indications, left_by}
-use Rattle.bay_connection.specs.Feeding.{Completes, Comes, Feeds, GoesOn}
+use Rattle.bay_connection.specs.Feeding.{CompletesIndication, Comes, Feeds, GoesOn}
 use Rattle.bay_connection.specs.Line.{AreJoined, IsJoined, IsReady, TakesMemory, TellsOf}
 use Rattle.bay_connection.proofs.CuttingLemmas.{indications-take, left_by-take}
 
@@ -39,34 +39,34 @@ feeding-left old new piece used is = left_by-take old piece used ∙ ap (λ (t :
 -- ---- what is ready
 
 agreed_joined : (left : Left) (phase : Phase) → IsSome (agreed_from left) → AreJoined left phase
-agreed_joined (Going link rest) phases.Idle some = tt
-agreed_joined (Going link rest) (phases.Open l) some = some
-agreed_joined (Going link rest) phases.Over some = tt
-agreed_joined (Going link rest) phases.Failed some = tt
+agreed_joined (Going connection rest) phases.Idle some = tt
+agreed_joined (Going connection rest) (phases.Open l) some = some
+agreed_joined (Going connection rest) phases.Over some = tt
+agreed_joined (Going connection rest) phases.Failed some = tt
 agreed_joined Over phase some = absurd (cc)
 agreed_joined Broken phase some = absurd (cc)
 
 pub sized_joined : (t : Talk) → IsSome (agreed t.stream) → IsJoined t
 sized_joined t some = agreed_joined t.stream.left t.phase some
 
-open_agreed : (left : Left) (phase : Phase) → AreJoined left phase → IsSome (link_of phase) → IsSome (agreed_from left)
-open_agreed (Going link rest) phases.Idle joined some = absurd (cc)
-open_agreed (Going link rest) (phases.Open l) joined some = joined
-open_agreed (Going link rest) phases.Over joined some = absurd (cc)
-open_agreed (Going link rest) phases.Failed joined some = absurd (cc)
-open_agreed Over phase joined some = absurd (let f : IsSome (link_of phases.Over) = rw joined at some in cc)
+open_agreed : (left : Left) (phase : Phase) → AreJoined left phase → IsSome (association_terms phase) → IsSome (agreed_from left)
+open_agreed (Going connection rest) phases.Idle joined some = absurd (cc)
+open_agreed (Going connection rest) (phases.Open l) joined some = joined
+open_agreed (Going connection rest) phases.Over joined some = absurd (cc)
+open_agreed (Going connection rest) phases.Failed joined some = absurd (cc)
+open_agreed Over phase joined some = absurd (let f : IsSome (association_terms phases.Over) = rw joined at some in cc)
 open_agreed Broken phase joined some = absurd joined
 
-pub joined_agreed : (t : Talk) → IsJoined t → IsSome (link_of t.phase) → IsSome (agreed t.stream)
+pub joined_agreed : (t : Talk) → IsJoined t → IsSome (association_terms t.phase) → IsSome (agreed t.stream)
 joined_agreed t joined some = open_agreed t.stream.left t.phase joined some
 
 going_joined : (old new : Left) (phase : Phase) → AreJoined old phase → IsGoing old → IsGoing new → agreed_from new ≡ agreed_from old → AreJoined new phase
-going_joined (Going link rest) (Going next more) phases.Idle joined a b e = tt
-going_joined (Going link rest) (Going next more) (phases.Open l) joined a b e = rw e joined
-going_joined (Going link rest) (Going next more) phases.Over joined a b e = tt
-going_joined (Going link rest) (Going next more) phases.Failed joined a b e = tt
-going_joined (Going link rest) Over phase joined a b e = absurd b
-going_joined (Going link rest) Broken phase joined a b e = absurd b
+going_joined (Going connection rest) (Going next more) phases.Idle joined a b e = tt
+going_joined (Going connection rest) (Going next more) (phases.Open l) joined a b e = rw e joined
+going_joined (Going connection rest) (Going next more) phases.Over joined a b e = tt
+going_joined (Going connection rest) (Going next more) phases.Failed joined a b e = tt
+going_joined (Going connection rest) Over phase joined a b e = absurd b
+going_joined (Going connection rest) Broken phase joined a b e = absurd b
 going_joined Over new phase joined a b e = absurd a
 going_joined Broken new phase joined a b e = absurd a
 
@@ -106,7 +106,7 @@ pub record FedSo (t : Talk) (piece : List ℕ) (used : ℕ) (heard : Option Indi
   pub fed : Feeds t piece used heard
   pub left : new ≡ left_by t (take used piece)
 
-completes_comes : (t : Talk) (piece : List ℕ) (used : ℕ) (i : Indication) → Completes t piece used i → Comes t piece used i
+completes_comes : (t : Talk) (piece : List ℕ) (used : ℕ) (i : Indication) → CompletesIndication t piece used i → Comes t piece used i
 completes_comes t piece used (answers octets) h = h
 completes_comes t piece used (tells terms pdu) h = h
 completes_comes t piece used (releases octets) h = h
@@ -120,7 +120,7 @@ record Done (t : Talk) (piece : List ℕ) (used : ℕ) (i : Indication) (new : T
   comes : Comes t piece used i
   left : new ≡ left_by t (take used piece)
 
-going_done : (t : Talk) (piece : List ℕ) (used : ℕ) (d : Doing) (i : Indication) (new : Talk) → feeding.Completes t.stream piece used d
+going_done : (t : Talk) (piece : List ℕ) (used : ℕ) (d : Doing) (i : Indication) (new : Talk) → feeding.CompletesDoing t.stream piece used d
     → told (after t.stream (take used piece)) (d ∷ []) (agreed (after t.stream (take used piece))) t.phase ≡ record { indications = i ∷ []; left = new } → Done t piece used i new
 going_done t piece used d i new c e =
     let all : comes_to t (take used piece) ≡ record { indications = i ∷ []; left = new } = one_done t (take used piece) d c.does ∙ e in
@@ -153,11 +153,11 @@ fed_some : (number : ℕ) (left : Left) (phase : Phase) (piece : List ℕ) (used
     → feeding.FeedsFrom left (record { number = number; left = left }) piece used (Some d) → s ≡ after (record { number = number; left = left }) (take used piece)
     → told s (d ∷ []) (agreed s) phase ≡ record { indications = option_to_list heard; left = new } → FedSo (talk_with number left phase) piece used heard new
 fed_some number left phase piece used d None new s joined fed is e = absurd (told_some s d (agreed s) phase (ap (λ (r : Told). r.indications) e))
-fed_some number (Going link rest) phase piece used d (Some i) new s joined fed is e =
-    let e' : told (after (record { number = number; left = Going link rest }) (take used piece)) (d ∷ []) (agreed (after (record { number = number; left = Going link rest }) (take used piece))) phase ≡ record { indications = i ∷ []; left = new } =
+fed_some number (Going connection rest) phase piece used d (Some i) new s joined fed is e =
+    let e' : told (after (record { number = number; left = Going connection rest }) (take used piece)) (d ∷ []) (agreed (after (record { number = number; left = Going connection rest }) (take used piece))) phase ≡ record { indications = i ∷ []; left = new } =
     ap (λ (x : Stream). told x (d ∷ []) (agreed x) phase) (sym is) ∙ e
     in
-    let done = going_done (talk_with number (Going link rest) phase) piece used d i new fed e' in
+    let done = going_done (talk_with number (Going connection rest) phase) piece used d i new fed e' in
     record { within = fed.within; fed = done.comes; left = done.left }
 fed_some number Over phase piece used d (Some i) new s joined fed is e =
     let ended : d ≡ Ends = cc in
@@ -169,8 +169,8 @@ fed_some number Broken phase piece used d (Some i) new s joined fed is e = absur
 fed_none : (number : ℕ) (left : Left) (phase : Phase) (piece : List ℕ) (used : ℕ) (heard : Option Indication) (new : Talk) (s : Stream) → AreJoined left phase
     → feeding.FeedsFrom left (record { number = number; left = left }) piece used None → s ≡ after (record { number = number; left = left }) (take used piece)
     → heard ≡ None → new ≡ record { stream = s; phase = phase } → FedSo (talk_with number left phase) piece used heard new
-fed_none number (Going link rest) phase piece used heard new s joined fed is none same =
-    let t = talk_with number (Going link rest) phase in
+fed_none number (Going connection rest) phase piece used heard new s joined fed is none same =
+    let t = talk_with number (Going connection rest) phase in
     let all : take used piece ≡ piece = take_all used piece (omega (arith, fed.0)) in
     let quiet : doings t.stream (take used piece) ≡ [] = ap (doings t.stream) all ∙ fed.1 in
     rw none (record {
@@ -192,8 +192,8 @@ fed_got t r got.Ended piece used heard new joined fed is so = fed_some t.stream.
 
 more_ready : (number : ℕ) (left : Left) (phase : Phase) (piece : List ℕ) (used : ℕ) → AreJoined left phase → feeding.FeedsFrom left (record { number = number; left = left }) piece used None
     → AreJoined (after (record { number = number; left = left }) (take used piece)).left phase
-more_ready number (Going link rest) phase piece used joined fed =
-    let s : Stream = record { number = number; left = Going link rest } in
+more_ready number (Going connection rest) phase piece used joined fed =
+    let s : Stream = record { number = number; left = Going connection rest } in
     let all : take used piece ≡ piece = take_all used piece (omega (arith, fed.0)) in
     quiet_joined s phase (take used piece) joined tt (ap (doings s) all ∙ fed.1)
 more_ready number Over phase piece used joined fed = absurd (let f : None ≡ Some Ends = fed.1 in cc)
@@ -201,17 +201,17 @@ more_ready number Broken phase piece used joined fed = absurd joined
 
 answer_ready : (number : ℕ) (left : Left) (piece : List ℕ) (used n : ℕ) (reply : List ℕ) → feeding.FeedsFrom left (record { number = number; left = left }) piece used (Some (Answers n reply))
     → IsSome (agreed (after (record { number = number; left = left }) (take used piece)))
-answer_ready number (Going link rest) piece used n reply fed =
-    let s : Stream = record { number = number; left = Going link rest } in
-    rw (after-size s (take used piece) ∙ ap (size_after link.size) fed.does) refl
+answer_ready number (Going connection rest) piece used n reply fed =
+    let s : Stream = record { number = number; left = Going connection rest } in
+    rw (after-size s (take used piece) ∙ ap (size_after connection.size) fed.does) refl
 answer_ready number Over piece used n reply fed = absurd (let f : Some (Answers n reply) ≡ Some Ends = fed.1 in cc)
 answer_ready number Broken piece used n reply fed = absurd fed
 
 tsdu_ready : (number : ℕ) (left : Left) (piece : List ℕ) (used : ℕ) (tsdu : List ℕ) → feeding.FeedsFrom left (record { number = number; left = left }) piece used (Some (Delivers tsdu))
     → IsSome (agreed (after (record { number = number; left = left }) (take used piece)))
-tsdu_ready number (Going link rest) piece used tsdu fed =
-    let s : Stream = record { number = number; left = Going link rest } in
-    rw (after-size s (take used piece) ∙ ap (size_after link.size) fed.does) (delivers-size s (take used piece) tsdu [] fed.does)
+tsdu_ready number (Going connection rest) piece used tsdu fed =
+    let s : Stream = record { number = number; left = Going connection rest } in
+    rw (after-size s (take used piece) ∙ ap (size_after connection.size) fed.does) (delivers-size s (take used piece) tsdu [] fed.does)
 tsdu_ready number Over piece used tsdu fed = absurd (let f : Some (Delivers tsdu) ≡ Some Ends = fed.1 in cc)
 tsdu_ready number Broken piece used tsdu fed = absurd fed
 
@@ -222,7 +222,7 @@ is_ready t r got.Tsdu piece used joined fed is = rw is (tsdu_ready t.stream.numb
 is_ready t r got.Ended piece used joined fed is = tt
 
 going_from : (left : Left) (s : Stream) (piece : List ℕ) (used : ℕ) (d : Doing) → feeding.FeedsFrom left s piece used (Some d) → (d ≡ Ends → ⊥) → IsGoing left
-going_from (Going link rest) s piece used d fed not = tt
+going_from (Going connection rest) s piece used d fed not = tt
 going_from Over s piece used d fed not = absurd (not (let f : Some d ≡ Some Ends = fed.1 in cc))
 going_from Broken s piece used d fed not = absurd fed
 
@@ -236,8 +236,8 @@ takes_going t r got.Ended piece used fed takes = absurd takes
 
 fault_done : (number : ℕ) (left : Left) (phase : Phase) (piece : List ℕ) (fault : TransportFault) (code : ℕ) → AreJoined left phase → doings (record { number = number; left = left }) piece ≡ Fails fault ∷ [] → code_of fault ≡ Some code
     → FedSo (talk_with number left phase) piece (length piece) (Some (fails code)) (talk_with number Over phases.Over)
-fault_done number (Going link rest) phase piece fault code joined e k =
-    let t = talk_with number (Going link rest) phase in
+fault_done number (Going connection rest) phase piece fault code joined e k =
+    let t = talk_with number (Going connection rest) phase in
     let all : take (length piece) piece ≡ piece = take_all (length piece) piece (omega arith) in
     let q : doings t.stream (take (length piece) piece) ≡ Fails fault ∷ [] = ap (doings t.stream) all ∙ e in
     let c : comes_to t (take (length piece) piece) ≡ told (after t.stream (take (length piece) piece)) (Fails fault ∷ []) (agreed t.stream) phase = ap (λ (ds : List Doing). told (after t.stream (take (length piece) piece)) ds (agreed t.stream) phase) q in
@@ -250,7 +250,7 @@ fault_done number Over phase piece fault code joined e k = absurd (cc)
 fault_done number Broken phase piece fault code joined e k = absurd joined
 
 joined_sound : (left : Left) (phase : Phase) → AreJoined left phase → left ≡ Broken → ⊥
-joined_sound (Going link rest) phase joined e = cc
+joined_sound (Going connection rest) phase joined e = cc
 joined_sound Over phase joined e = cc
 joined_sound Broken phase joined e = joined
 

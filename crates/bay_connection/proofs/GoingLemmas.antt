@@ -11,7 +11,7 @@ use Rattle.bay_connection.specs.Feeding.{IsContinued}
 
 -- a size is agreed only where octets are still taken
 agreed_going : (left : Left) → IsSome (agreed_from left) → IsGoing left
-agreed_going (Going link rest) some = tt
+agreed_going (Going connection rest) some = tt
 agreed_going Over some = absurd (cc)
 agreed_going Broken some = absurd (cc)
 

@@ -4,7 +4,7 @@ use Rattle.std.proofs.lemmas.List.{length-append, drop_at}
 use Rattle.bay_transport.specs.Doings.{Delivers, Stream}
 use Rattle.bay_transport.specs.Wrap.{wrapped}
 use Rattle.bay_assoc.specs.declared.fault.AssocFault.{AssocFault}
-use Rattle.bay_assoc.specs.declared.hearing.Link.{Link}
+use Rattle.bay_assoc.specs.declared.hearing.AssociationTerms.{AssociationTerms}
 use Rattle.bay_assoc.specs.declared.hearing.Phase.{Phase}
 use Rattle.bay_assoc.specs.Code.{code_of}
 use Rattle.bay_assoc.specs.Hearing.{answer, mms, released, aborted, hearing}
@@ -17,7 +17,7 @@ pub sent_is : (size : Option ℕ) (octets tsdu : List ℕ) → IsSome size → I
 sent_is (Some n) octets tsdu some is = is
 sent_is None octets tsdu some is = absurd (cc)
 
-pub sending_is : (size : Option ℕ) (link : Option Link) (octets tsdu pdu : List ℕ) → IsSome link → octets ≡ sent size tsdu → IfSome link (λ l. tsdu ≡ transfer_text (user_text l.contexts.mms pdu)) → octets ≡ sending_in size link pdu
+pub sending_is : (size : Option ℕ) (terms : Option AssociationTerms) (octets tsdu pdu : List ℕ) → IsSome terms → octets ≡ sent size tsdu → IfSome terms (λ l. tsdu ≡ transfer_text (user_text l.contexts.mms pdu)) → octets ≡ sending_in size terms pdu
 sending_is size (Some l) octets tsdu pdu some is text = rw (← text) is
 sending_is size None octets tsdu pdu some is text = absurd (cc)
 

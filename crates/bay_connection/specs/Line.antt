@@ -6,7 +6,7 @@ use Rattle.bay_transport.specs.Doings.{Doing, Left, Going, Over, Broken}
 use Rattle.bay_transport.specs.Feeding.{agreed}
 use Rattle.bay_assoc.specs.declared.hearing.Phase.{Phase}
 use Rattle.bay_assoc.specs.declared.hearing.Phase.TheVariants as phases
-use Rattle.bay_assoc.specs.Hears.{link_of}
+use Rattle.bay_assoc.specs.Hears.{association_terms}
 use Rattle.bay_connection.specs.declared.line.Line.{Line}
 use Rattle.bay_connection.specs.Talk.{Talk, Indication, told}
 use Rattle.bay_connection.specs.Feeding.{Client}
@@ -14,7 +14,7 @@ use Rattle.bay_connection.specs.Feeding.{Client}
 -- An open association has a size of TPDUs agreed; where the stream has ended the association is
 -- over, and no stream has failed.
 abbrev pub AreJoined : Left → Phase → Type 0
-AreJoined (Going link rest) phase = IfSome (link_of phase) (λ _. IsSome link.size)
+AreJoined (Going connection rest) phase = IfSome (association_terms phase) (λ _. IsSome connection.size)
 AreJoined Over phase = phase ≡ phases.Over
 AreJoined Broken phase = ⊥
 

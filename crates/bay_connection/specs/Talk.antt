@@ -6,12 +6,12 @@ use Rattle.bay_transport.specs.Doings.{Doing, Answers, Delivers, Ends, Fails, St
 use Rattle.bay_transport.specs.Feeding.{agreed, ended}
 use Rattle.bay_transport.specs.Wrap.{wrapped}
 use Rattle.bay_assoc.specs.declared.fault.AssocFault.{AssocFault}
-use Rattle.bay_assoc.specs.declared.hearing.Link.{Link}
+use Rattle.bay_assoc.specs.declared.hearing.AssociationTerms.{AssociationTerms}
 use Rattle.bay_assoc.specs.declared.hearing.Phase.{Phase}
 use Rattle.bay_assoc.specs.declared.hearing.Phase.TheVariants.{Over}
 use Rattle.bay_assoc.specs.Code.{code_of as association_code}
 use Rattle.bay_assoc.specs.Hearing.{Hearing, answer, mms, released, aborted, hearing}
-use Rattle.bay_assoc.specs.Hears.{link_of}
+use Rattle.bay_assoc.specs.Hears.{association_terms}
 use Rattle.bay_assoc.specs.Texts.{user_text, transfer_text}
 
 -- what octets leave: what they leave of the stream, and the phase of the association
@@ -88,10 +88,10 @@ abbrev pub left_by : Talk → List ℕ → Talk
 left_by t octets = (comes_to t octets).left
 
 -- what is sent of a PDU of MMS: a TSDU in the context of MMS, in data TPDUs of the size agreed
-abbrev pub sending_in : Option ℕ → Option Link → List ℕ → List ℕ
+abbrev pub sending_in : Option ℕ → Option AssociationTerms → List ℕ → List ℕ
 sending_in size None pdu = []
-sending_in size (Some link) pdu = sent size (transfer_text (user_text link.contexts.mms pdu))
+sending_in size (Some terms) pdu = sent size (transfer_text (user_text terms.contexts.mms pdu))
 
 -- what is sent of a PDU of MMS on these terms
 abbrev pub sending : Terms → List ℕ → List ℕ
-sending terms pdu = sending_in terms.size (link_of terms.phase) pdu
+sending terms pdu = sending_in terms.size (association_terms terms.phase) pdu

@@ -3,7 +3,7 @@
 ghost use Rattle.std.specs.Prelude.{◌≡◌, ◌≤◌, [], Some, IfOk, IsSome, OnErr, OnOk, length, take};
 ghost use Rattle.bay_transport.specs.Doings.{Delivers, start};
 ghost use Rattle.bay_transport.specs.Feeding.{IsGoing, agreed, doing_for};
-ghost use Rattle.bay_assoc.specs.Hears.{link_of};
+ghost use Rattle.bay_assoc.specs.Hears.{association_terms};
 ghost use Rattle.bay_connection.specs.Talk.{answers, closed, terms_of, sent, sending, left_by};
 ghost use Rattle.bay_connection.specs.Feeding.{Feeds, indication_of, IsOpenFor};
 ghost use Rattle.bay_connection.specs.Line.{talk_of, pdu_of, client_of, IsKept, IsReady, TakesMemory, Tells, TellsOf};
@@ -62,7 +62,7 @@ impl Line {
     /// The octets in which a PDU of MMS is sent.
     pub(crate) fn send(&self, pdu: &[u8]) -> Result<Vec<u8>, AllocError>
         requires kept { IsKept self.now }
-        requires open { IsSome (link_of self.now.assoc) }
+        requires open { IsSome (association_terms self.now.assoc) }
         requires short { length pdu.now ≤ 65_000 }
         ensures { IfOk result (λ octets. octets.items ≡ sending (terms_of (talk_of self.now)) pdu.now) }
     {

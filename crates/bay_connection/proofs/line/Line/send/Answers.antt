@@ -2,7 +2,7 @@ use Rattle.std.proofs.Common.{◌≡◌, ◌++◌, IfSome, refl}
 use Rattle.std.proofs.lemmas.Result.{IfOk-weaker}
 use Rattle.bay_transport.specs.Feeding.{agreed}
 use Rattle.bay_transport.specs.Wrap.{wrapped}
-use Rattle.bay_assoc.specs.Hears.{link_of}
+use Rattle.bay_assoc.specs.Hears.{association_terms}
 use Rattle.bay_connection.specs.Talk.{terms_of, sending}
 use Rattle.bay_connection.specs.Line.{talk_of}
 use Rattle.bay_connection.proofs.FeedingLemmas.{joined_agreed}
@@ -20,4 +20,4 @@ returns c =
     let tsdu = c.as_slice.result.now ++ c.args.pdu.now in
     let text = c.front-front.ensures.exact c.args.pdu.now refl in
     IfOk-weaker c.wrap.result (λ v. IfSome size (λ n. v.items ≡ wrapped n tsdu)) (λ v. v.items ≡ sending (terms_of (talk_of line)) c.args.pdu.now)
-    (λ v h. sending_is size (link_of line.assoc) v.items tsdu c.args.pdu.now c.requires.open (sent_is size v.items tsdu some h) (rw c.as_slice.ensures.value text)) c.wrap.ensures.exact
+    (λ v h. sending_is size (association_terms line.assoc) v.items tsdu c.args.pdu.now c.requires.open (sent_is size v.items tsdu some h) (rw c.as_slice.ensures.value text)) c.wrap.ensures.exact
