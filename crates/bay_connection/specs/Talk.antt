@@ -55,25 +55,35 @@ sent (Some size) tsdu = wrapped size tsdu
 -- what is heard comes first, and then what is told later; nothing is told behind a release, an
 -- abort and a fault
 abbrev pub on_heard : Stream → Hearing → Terms → Told → Told
-on_heard s (answer tsdu) terms later = record { indications = answers (sent terms.size tsdu) ∷ later.indications; left = later.left }
-on_heard s (mms pdu) terms later = record { indications = tells terms pdu ∷ later.indications; left = later.left }
-on_heard s (released tsdu) terms later = record { indications = releases (sent terms.size tsdu) ∷ []; left = closed s }
+on_heard s (answer tsdu) terms later =
+    record { indications = answers (sent terms.size tsdu) ∷ later.indications; left = later.left }
+on_heard s (mms pdu) terms later =
+    record { indications = tells terms pdu ∷ later.indications; left = later.left }
+on_heard s (released tsdu) terms later =
+    record { indications = releases (sent terms.size tsdu) ∷ []; left = closed s }
 on_heard s aborted terms later = record { indications = ends ∷ []; left = closed s }
 
 -- what a TSDU comes to, as it is heard or refused, and then what is told later
-abbrev pub on_hearing : Option ℕ → Stream → Result (Hearing × Phase) AssocFault → (Phase → Told) → Told
+abbrev pub on_hearing : Option ℕ → Stream → Result (Hearing × Phase) AssocFault → (Phase → Told)
+    → Told
 on_hearing size s (Ok x) later = on_heard s x.0 (record { size = size; phase = x.1 }) (later x.1)
-on_hearing size s (Err fault) later = record { indications = fails (unwrap_or (association_code fault) 0) ∷ []; left = closed s }
+on_hearing size s (Err fault) later =
+    record { indications = fails (unwrap_or (association_code fault) 0) ∷ []; left = closed s }
 
 -- What the doings of a stream come to, which leave this stream: in a phase, and where this size of
 -- TPDUs was agreed before them.
 abbrev pub told : Stream → List Doing → Option ℕ → Phase → Told
 told s [] size phase = record { indications = []; left = record { stream = s; phase = phase } }
 told s (Answers agreed reply ∷ later) size phase =
-    record { indications = answers reply ∷ (told s later (Some agreed) phase).indications; left = (told s later (Some agreed) phase).left }
-told s (Delivers tsdu ∷ later) size phase = on_hearing size s (hearing phase tsdu) (told s later size)
+    record {
+      indications = answers reply ∷ (told s later (Some agreed) phase).indications;
+      left = (told s later (Some agreed) phase).left;
+    }
+told s (Delivers tsdu ∷ later) size phase =
+    on_hearing size s (hearing phase tsdu) (told s later size)
 told s (Ends ∷ later) size phase = record { indications = ends ∷ []; left = closed s }
-told s (Fails fault ∷ later) size phase = record { indications = fails (unwrap_or (transport_code fault) 0) ∷ []; left = closed s }
+told s (Fails fault ∷ later) size phase =
+    record { indications = fails (unwrap_or (transport_code fault) 0) ∷ []; left = closed s }
 
 -- what octets come to, and what they leave
 abbrev pub comes_to : Talk → List ℕ → Told

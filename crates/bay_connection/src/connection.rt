@@ -34,7 +34,13 @@ impl Connection {
     /// A connection before its first octet. The number is sent as the reference of this side (X.224
     /// 13.4).
     pub fn new(alloc: Global, number: u16) -> Connection
-        ensures { result ≡ record { talk = record { stream = record { number = number; left = start }; phase = Phase.Idle }; pdu = [] } }
+        ensures { result ≡ record {
+          talk = record {
+            stream = record { number = number; left = start };
+            phase = Phase.Idle;
+          };
+          pdu = [];
+        } }
     {
         Connection {
             line: Line::new(alloc, number),
@@ -53,8 +59,10 @@ impl Connection {
         ensures within { IfOk result (λ fed. fed.used ≤ length piece.now) }
         // What is answered is what the piece comes to first, and what is left is what the octets
         // that were taken leave.
-        ensures fed { IfOk result (λ fed. Feeds self.old.talk piece.now fed.used (indication_of fed.heard self.new)) }
-        ensures left { IfOk result (λ fed. self.new.talk ≡ left_by self.old.talk (take fed.used piece.now)) }
+        ensures fed { IfOk result
+            (λ fed. Feeds self.old.talk piece.now fed.used (indication_of fed.heard self.new)) }
+        ensures left { IfOk result
+            (λ fed. self.new.talk ≡ left_by self.old.talk (take fed.used piece.now)) }
         // A PDU is heard where it can be answered.
         ensures open { IfOk result (λ fed. IsOpenFor fed.heard self.new.talk.phase) }
         // Memory is wanting only where octets are still taken, and then the connection is over.
@@ -87,7 +95,8 @@ impl Connection {
     /// The octets of the largest PDU of MMS, as agreed: 256 to 65,000. The association is open.
     pub fn pdu_size(&self) -> u32
         requires { IsSome (association_terms self.now.talk.phase) }
-        ensures size { IfSome (association_terms self.now.talk.phase) (λ terms. result ≡ terms.size) }
+        ensures size { IfSome (association_terms self.now.talk.phase)
+            (λ terms. result ≡ terms.size) }
         ensures least { 256 ≤ result }
         ensures most { result ≤ 65_000 }
     {
