@@ -1,5 +1,6 @@
 -- Each accepted operate of an SBO switch is backed.
 use Rattle.std.proofs.Common.{◌≡◌, ℕ, ◌<◌, ◌+◌, Bool, true, false, not, ◌&&◌, ◌||◌, List, [], ◌∷◌, ◌++◌, Option, None, Some, Result, Err, refl, ap, sym, ◌∙◌, subst, append_assoc, append-nil}
+use Rattle.std.specs.Bool.{beq}
 use Rattle.std.specs.Prelude.{ℤ, nat_le, if◌then◌else◌, is_ok}
 use Rattle.std.specs.Cmp.Lexicographic.{same_text}
 use Rattle.std.proofs.lemmas.Bool.Decides.{Decides-int_eq}
@@ -9,7 +10,7 @@ use Rattle.bay_control.specs.Acts as act
 use Rattle.bay_control.specs.Backing.{AreBacked, AreBackedAfter, IsBacked}
 use Rattle.bay_control.specs.Happenings.{AreOrderly, Call, Open, Close, Select, SelectWith, Operate, Cancel, Contact, Advance, Happening, Leads, act_of, entries_of, history, is_open_after, outcome_of}
 use Rattle.bay_control.specs.Decisions.{State, is_choice, is_chosen, is_selected_by, operate_outcome, selection_at}
-use Rattle.bay_control.specs.Requests.{asked_choice, control_of, is_enhanced, is_sbo, same_choice, same_truth}
+use Rattle.bay_control.specs.Requests.{asked_choice, control_of, is_enhanced, is_sbo, same_choice}
 use Rattle.bay_control.specs.declared.cause.AddCause.{AddCause}
 use Rattle.bay_control.specs.declared.control.SwitchControl.{SwitchControl}
 use Rattle.bay_control.specs.declared.request.Ask.{Ask}
@@ -44,7 +45,7 @@ passed : (refuses : Bool) (cause : AddCause) (rest : Result (Unit {0}) AddCause)
 passed true cause rest e = absurd cc
 passed false cause rest e = (refl, e)
 
-same-truth : (a b : Bool) → same_truth a b ≡ true → a ≡ b
+same-truth : (a b : Bool) → beq a b ≡ true → a ≡ b
 same-truth true true e = refl
 same-truth true false e = absurd cc
 same-truth false true e = absurd cc
@@ -53,7 +54,7 @@ same-truth false false e = refl
 same-choice : (c d : Choice) → same_choice c d ≡ true → d ≡ c
 same-choice c d e =
     let on : c.on ≡ d.on = same-truth c.on d.on (and-left _ _ e) in
-    let origin = and-right (same_truth c.on d.on) _ e in
+    let origin = and-right (beq c.on d.on) _ e in
     let cat : c.origin.cat ≡ d.origin.cat = (Decides-int_eq c.origin.cat d.origin.cat).0 (and-left _ _ origin) in
     let ident : c.origin.ident.items ≡ d.origin.ident.items = same_text _ _ (sym (and-right _ _ origin)) in
     ap (λ (b : Bool). record d { on = b }) (sym on)

@@ -39,6 +39,7 @@ undoes_by a k is_accepted (SelectWith b j choice) = is_accepted && not (a == b &
 undoes_by a k is_accepted (Operate b j choice) = a == b && k == j
 undoes_by a k is_accepted (Cancel b j) = is_accepted && (a == b && k == j)
 
+-- the entry ends what an association had selected of the switch
 abbrev pub undoes : ℕ → ℕ → Entry → Bool
 undoes a k e = undoes_by a k e.is_accepted e.act
 

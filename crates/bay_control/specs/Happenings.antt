@@ -29,6 +29,7 @@ pub record Happening : Type 0 where
 abbrev pub unasked : State → Outcome
 unasked s = record { answer = Ok tt; after = s }
 
+-- the decision of a call
 abbrev pub outcome_of : Call → ℕ → State → Outcome
 outcome_of (Open a) now s = unasked s
 outcome_of (Close a) now s = unasked (dropped a s)
@@ -50,6 +51,7 @@ act_of (Cancel a k) = Some (act.Cancel a k)
 act_of (Contact k position) = None
 act_of Advance = None
 
+-- what a call that asks for something tells, accepted or not
 abbrev pub entries_of : ℕ → Option Act → Bool → List Entry
 entries_of now None is_accepted = []
 entries_of now (Some act) is_accepted = record { now = now; act = act; is_accepted = is_accepted } ∷ []
@@ -94,6 +96,7 @@ abbrev pub AreOrderly : (ℕ → Bool) → List Happening → Type 0
 AreOrderly is_open [] = Unit {0}
 AreOrderly is_open (h ∷ hs) = (is_orderly_call is_open h.call ≡ true) × AreOrderly (is_open_after is_open h.call) hs
 
+-- the association is open behind these
 abbrev pub is_open_after_all : (ℕ → Bool) → List Happening → ℕ → Bool
 is_open_after_all is_open [] b = is_open b
 is_open_after_all is_open (h ∷ hs) b = is_open_after_all (is_open_after is_open h.call) hs b

@@ -14,7 +14,7 @@ use Rattle.bay_services.specs.Released.{AreTimed, Leaves, releasing}
 use Rattle.bay_services.specs.Released as services
 use Rattle.bay_services.specs.declared.answer.Command.{Command}
 use Rattle.bay_services.proofs.ReleaseLemmas.{Sole, all-of, answer-sent, at-most-one, busy-still, commands-each, idle-now, leaves-none, leaves-then, leaves-with, request-leaves, sole-said}
-use Rattle.bay_device.specs.Commands.{AllCommanded, AreCommanded, IsReleased, IsSingle}
+use Rattle.bay_device.specs.Commands.{AllCommanded, AreCommanded, IsReleasedAt, IsSingle}
 use Rattle.bay_device.specs.Device.{State, advanced, bay_of, ended_at, is_fresh}
 use Rattle.bay_device.specs.Hearing.{Done, Heard, client_at, heard, on_heard, said, sent_on, with_sent}
 use Rattle.bay_device.specs.Outcomes.{Outcome, close_outcome, connection_at, contact_outcome, event_outcome, input_outcome, first_talk, last_moment, measure_outcome, nothing_done, octets_outcome, open_outcome, outcome, outcomes, place_of, recv_after, recv_outcome, with_connection, without_owner}
@@ -29,7 +29,7 @@ use Rattle.bay_device.specs.declared.fault.StepFault.{StepFault}
 record Makes (now : ℕ) (s : State) (d : Done) : Type 0 where
   leaves : Leaves now (bay_of s) (bay_of d.state)
   fresh : is_fresh now d.state ≡ is_fresh now s
-  released : AllByRecursion (IsReleased now s) d.commands
+  released : AllByRecursion (IsReleasedAt now s) d.commands
   replied : d.commands ≢ [] → d.sent ≢ []
   sole : AreTimed s.controls.controls → Sole now d.commands d.state.controls
 
@@ -47,7 +47,7 @@ enabled-before now k true b d left h = ap (is_truth true) (sym (left.enabled k _
 enabled-before now k false b d left h = ap (is_truth true) (sym (left.enabled k _)) ∙ h
 
 released-before : (now a : ℕ) (terms : Terms) (s : State) (d : Done) (command : Command) → Makes now s d → services.IsReleased (client_at now a terms d.state) (bay_of d.state) command
-    → IsReleased now s command
+    → IsReleasedAt now s command
 released-before now a terms s d command makes is = record {
   fresh = sym makes.fresh ∙ is.fresh;
   enabled = enabled-before now command.switch command.on (bay_of s) (bay_of d.state) makes.leaves is.enabled;
@@ -55,11 +55,11 @@ released-before now a terms s d command makes is = record {
 }
 
 all-before : (now a : ℕ) (terms : Terms) (s : State) (d : Done) (commands : List Command) → Makes now s d
-    → AllByRecursion (services.IsReleased (client_at now a terms d.state) (bay_of d.state)) commands → AllByRecursion (IsReleased now s) commands
+    → AllByRecursion (services.IsReleased (client_at now a terms d.state) (bay_of d.state)) commands → AllByRecursion (IsReleasedAt now s) commands
 all-before now a terms s d [] makes all = tt
 all-before now a terms s d (x ∷ commands) makes all = (released-before now a terms s d x makes all.0, all-before now a terms s d commands makes all.1)
 
-joined : (now : ℕ) (s : State) (first more : List Command) → AllByRecursion (IsReleased now s) first → AllByRecursion (IsReleased now s) more → AllByRecursion (IsReleased now s) (first ++ more)
+joined : (now : ℕ) (s : State) (first more : List Command) → AllByRecursion (IsReleasedAt now s) first → AllByRecursion (IsReleasedAt now s) more → AllByRecursion (IsReleasedAt now s) (first ++ more)
 joined now s [] more p q = q
 joined now s (x ∷ first) more p q = (p.0, joined now s first more p.1 q)
 
@@ -119,7 +119,7 @@ octets-commanded : (choice : Option ℕ) (now a : ℕ) (s : State) (talk : Talk)
 octets-commanded choice now a s talk [] = none-commanded now s (ended_at now s) None
 octets-commanded choice now a s talk (octet ∷ octets) =
     let makes = makes-heard choice now a (indications talk (octet ∷ octets)) s (nothing_done (advanced now s)) (begins now s) in
-    record { released = all-of (IsReleased now s) _ makes.released; replied = makes.replied }
+    record { released = all-of (IsReleasedAt now s) _ makes.released; replied = makes.replied }
 
 recv-commanded : (choice : Option ℕ) (now a : ℕ) (octets : List ℕ) (s : State) (talk : Option Talk) → Commanded now s (recv_outcome choice now a octets s talk).answer
 recv-commanded choice now a octets s None = tt

@@ -3,7 +3,6 @@ use Rattle.std.proofs.Common.{◌≡◌, ℕ, zero, suc, Bool, true, false, not,
 use Rattle.std.proofs.lemmas.List.{length-map, take-append-drop}
 use Rattle.std.proofs.Math.Seq.{drop-append_seam, take-append_seam}
 use Rattle.bay_base.specs.declared.types.ElementaryType.{ElementaryType}
-use Rattle.bay_base.specs.declared.types.ElementaryType.TheVariants as elementary
 use Rattle.bay_config.specs.Laws.{IsBay}
 use Rattle.bay_config.specs.declared.bay.Bay.{Bay}
 use Rattle.bay_config.specs.declared.bay.Point.{Point}
@@ -12,10 +11,11 @@ use Rattle.bay_config.specs.declared.bay.Source.{Source}
 use Rattle.bay_config.specs.declared.bay.Source.TheVariants as source
 use Rattle.bay_nodes.specs.declared.switch.Switch.{Switch}
 use Rattle.bay_config.specs.declared.bay.SwitchPoint.TheVariants.{Position, Open, Closed, EnableOpen, EnableClose}
-use Rattle.il_image.specs.Machine.{Halted, run, start}
+use Rattle.il_image.specs.Machine.{Halted, run, initial_state}
 use Rattle.il_image.specs.Values.{type_of}
+use Rattle.il_image.proofs.ValueLemmas.{default_typed}
 use Rattle.il_image.specs.declared.image.ImagePoint.{ImagePoint}
-use Rattle.il_image.specs.declared.timer.Timer.{Timer}
+use Rattle.il_image.specs.declared.timer.TimerState.{TimerState}
 use Rattle.il_image.specs.declared.value.Value.{Value}
 use Rattle.il_check.specs.Program.{Checked}
 use Rattle.il_check.specs.declared.typed.External.{External}
@@ -23,15 +23,14 @@ use Rattle.il_check.specs.declared.typed.Timer.{Timer as DeclaredTimer}
 use Rattle.il_check.specs.declared.typed.Variable.{Variable}
 use Rattle.il_image.specs.Images.{Each}
 use Rattle.il_image.specs.Timers.{first_state}
-use Rattle.il_image.specs.declared.timer.TimerKind.{TimerKind}
+use Rattle.bay_base.specs.declared.types.TimerKind.{TimerKind}
 use Rattle.il_verify.specs.Verdicts.{IsVerified}
 use Rattle.il_compile.specs.Compiled.{image_of, point_of}
 use Rattle.il_compile.specs.Correct.{DoesTheText, Follows, HasTypes}
-use Rattle.il_compile.specs.Senses.{timer_of}
 use Rattle.bay_device.specs.Load.{initial_device}
 use Rattle.bay_process.proofs.SourceLemmas.{IsTyped, bay-typed, points-fit, reads-typed}
 use Rattle.il_compile.specs.Meaning.{Memory}
-use Rattle.il_scan.specs.Scans.{Held, first_input, first_slots, default_value, outputs_of, read_only, type_of_point, with_inputs}
+use Rattle.il_scan.specs.Scans.{Held, first_input, first_slots, outputs_of, read_only, type_of_point, with_inputs}
 use Rattle.bay_connection.specs.Talk.{Talk, Indication, indications, left_by, answers, tells, releases, ends as ends-heard, fails}
 use Rattle.bay_device.specs.Device.{State, Ran, advanced, ending_at, inputs_of, point_value, ran_at, ran_of, scanned}
 use Rattle.bay_device.specs.Hearing.{Done, Heard, heard, on_heard}
@@ -42,13 +41,6 @@ use Rattle.bay_device.specs.Meaning.{AllMean, Means, MeansAt, Runs, memory_befor
 use Rattle.bay_process.specs.Sources.{type_of_source}
 use Rattle.bay_device.specs.declared.event.Event.{Event}
 use Rattle.bay_device.specs.declared.event.Event.TheVariants.{Open, Recv, Close, Contact, Input, Measure, Scan}
-
-first-of : (t : ElementaryType) → type_of (default_value t) ≡ t
-first-of elementary.Bool = refl
-first-of elementary.Int = refl
-first-of elementary.Dint = refl
-first-of elementary.Lint = refl
-first-of elementary.Time = refl
 
 -- ---- inputs have the types of what they stand for
 
@@ -151,7 +143,7 @@ module _ (c : Checked) (s : State) (r : Runs c s) (now : ℕ) where
   after = follows.means.after
 
   ends : ending_at now s ≡ Halted (after.externals ++ after.variables) after.timers follows.steps
-  ends = ap (λ (slots : List Value). run s.machine.image.code now (length s.machine.image.code) (start slots s.machine.timers) 0) (sym (take-append-drop count (with_inputs points (inputs_of s) s.machine.slots))) ∙ follows.halts
+  ends = ap (λ (slots : List Value). run s.machine.image.code now (length s.machine.image.code) (initial_state slots s.machine.timers) 0) (sym (take-append-drop count (with_inputs points (inputs_of s) s.machine.slots))) ∙ follows.halts
 
   ran : ran_at now s ≡ record { slots = after.externals ++ after.variables; timers = after.timers; steps = follows.steps }
   ran = ap ran_of ends
@@ -305,7 +297,7 @@ all-run c (choice ∷ choices) (e ∷ events) s r = all-run c choices events (ou
 
 first-typed : (es : List External) (vs : List Value) → map type_of (take (length es) (first_slots (map point_of es) vs)) ≡ map (λ (e : External). e.kind) es
 first-typed [] vs = refl
-first-typed (e ∷ es) vs = ap₂ (λ (t : ElementaryType) (ts : List ElementaryType). t ∷ ts) (first-of e.kind) (first-typed es vs)
+first-typed (e ∷ es) vs = ap₂ (λ (t : ElementaryType) (ts : List ElementaryType). t ∷ ts) (default_typed e.kind).0 (first-typed es vs)
 
 first-behind : (es : List External) (vs : List Value) → drop (length es) (first_slots (map point_of es) vs) ≡ vs
 first-behind [] vs = refl
@@ -315,9 +307,9 @@ initial-types : (vs : List Variable) → map type_of (map (λ (v : Variable). v.
 initial-types [] = refl
 initial-types (v ∷ vs) = ap (λ (ts : List ElementaryType). type_of v.initial ∷ ts) (initial-types vs)
 
-timers-first : (ts : List DeclaredTimer) → map (λ (t : Timer). t.kind) (map first_state (map (λ (t : DeclaredTimer). timer_of t.kind) ts)) ≡ map (λ (t : DeclaredTimer). timer_of t.kind) ts
+timers-first : (ts : List DeclaredTimer) → map (λ (t : TimerState). t.kind) (map first_state (map (λ (t : DeclaredTimer). t.kind) ts)) ≡ map (λ (t : DeclaredTimer). t.kind) ts
 timers-first [] = refl
-timers-first (t ∷ ts) = ap (λ (ks : List TimerKind). timer_of t.kind ∷ ks) (timers-first ts)
+timers-first (t ∷ ts) = ap (λ (ks : List TimerKind). t.kind ∷ ks) (timers-first ts)
 
 pub runs-first : (c : Checked) (bay : Bay) → IsBay bay → IsVerified bay.points (image_of c) → DoesTheText c (image_of c).code → Runs c (initial_device bay (image_of c))
 runs-first c bay is verified does = record {

@@ -13,14 +13,14 @@ use Rattle.bay_device.specs.declared.fault.StepFault.{StepFault}
 
 -- A switch is operated at a moment while the last scan is fresh, its interlocking value (EnaCls for
 -- on, EnaOpn for off) is TRUE in the tree, and no switch of the bay is operating.
-pub record IsReleased (now : ℕ) (s : State) (command : Command) : Type 0 where
+pub record IsReleasedAt (now : ℕ) (s : State) (command : Command) : Type 0 where
   pub fresh : is_fresh now s ≡ true
   pub enabled : is_truth true (leaf_of (releasing command.switch command.on) s.rows) ≡ true
   pub idle : (control.advanced now s.controls).execution ≡ None
 
 -- The commands of a step are so, and come with replies.
 pub record AreCommanded (now : ℕ) (s : State) (step : Step) : Type 0 where
-  pub released : All (IsReleased now s) step.commands
+  pub released : All (IsReleasedAt now s) step.commands
   pub replied : step.commands ≢ [] → step.sent ≢ []
 
 -- Those of each step of a list of events are.

@@ -9,6 +9,7 @@ abbrev pub talk_in : Option Client → Option Talk
 talk_in None = None
 talk_in (Some client) = Some client.talk
 
+-- what the octets of each association have left
 abbrev pub talks : List (Option Client) → List (Option Talk)
 talks clients = map talk_in clients
 

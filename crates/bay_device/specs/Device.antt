@@ -2,6 +2,7 @@
 -- it that no client asks for (IEC 61850-7-4: XCBR, XSWI, CSWI, CILO and MMXU; IEC 61850-7-3: status
 -- values and measured values).
 use Rattle.std.specs.Prelude.{ℕ, ℤ, ◌-◌, Bool, false, not, ◌&&◌, ◌||◌, nat_le, List, [], length, map, slice_get, slice_set, unwrap_or, Option, None, Some, if◌then◌else◌}
+use Rattle.std.specs.Bool.{beq}
 use Rattle.bay_tree.specs.declared.row.Row.{Row}
 use Rattle.bay_tree.specs.declared.leaf.Dbpos.{Dbpos}
 use Rattle.bay_nodes.specs.declared.switch.Switch.{Switch}
@@ -10,12 +11,12 @@ use Rattle.bay_config.specs.declared.bay.MeterField.{MeterField}
 use Rattle.bay_config.specs.declared.bay.Source.{Source}
 use Rattle.bay_config.specs.declared.bay.Source.TheVariants as source
 use Rattle.il_image.specs.Machine.{Ending, Halted, Trapped, Unfinished, run}
-use Rattle.il_image.specs.declared.timer.Timer.{Timer}
+use Rattle.il_image.specs.declared.timer.TimerState.{TimerState}
 use Rattle.il_image.specs.declared.value.Value.{Value}
 use Rattle.il_image.specs.declared.value.Value.TheVariants.{Truth, Long}
 use Rattle.il_scan.specs.Scans.{Held, outputs_of, started}
 use Rattle.bay_process.specs.Names.{field_names}
-use Rattle.bay_process.specs.Values.{measure_leaf, number_of_leaf, position_leaf, position_value, rows_after_contact, rows_after_measure, same_truth, tells, tells_measure, with_outputs}
+use Rattle.bay_process.specs.Values.{measure_leaf, number_of_leaf, position_leaf, position_value, rows_after_contact, rows_after_measure, tells, tells_measure, with_outputs}
 use Rattle.bay_control.specs.Decisions as control
 use Rattle.bay_control.specs.Decisions.{contacted, is_done, run_out}
 use Rattle.bay_connection.specs.Talk.{Talk}
@@ -63,6 +64,7 @@ bay_of s = record {
   controls = s.controls;
 }
 
+-- the device with this bay
 abbrev pub with_bay : Bay → State → State
 with_bay b s = record s {
   domain = b.domain;
@@ -80,6 +82,7 @@ abbrev pub is_recent : ℕ → ℕ → Option ℕ → Bool
 is_recent now age None = false
 is_recent now age (Some scan) = nat_le (now - scan) age
 
+-- a scan is recent enough, and no input has changed since
 abbrev pub is_fresh : ℕ → State → Bool
 is_fresh now s = is_recent now s.scan_max_age_ms s.last_scan && not s.is_stale
 
@@ -95,6 +98,7 @@ abbrev pub reached : Option Due → Option Sent
 reached None = None
 reached (Some due) = sent_to due.association due.positive
 
+-- the report of a switch that did not reach its position in time
 abbrev pub missed : Option Due → Option Sent
 missed None = None
 missed (Some due) = sent_to due.association due.negative
@@ -135,14 +139,16 @@ contact_taken now k switch position s =
       due = if is_done k position s.controls.execution then None else s.due;
     }
 
+-- the report of a switch that reaches its position with this contact
 abbrev pub reached_at : ℕ → Dbpos → State → Option Sent
 reached_at k position s = if is_done k position s.controls.execution then reached s.due else None
 
+-- an input has this value, and where that is another the last scan is stale
 abbrev pub input_taken : ℕ → Bool → Bool → State → State
 input_taken k value before s =
     record s {
       input_values = slice_set s.input_values k value;
-      is_stale = s.is_stale || not (same_truth value before);
+      is_stale = s.is_stale || not (beq value before);
     }
 
 -- a measured value of a meter
@@ -169,7 +175,7 @@ inputs_of s = map (point_value s) s.reads
 -- what a run leaves in slots and timers, and how many steps it takes
 pub record Ran : Type 0 where
   pub slots : List Value
-  pub timers : List Timer
+  pub timers : List TimerState
   pub steps : ℕ
 
 -- a run that halts; no run of verified code ends otherwise
@@ -182,6 +188,7 @@ ran_of Unfinished = record { slots = []; timers = []; steps = 0 }
 abbrev pub ending_at : ℕ → State → Ending
 ending_at now s = run s.machine.image.code now (length s.machine.image.code) (started s.machine (inputs_of s)) 0
 
+-- the program runs once on what stands
 abbrev pub ran_at : ℕ → State → Ran
 ran_at now s = ran_of (ending_at now s)
 

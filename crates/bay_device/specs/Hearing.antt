@@ -33,6 +33,7 @@ abbrev pub size_of : Option AssociationTerms → ℕ
 size_of None = 0
 size_of (Some terms) = terms.size
 
+-- the client of an association, on these terms
 abbrev pub client_at : ℕ → ℕ → Terms → State → Client
 client_at now a terms s = record { association = a; size = size_of (association_terms terms.phase); now = now; fresh = is_fresh now s }
 
@@ -41,6 +42,7 @@ abbrev pub sending_if : Terms → Option (List ℕ) → Option (List ℕ)
 sending_if terms None = None
 sending_if terms (Some pdu) = Some (sending terms pdu)
 
+-- what is to be told when a switch ends its operation
 abbrev pub due_of : ℕ → Terms → Ending → Due
 due_of a terms e = record { association = a; positive = sending_if terms e.positive; negative = sending_if terms e.negative }
 

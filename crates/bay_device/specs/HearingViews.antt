@@ -7,10 +7,10 @@ use Rattle.bay_services.specs.Bay.{standing_again}
 use Rattle.bay_device.specs.Device.{State, bay_of, with_bay}
 use Rattle.bay_device.specs.Hearing.{Done, Heard, heard, on_heard}
 use Rattle.bay_device.specs.declared.event.Why.{Why}
-use Rattle.bay_device.specs.declared.message.Output.{Output}
+use Rattle.bay_device.specs.declared.message.Made.{Made}
 
-abbrev pub done_of : State → Output → Done
-done_of s output = record { state = s; sent = output.sent.items; commands = output.commands.items }
+abbrev pub done_of : State → Made → Done
+done_of s made = record { state = s; sent = made.sent.items; commands = made.commands.items }
 
 -- a device with what stood before
 abbrev pub put_back : Standing → State → State

@@ -87,6 +87,7 @@ abbrev pub of_checked : Bay → Result Checked CheckFault → Result State LoadF
 of_checked bay (Ok checked) = of_compiled bay (compiled_of checked)
 of_checked bay (Err fault) = Err (check_refusal fault)
 
+-- the device of a bay and a text that reads so
 abbrev pub of_program : Bay → Result PlainProgram TextFault → Result State LoadFault
 of_program bay (Ok program) = of_checked bay (checked_of bay.points program)
 of_program bay (Err fault) = Err (text_refusal fault)

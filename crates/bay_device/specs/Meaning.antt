@@ -2,7 +2,7 @@
 -- what the text means.
 use Rattle.std.specs.Prelude.{ℕ, ◌≡◌, ◌≤◌, Bool, false, nat_lt, ◌||◌, List, [], ◌∷◌, length, map, take, drop, Option, Some, None, Result}
 use Rattle.il_image.specs.Machine.{Halted}
-use Rattle.il_image.specs.declared.timer.Timer.{Timer}
+use Rattle.il_image.specs.declared.timer.TimerState.{TimerState}
 use Rattle.il_image.specs.declared.value.Value.{Value}
 use Rattle.il_check.specs.Program.{Checked}
 use Rattle.il_compile.specs.Compiled.{point_of}
@@ -25,7 +25,7 @@ use Rattle.bay_process.specs.Sources.{type_of_source}
 -- The run of a scan ends at HALT, without a trap, within the budget of the code.
 pub record Halts (now : ℕ) (s : State) : Type 0 where
   pub slots : List Value
-  pub timers : List Timer
+  pub timers : List TimerState
   pub steps : ℕ
   pub halts : ending_at now s ≡ Halted slots timers steps
   pub within : (budget : ℕ) → IsBudget s.machine.image.code budget → steps ≤ budget
@@ -58,7 +58,7 @@ pub record Halting (events : List (ℕ × Event)) (old : State) (answers : List 
 -- ---- what the text means
 
 -- the values of a program's externals, variables and timers, where slots and timers hold them
-abbrev pub memory_of : Checked → List Value → List Timer → Memory
+abbrev pub memory_of : Checked → List Value → List TimerState → Memory
 memory_of c slots timers = record { externals = take (length c.externals) slots; variables = drop (length c.externals) slots; timers = timers }
 
 -- those that a scan begins with: what the device keeps, with the values of the points that are only

@@ -69,6 +69,7 @@ abbrev pub connection_at : Option ℕ → State → Option Talk
 connection_at None s = None
 connection_at (Some place) s = unwrap_or (slice_get s.connections place) None
 
+-- the octets of an association have left this
 abbrev pub with_connection : Option ℕ → Option Talk → State → State
 with_connection None talk s = s
 with_connection (Some place) talk s = record s { connections = slice_set s.connections place talk }
@@ -86,14 +87,17 @@ due_without a (Some due) = if due.association == a then None else Some due
 abbrev pub without_owner : ℕ → State → State
 without_owner a s = record (with_bay (with_controls (dropped a s.controls) (bay_of s)) s) { due = due_without a s.due }
 
+-- it is open no more
 abbrev pub closed : ℕ → State → State
 closed a s = with_connection (place_of a) None (without_owner a s)
 
+-- an association is opened that is not open
 abbrev pub open_outcome : ℕ → ℕ → State → Option ℕ → Option Talk → Outcome
 open_outcome now a s None talk = refused NoSuchAssociation s
 open_outcome now a s (Some place) (Some talk) = refused AlreadyOpen s
 open_outcome now a s (Some place) None = quiet (ended_at now s) (with_connection (place_of a) (Some (first_talk a)) (advanced now s))
 
+-- an association is closed that is open
 abbrev pub close_outcome : ℕ → ℕ → State → Option Talk → Outcome
 close_outcome now a s None = refused NoSuchAssociation s
 close_outcome now a s (Some talk) = quiet (ended_at now s) (closed a (advanced now s))
@@ -103,10 +107,12 @@ abbrev pub recv_after : ℕ → Talk → State → Option Why → State
 recv_after a left s None = with_connection (place_of a) (Some left) s
 recv_after a left s (Some why) = closed a s
 
+-- that the device closed it, and why
 abbrev pub closed_by : ℕ → Option Why → Option (ℕ × Why)
 closed_by a None = None
 closed_by a (Some why) = Some (a, why)
 
+-- the answer to octets that were heard
 abbrev pub recv_done : ℕ → Talk → Option Sent → Heard → Outcome
 recv_done a left ended h = record {
   answer = Ok (record { ended = ended; sent = h.done.sent; commands = h.done.commands; closed = closed_by a h.why; scan = None });
@@ -123,6 +129,7 @@ octets_outcome choice now a s talk [] = quiet (ended_at now s) (advanced now s)
 octets_outcome choice now a s talk (octet ∷ octets) =
     recv_done a (left_by talk (octet ∷ octets)) (ended_at now s) (heard choice now a (indications talk (octet ∷ octets)) (nothing_done (advanced now s)))
 
+-- octets of an association, which are refused where it is not open
 abbrev pub recv_outcome : Option ℕ → ℕ → ℕ → List ℕ → State → Option Talk → Outcome
 recv_outcome choice now a octets s None = refused NoSuchAssociation s
 recv_outcome choice now a octets s (Some talk) = octets_outcome choice now a s talk octets
@@ -161,6 +168,7 @@ pub record Outcomes : Type 0 where
 abbrev pub with_first : Result Step StepFault → Outcomes → Outcomes
 with_first answer rest = record { answers = answer ∷ rest.answers; after = rest.after }
 
+-- one event after the other
 abbrev pub outcomes : List (Option ℕ) → List (ℕ × Event) → State → Outcomes
 outcomes choices [] s = record { answers = []; after = s }
 outcomes [] (e ∷ es) s = with_first (outcome None e.0 e.1 s).answer (outcomes [] es (outcome None e.0 e.1 s).after)

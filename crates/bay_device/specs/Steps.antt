@@ -20,6 +20,7 @@ abbrev pub quiet_answer : Result (Option Sent) StepFault → Result Step StepFau
 quiet_answer (Ok ended) = Ok (record { ended = ended; sent = []; commands = []; closed = None; scan = None })
 quiet_answer (Err fault) = Err fault
 
+-- an answer that sends nothing but what tells of an end
 pub record IsQuiet (answer : Result (Option Sent) StepFault) (new : State) (o : Outcome) : Type 0 where
   pub answered : quiet_answer answer ≡ o.answer
   pub left : new ≡ o.after

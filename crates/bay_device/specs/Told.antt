@@ -57,6 +57,7 @@ value_of user = value_in user >>= under (application 1) >>= value_in >>= under s
 abbrev pub pdu_in : List ℕ → List ℕ
 pdu_in octets = unwrap_or (tsdu_in octets >>= spdu_in >>= user_data >>= value_of) []
 
+-- the PDUs of all that is sent
 abbrev pub pdus_in : List Sent → List (List ℕ)
 pdus_in sent = map (λ s. pdu_in s.octets) sent
 
@@ -79,6 +80,7 @@ told_heard now a names (releases octets ∷ is) pdus = []
 told_heard now a names (ends ∷ is) pdus = []
 told_heard now a names (fails code ∷ is) pdus = []
 
+-- what octets tell; nothing where the association is not open
 abbrev pub told_recv : ℕ → ℕ → Bay → List ℕ → Option Talk → List Sent → List Entry
 told_recv now a names octets None sent = []
 told_recv now a names octets (Some talk) sent = told_heard now a names (indications talk octets) (pdus_in sent)
@@ -95,10 +97,12 @@ abbrev pub talk_at : Option ℕ → List (Option Talk) → Option Talk
 talk_at None talks = None
 talk_at (Some place) talks = unwrap_or (slice_get talks place) None
 
+-- the octets of an association have left this
 abbrev pub with_talk : Option ℕ → Option Talk → List (Option Talk) → List (Option Talk)
 with_talk None talk talks = talks
 with_talk (Some place) talk talks = slice_set talks place talk
 
+-- what an event that is not refused tells
 abbrev pub told_step : ℕ → Event → Bay → List (Option Talk) → Step → List Entry
 told_step now (Open a) names talks step = told now (Opened a)
 told_step now (Recv a octets) names talks step = told_recv now a names octets.now (talk_at (place_of a) talks) step.sent ++ told_closed now step.closed
@@ -121,6 +125,7 @@ abbrev pub talks_heard : ℕ → List ℕ → List (Option Talk) → Option (ℕ
 talks_heard a octets talks (Some closed) = with_talk (place_of a) None talks
 talks_heard a octets talks None = talks_behind a octets talks
 
+-- what it leaves of each talk
 abbrev pub talks_step : Event → List (Option Talk) → Step → List (Option Talk)
 talks_step (Open a) talks step = with_talk (place_of a) (Some (first_talk a)) talks
 talks_step (Recv a octets) talks step = talks_heard a octets.now talks step.closed
@@ -135,9 +140,11 @@ abbrev pub of_answer : {T : Type 0} → T → (Step → T) → Result Step StepF
 of_answer refused accepted (Ok step) = accepted step
 of_answer refused accepted (Err fault) = refused
 
+-- what an event tells
 abbrev pub told_answer : ℕ → Event → Bay → List (Option Talk) → Result Step StepFault → List Entry
 told_answer now event names talks answer = of_answer [] (told_step now event names talks) answer
 
+-- what it leaves of each talk
 abbrev pub talks_answer : Event → List (Option Talk) → Result Step StepFault → List (Option Talk)
 talks_answer event talks answer = of_answer talks (talks_step event talks) answer
 

@@ -25,7 +25,7 @@ use crate::connections::Connections;
 use crate::due::forget;
 use crate::event::{Event, LAST_MOMENT, Sent, Step, Why, place_of};
 use crate::fault::StepFault;
-use crate::message::Output;
+use crate::message::Made;
 use crate::octets::drain;
 use crate::report::{Report, report_of};
 use crate::state::DeviceState;
@@ -181,7 +181,7 @@ impl Device {
             Some(connection) => connection,
             None => unreachable!(),
         };
-        let mut output = Output::new(self.alloc);
+        let mut made = Made::new(self.alloc);
         let why = drain(
             self.alloc,
             now,
@@ -189,14 +189,14 @@ impl Device {
             &mut self.state,
             &mut connection,
             octets,
-            &mut output,
+            &mut made,
         )
         .err();
         self.finish(association, place, connection, why);
         Step {
             ended,
-            sent: Listing::new(output.sent),
-            commands: Listing::new(output.commands),
+            sent: Listing::new(made.sent),
+            commands: Listing::new(made.commands),
             closed: closed_by(association, why),
             scan: None,
         }

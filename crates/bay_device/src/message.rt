@@ -22,18 +22,18 @@ use std::alloc::{AllocError, Global};
 
 /// What an event has made so far: octets that are to be sent, and switches that are to be operated.
 #[derive(Drop)]
-pub struct Output {
+pub struct Made {
     pub sent: Vec<Sent>,
     pub commands: Vec<Command>,
 }
 
-impl Output {
+impl Made {
     /// Nothing is made yet.
-    pub fn new(alloc: Global) -> Output
+    pub fn new(alloc: Global) -> Made
         ensures sent { result.sent.items ≡ [] }
         ensures commands { result.commands.items ≡ [] }
     {
-        Output {
+        Made {
             sent: Vec::new(alloc),
             commands: Vec::new(alloc),
         }
@@ -139,25 +139,25 @@ fn reply(
     connection: &Connection,
     association: u16,
     answer: &Answer,
-    output: &mut Output,
+    made: &mut Made,
 ) -> Result<Option<Due>, AllocError>
     requires open { IsSome (association_terms connection.now.talk.phase) }
     requires short { All (λ pdu. length pdu ≤ 65_000) answer.now.sent.items }
     requires ending { IsShort answer.now.ending }
     ensures due { IfOk result (λ due. due ≡ spec.due_if association (terms_of connection.now.talk) answer.now.ending) }
-    ensures sent { OnOk result (output.new.sent.items ≡ output.old.sent.items ++ map (λ pdu. sent_on association (sending (terms_of connection.now.talk) pdu)) answer.now.sent.items) }
-    ensures commands { OnOk result (output.new.commands.items ≡ output.old.commands.items ++ answer.now.commands.items) }
-    ensures sent_before { take (length output.old.sent.items) output.new.sent.items ≡ output.old.sent.items }
-    ensures commands_before { take (length output.old.commands.items) output.new.commands.items ≡ output.old.commands.items }
+    ensures sent { OnOk result (made.new.sent.items ≡ made.old.sent.items ++ map (λ pdu. sent_on association (sending (terms_of connection.now.talk) pdu)) answer.now.sent.items) }
+    ensures commands { OnOk result (made.new.commands.items ≡ made.old.commands.items ++ answer.now.commands.items) }
+    ensures sent_before { take (length made.old.sent.items) made.new.sent.items ≡ made.old.sent.items }
+    ensures commands_before { take (length made.old.commands.items) made.new.commands.items ≡ made.old.commands.items }
 {
     let due = due_if(connection, association, &answer.ending)?;
     send_all(
         connection,
         association,
         answer.sent.as_slice(),
-        &mut output.sent,
+        &mut made.sent,
     )?;
-    output
+    made
         .commands
         .extend_from_slice(answer.commands.as_slice())?;
     Ok(due)
@@ -170,22 +170,22 @@ fn answer(
     state: &mut DeviceState,
     client: Client,
     connection: &Connection,
-    output: &mut Output,
+    made: &mut Made,
 ) -> Result<(), AllocError>
     requires open { IsSome (association_terms connection.now.talk.phase) }
     requires least { 256 ≤ client.size }
     requires most { client.size ≤ 65_000 }
-    ensures ok { OnOk result ((connections : List (Option Talk)) → done_of (state_view connections state.new) output.new
+    ensures ok { OnOk result ((connections : List (Option Talk)) → done_of (state_view connections state.new) made.new
         ≡ answered_with client.association (terms_of connection.now.talk) (answered client connection.now.pdu (bay_of (state_view connections state.old)))
-        (done_of (state_view connections state.old) output.old)) }
+        (done_of (state_view connections state.old) made.old)) }
     ensures back { OnErr result ((connections : List (Option Talk)) (standing : Standing)
         → put_back standing (state_view connections state.new)
         ≡ put_back standing (state_view connections state.old)) }
-    ensures sent { take (length output.old.sent.items) output.new.sent.items ≡ output.old.sent.items }
-    ensures commands { take (length output.old.commands.items) output.new.commands.items ≡ output.old.commands.items }
+    ensures sent { take (length made.old.sent.items) made.new.sent.items ≡ made.old.sent.items }
+    ensures commands { take (length made.old.commands.items) made.new.commands.items ≡ made.old.commands.items }
 {
     let answer = state.bay.answer(alloc, client, connection.pdu())?;
-    let due = reply(connection, client.association, &answer, output)?;
+    let due = reply(connection, client.association, &answer, made)?;
     replace_due(&mut state.due, due);
     Ok(())
 }
@@ -198,12 +198,12 @@ pub fn message(
     association: u16,
     state: &mut DeviceState,
     connection: &Connection,
-    output: &mut Output,
+    made: &mut Made,
 ) -> Result<(), AllocError>
     requires { IsSome (association_terms connection.now.talk.phase) }
-    ensures ok { OnOk result ((connections : List (Option Talk)) → done_of (state_view connections state.new) output.new
-        ≡ said now association (terms_of connection.now.talk) connection.now.pdu (done_of (state_view connections state.old) output.old)) }
-    ensures err { OnErr result ((connections : List (Option Talk)) → done_of (state_view connections state.new) output.new ≡ done_of (state_view connections state.old) output.old) }
+    ensures ok { OnOk result ((connections : List (Option Talk)) → done_of (state_view connections state.new) made.new
+        ≡ said now association (terms_of connection.now.talk) connection.now.pdu (done_of (state_view connections state.old) made.old)) }
+    ensures err { OnErr result ((connections : List (Option Talk)) → done_of (state_view connections state.new) made.new ≡ done_of (state_view connections state.old) made.old) }
 {
     let client = Client {
         association,
@@ -212,13 +212,13 @@ pub fn message(
         fresh: state.is_fresh(now),
     };
     let before = state.bay.standing();
-    let sent = output.sent.len();
-    let commands = output.commands.len();
-    let answered = answer(alloc, state, client, connection, output);
+    let sent = made.sent.len();
+    let commands = made.commands.len();
+    let answered = answer(alloc, state, client, connection, made);
     if answered.is_err() {
         state.bay.restore(before);
-        output.sent.truncate(sent);
-        output.commands.truncate(commands);
+        made.sent.truncate(sent);
+        made.commands.truncate(commands);
     }
     answered
 }

@@ -24,7 +24,7 @@ use crate::state::DeviceState;
 use bay_config::bay::{MeterField, Source};
 use bay_process::meter::BoundMeter;
 use bay_process::scan::ReadPoints;
-use bay_process::values::{Truths, same_truth};
+use bay_process::values::Truths;
 use bay_services::bay::ServedBay;
 use bay_tree::leaf::Dbpos;
 use il_scan::machine::Machine;
@@ -102,7 +102,7 @@ impl DeviceState {
             ≡ contact_taken now switch s position (state_view connections self.old) }
     {
         let changed = process::contact(&mut self.bay, now, switch, position);
-        self.is_stale |= changed;
+        self.is_stale |= value != before;
         if process::reach(&mut self.bay, switch, position) {
             reached(&mut self.due)
         } else {
@@ -136,9 +136,8 @@ impl DeviceState {
             None => return Err(StepFault::NoSuchPoint),
         };
         let over = self.advance(now);
-        let changed = !same_truth(value, before);
         self.input_values.set(input, value);
-        self.is_stale |= changed;
+        self.is_stale |= value != before;
         Ok(over)
     }
 
@@ -158,7 +157,7 @@ impl DeviceState {
         };
         let over = self.advance(now);
         let changed = process::measure(&mut self.bay, now, meter, rows, field, value);
-        self.is_stale |= changed;
+        self.is_stale |= value != before;
         Ok(over)
     }
 

@@ -119,6 +119,7 @@ abbrev pub form_of : Option (List ℕ) → Form
 form_of (Some logic) = form.Logic
 form_of None = form.Image
 
+-- the file of the program, in Instruction List or compiled
 abbrev pub program_of : Option (List ℕ) → Option (List ℕ) → Option (List ℕ)
 program_of (Some logic) image = Some logic
 program_of None image = image

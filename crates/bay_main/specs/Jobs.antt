@@ -37,6 +37,7 @@ serve_app =
     let named = with_program (with_rule (new_app (codes "serve")) (needed_rule (codes "bay"))) in
     with_rule (with_rule (with_rule named (number_rule (codes "port") 1 65535)) (number_rule (codes "turns") 0 4294967295)) (file_rule (codes "trace"))
 
+-- the words of `replay`
 abbrev pub replay_app : App
 replay_app = new_app (codes "replay")
 
@@ -50,6 +51,7 @@ program_app =
     let named = new_app (codes "bayctl") in
     record named { top = record named.top { no_binary_name = true; subcommand_required = true; arg_required_else_help = true } }
 
+-- the program with all its commands
 abbrev pub job_app : App
 job_app = with_subcommand (with_subcommand (with_subcommand (with_subcommand program_app check_app.top) replay_app.top) serve_app.top) compile_app.top
 
@@ -80,6 +82,7 @@ has_files Replay job = true
 has_files Serve job = has_program job && (is_some job.port && is_some job.turns)
 has_files Compile job = is_some job.bay && (is_some job.logic && is_some job.out)
 
+-- the job has the files that its command wants
 abbrev pub is_whole : JobData → Bool
 is_whole job = has_files job.verb job
 

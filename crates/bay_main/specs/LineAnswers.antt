@@ -62,6 +62,7 @@ octets_text sent = (decimal sent.association ++ codes " ") ++ (encode_lower sent
 abbrev pub send_text : ℕ → Sent → List ℕ
 send_text now sent = (decimal now ++ codes " send ") ++ octets_text sent
 
+-- a line for each PDU that is sent
 abbrev pub sends_text : ℕ → List Sent → List ℕ
 sends_text now [] = []
 sends_text now (sent ∷ more) = send_text now sent ++ sends_text now more
@@ -71,6 +72,7 @@ abbrev pub ended_text : ℕ → Option Sent → List ℕ
 ended_text now None = []
 ended_text now (Some sent) = send_text now sent
 
+-- the position that is commanded
 abbrev pub order_text : Bool → List ℕ
 order_text on = if on then codes " on\n" else codes " off\n"
 
@@ -85,6 +87,7 @@ command_part now on (Some switch) = command_line now switch.id on
 abbrev pub command_text : ℕ → State → Command → List ℕ
 command_text now s command = command_part now command.on (slice_get s.switches command.switch)
 
+-- a line for each command
 abbrev pub commands_text : ℕ → State → List Command → List ℕ
 commands_text now s [] = []
 commands_text now s (command ∷ more) = command_text now s command ++ commands_text now s more
@@ -99,6 +102,7 @@ why_text Memory = codes "memory\n"
 abbrev pub closing_text : ℕ → ℕ → Why → List ℕ
 closing_text now a why = (decimal now ++ codes " closed ") ++ ((decimal a ++ codes " ") ++ why_text why)
 
+-- the line of an association that was closed
 abbrev pub closed_text : ℕ → Option (ℕ × Why) → List ℕ
 closed_text now None = []
 closed_text now (Some closed) = closing_text now closed.0 closed.1
@@ -157,6 +161,7 @@ named_answer unread now event r =
     if nat_lt r.room (count_of event) then memory_answer r else event_answer None now (placed_event r.device event) (count_of event) r
 named_answer (heard choice) now event r = event_answer choice now (placed_event r.device event) (count_of event) r
 
+-- the line of an event that is not understood
 abbrev pub unreadable_text : ℕ → List ℕ
 unreadable_text k = codes "fault 120 line " ++ (decimal k ++ codes "\n")
 

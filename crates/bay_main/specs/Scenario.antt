@@ -38,6 +38,7 @@ pub record CutsLine (text line rest : List ℕ) : Type 0 where
   pub first : pieces text ≡ piece ∷ pieces rest
   pub line_is : line ≡ content piece
 
+-- the line between the bay file and what happens
 abbrev pub is_separator : List ℕ → Bool
 is_separator line = bytes_eq line (codes "%%")
 
@@ -52,6 +53,7 @@ pub record ScenarioParts : Type 0 where
   pub logic : List ℕ
   pub trace : List ℕ
 
+-- the parts of a scenario
 abbrev pub scenario_of : List ℕ → Option ScenarioParts
 scenario_of text =
     option_and_then (λ first. option_map (λ second. record { bay = first.0; logic = second.0; trace = second.1 }) (part_of (pieces first.1))) (part_of (pieces text))

@@ -1,6 +1,7 @@
 -- What the last scan wrote stands until the next one: no contact and no measure writes an
 -- interlocking value.
 use Rattle.std.proofs.Common.{◌≡◌, ◌≢◌, ℕ, ℤ, pos, ◌+ℤ◌, int_lt, zero, suc, ◌+◌, ◌<◌, ◌^◌, Bool, true, false, cond, ◌&&◌, nat_eq, List, [], ◌∷◌, ◌++◌, length, map, find, get_or, drop, codes, slice_set, Option, Some, None, option_and_then, refl, ap, sym, subst, ◌∙◌, arith}
+use Rattle.std.specs.Bool.{beq}
 use Rattle.std.specs.Char.{digit_value}
 use Rattle.std.specs.Fmt.{decimal}
 use Rattle.std.specs.List.{AllByRecursion}
@@ -24,7 +25,7 @@ use Rattle.bay_config.specs.declared.bay.MeterField.TheVariants.{TotW, TotVAr, H
 use Rattle.bay_nodes.specs.declared.switch.Switch.{Switch}
 use Rattle.bay_nodes.specs.declared.switch.SwitchKind.{SwitchKind}
 use Rattle.bay_nodes.specs.declared.switch.SwitchKind.TheVariants.{Breaker, Disconnector, Earthing}
-use Rattle.bay_process.specs.Values.{is_truth, is_quality, same_truth, with_status, with_enabled, with_output, counted, operation_counted, is_operation, tells, position_quality, rows_after_change, rows_after_contact, tells_measure, rows_after_measure}
+use Rattle.bay_process.specs.Values.{is_truth, is_quality, with_status, with_enabled, with_output, counted, operation_counted, is_operation, tells, position_quality, rows_after_change, rows_after_contact, tells_measure, rows_after_measure}
 use Rattle.bay_nodes.specs.Names.{StatusNames, SwitchNames, switch_names, node_of, meter_names, interlocking_of, opening_of, closing_of}
 use Rattle.bay_process.specs.Names.{field_names}
 use Rattle.bay_process.specs.declared.switch.Enabled.{Enabled}
@@ -222,13 +223,13 @@ good-is (Some (leaf.Text n)) h = absurd cc
 good-is (Some (leaf.Utc n)) h = absurd cc
 
 -- what stands is not written again
-pub enabled-same : (names : StatusNames) (b c : Bool) (now : ℕ) (rows : List Row) → Stands rows names c → same_truth b c ≡ true → with_enabled names b now rows ≡ rows
+pub enabled-same : (names : StatusNames) (b c : Bool) (now : ℕ) (rows : List Row) → Stands rows names c → beq b c ≡ true → with_enabled names b now rows ≡ rows
 enabled-same names b c now rows s e =
     let is : is_truth b (Some (leaf.Truth c)) ≡ true = e in
     rw (s.value_is, s.quality_is, is) refl
 
 -- and what differs is written
-pub enabled-changed : (names : StatusNames) (b c : Bool) (now : ℕ) (rows : List Row) → Stands rows names c → same_truth b c ≡ false
+pub enabled-changed : (names : StatusNames) (b c : Bool) (now : ℕ) (rows : List Row) → Stands rows names c → beq b c ≡ false
     → with_enabled names b now rows ≡ with_status names (leaf.Truth b) Good now rows
 enabled-changed names b c now rows s e =
     let is : is_truth b (Some (leaf.Truth c)) ≡ false = e in

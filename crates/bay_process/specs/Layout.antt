@@ -24,6 +24,7 @@ pub record Layout : Type 0 where
   pub names : List (List ℕ)
   pub leaf_types : List (Option LeafType)
 
+-- the layout of a tree
 abbrev pub layout_of : List Row → Layout
 layout_of rows = record { names = names_of rows; leaf_types = leaf_types_of rows }
 
@@ -31,9 +32,11 @@ layout_of rows = record { names = names_of rows; leaf_types = leaf_types_of rows
 abbrev pub name_in : Layout → ℕ → List ℕ
 name_in layout handle = slice_index_or layout.names handle []
 
+-- the names at the handles of a value, its quality and its moment
 abbrev pub status_in : Layout → StatusRows → StatusNames
 status_in layout rows = record { value = name_in layout rows.value; quality = name_in layout rows.quality; time = name_in layout rows.time }
 
+-- the names at the handles of a switch
 abbrev pub switch_in : Layout → SwitchRows → SwitchNames
 switch_in layout rows = record {
   position = status_in layout rows.position;
@@ -80,6 +83,7 @@ pub record IsBound (layout : Layout) (writes : List Source) (switches : List Swi
   pub leaf_typed : AreSwitchRows layout bound.rows
   pub outputs : bound.outputs ≡ outputs_at writes k
 
+-- each switch is bound at its place
 abbrev pub AreBound : Layout → List Source → List BoundSwitch → Type 0
 AreBound layout writes bound = (k : ℕ) (b : BoundSwitch) → slice_get bound k ≡ Some b → IsBound layout writes (switches_of bound) k b
 
@@ -89,6 +93,7 @@ bound_from writes k [] rows = []
 bound_from writes k (s ∷ ss) [] = []
 bound_from writes k (s ∷ ss) (r ∷ rs) = record { switch = s; rows = r; outputs = outputs_at writes k } ∷ bound_from writes (k + 1) ss rs
 
+-- the names at the handles of a meter
 abbrev pub meter_in : Layout → MeterRows → MeterNames
 meter_in layout rows = record {
   tot_w = status_in layout rows.tot_w;
@@ -130,5 +135,6 @@ pub record IsMeterBound (layout : Layout) (k : ℕ) (rows : MeterRows) : Type 0 
   pub named : meter_in layout rows ≡ meter_names k
   pub leaf_typed : AreMeterRows layout rows
 
+-- each meter is bound at its place
 abbrev pub AreMetersBound : Layout → List BoundMeter → Type 0
 AreMetersBound layout bound = (k : ℕ) (m : BoundMeter) → slice_get bound k ≡ Some m → IsMeterBound layout k m.rows

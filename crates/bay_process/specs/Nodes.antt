@@ -22,9 +22,11 @@ pub record AreNodesOf (bay : Bay) (place : ℕ) (nodes : Nodes) : Type 0 where
   pub control_named : NamesControl bay place nodes.control
   pub interlocking_named : NamesInterlocking bay place nodes.interlocking
 
+-- the nodes of each switch of a bay have their names
 abbrev pub AreAllNodes : Bay → List Nodes → Type 0
 AreAllNodes bay nodes = (k : ℕ) (n : Nodes) → slice_get nodes k ≡ Some n → AreNodesOf bay k n
 
+-- the names of the values below a switch's three nodes
 abbrev pub nodes_names : Nodes → SwitchNames
 nodes_names nodes = names_by_nodes nodes.position nodes.control nodes.interlocking
 
@@ -32,6 +34,7 @@ nodes_names nodes = names_by_nodes nodes.position nodes.control nodes.interlocki
 abbrev pub HasLeaf : List Row → List ℕ → LeafType → Type 0
 HasLeaf rows name leaf_type = option_map leaf_type_of (leaf_of name rows) ≡ Some leaf_type
 
+-- the rows have a value of these names and type, with its quality and its moment
 pub record HasStatus (rows : List Row) (names : StatusNames) (value : LeafType) : Type 0 where
   pub value_leaf : HasLeaf rows names.value value
   pub quality_leaf : HasLeaf rows names.quality leaf_type.Quality
@@ -45,6 +48,7 @@ pub record HasSwitch (rows : List Row) (names : SwitchNames) : Type 0 where
   pub ena_opn : HasStatus rows names.ena_opn leaf_type.Truth
   pub ena_cls : HasStatus rows names.ena_cls leaf_type.Truth
 
+-- the rows have the values of each switch
 abbrev pub HasSwitches : List Row → List Nodes → Type 0
 HasSwitches rows nodes = (k : ℕ) (n : Nodes) → slice_get nodes k ≡ Some n → HasSwitch rows (nodes_names n)
 
@@ -59,6 +63,7 @@ pub record IsFound (rows : List Row) (name : List ℕ) (handle : ℕ) : Type 0 w
   pub named : name_at rows handle ≡ name
   pub value : leaf_at rows handle ≡ leaf_of name rows
 
+-- handles at which a value, its quality and its moment stand
 pub record AreFound (rows : List Row) (names : StatusNames) (handles : StatusRows) : Type 0 where
   pub value_found : IsFound rows names.value handles.value
   pub quality_found : IsFound rows names.quality handles.quality
@@ -69,6 +74,7 @@ pub record AreRowsOf (layout : Layout) (names : SwitchNames) (rows : SwitchRows)
   pub named : switch_in layout rows ≡ names
   pub leaf_typed : AreSwitchRows layout rows
 
+-- the handles of each switch are those of its nodes
 abbrev pub AreAllRows : Layout → List Nodes → List SwitchRows → Type 0
 AreAllRows layout nodes rows =
     (k : ℕ) (n : Nodes) (r : SwitchRows) → slice_get nodes k ≡ Some n → slice_get rows k ≡ Some r → AreRowsOf layout (nodes_names n) r
@@ -91,6 +97,7 @@ pub record IsMeterThere (rows : List Row) (k : ℕ) (node : List ℕ) : Type 0 w
   pub named : node ≡ node_name (codes "MMXU") (k + 1)
   pub leaves : HasMeterLeaves rows (meter_names_of node)
 
+-- the rows have the values of each meter
 abbrev pub HaveMeters : List Row → List (List ℕ) → Type 0
 HaveMeters rows nodes = (k : ℕ) (n : List ℕ) → slice_get nodes k ≡ Some n → IsMeterThere rows k n
 

@@ -19,10 +19,12 @@ use Rattle.bay_process.specs.declared.switch.BoundSwitch.{BoundSwitch}
 abbrev pub leaf_at : List Row → ℕ → Option Leaf
 leaf_at rows handle = leaf_of (name_in (layout_of rows) handle) rows
 
+-- what the program reads of a switch
 abbrev pub switch_value : List Row → SwitchPoint → Option BoundSwitch → Value
 switch_value rows point None = position_value point None
 switch_value rows point (Some b) = position_value point (leaf_at rows b.rows.position.value)
 
+-- what the program reads of a meter
 abbrev pub meter_value : List Row → MeterField → Option BoundMeter → Value
 meter_value rows field None = Long (number_of_leaf None)
 meter_value rows field (Some m) = Long (number_of_leaf (leaf_at rows (field_rows m.rows field).value))

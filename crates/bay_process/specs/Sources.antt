@@ -30,6 +30,7 @@ type_of_switch_point Closed = elementary.Bool
 type_of_switch_point EnableOpen = elementary.Bool
 type_of_switch_point EnableClose = elementary.Bool
 
+-- the type of a point, by what it stands for
 abbrev pub type_of_source : Source → ElementaryType
 type_of_source (source.Switch k point) = type_of_switch_point point
 type_of_source (source.Input k) = elementary.Bool

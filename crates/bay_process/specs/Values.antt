@@ -1,6 +1,7 @@
 -- What contacts, inputs, measures and a scan's outputs make of the rows of a tree (IEC 61850-7-4:
 -- XCBR, XSWI, CSWI, CILO and MMXU; IEC 61850-7-3: status values and measured values).
 use Rattle.std.specs.Prelude.{ℕ, ℤ, ◌+◌, Bool, true, false, not, ◌&&◌, ◌==◌, pos, ◌+ℤ◌, int_lt, List, [], ◌∷◌, position, slice_get, Option, None, Some, if◌then◌else◌}
+use Rattle.std.specs.Bool.{beq}
 use Rattle.std.specs.Ordering.{int_eq}
 use Rattle.bay_tree.specs.Rows.{leaf_of, with_leaf_of}
 use Rattle.bay_tree.specs.declared.row.Row.{Row}
@@ -27,12 +28,14 @@ abbrev pub with_status : StatusNames → Leaf → Quality → ℕ → List Row �
 with_status names value quality now rows =
     with_leaf_of names.time (leaf.Utc now) (with_leaf_of names.quality (leaf.Quality quality) (with_leaf_of names.value value rows))
 
+-- a position at which both end positions are reported is not to be trusted
 abbrev pub position_quality : Dbpos → Quality
 position_quality Bad = Invalid
 position_quality Intermediate = Good
 position_quality Off = Good
 position_quality On = Good
 
+-- open or closed, and nothing between
 abbrev pub is_end_position : Dbpos → Bool
 is_end_position Off = true
 is_end_position On = true
@@ -47,21 +50,25 @@ same_position On On = true
 same_position Bad Bad = true
 same_position p q = false
 
+-- two qualities are one
 abbrev pub same_quality : Quality → Quality → Bool
 same_quality Good Good = true
 same_quality Invalid Invalid = true
 same_quality p q = false
 
+-- this position stands there
 abbrev pub is_position : Dbpos → Option Leaf → Bool
 is_position p (Some (leaf.Dbpos q)) = same_position p q
 is_position p other = false
 
+-- this quality stands there
 abbrev pub is_quality : Quality → Option Leaf → Bool
 is_quality q (Some (leaf.Quality r)) = same_quality q r
 is_quality q other = false
 
+-- this truth value stands there
 abbrev pub is_truth : Bool → Option Leaf → Bool
-is_truth b (Some (leaf.Truth c)) = if b then c else not c
+is_truth b (Some (leaf.Truth c)) = beq b c
 is_truth b other = false
 
 -- one operation more, up to the greatest value
@@ -95,9 +102,7 @@ rows_after_change names position now rows =
 abbrev pub rows_after_contact : SwitchNames → Dbpos → ℕ → List Row → List Row
 rows_after_contact names position now rows = if tells names.position position rows then rows else rows_after_change names position now rows
 
-abbrev pub same_truth : Bool → Bool → Bool
-same_truth a b = if a then b else not b
-
+-- this number stands there
 abbrev pub is_number : ℤ → Option Leaf → Bool
 is_number n (Some (leaf.Int32 m)) = int_eq n m
 is_number n other = false
@@ -140,6 +145,7 @@ abbrev pub measure_leaf : List Row → ℕ → MeterField → Option (List ℕ) 
 measure_leaf rows k field None = None
 measure_leaf rows k field (Some id) = leaf_of (field_names field (meter_names k)).value rows
 
+-- two points of a switch are one
 abbrev pub same_point : SwitchPoint → SwitchPoint → Bool
 same_point Position Position = true
 same_point Open Open = true

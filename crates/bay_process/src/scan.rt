@@ -19,7 +19,7 @@ use crate::rows::{
     StatusRows, SwitchRows, count_at, is_quality, is_truth, position_at, put_status,
 };
 use crate::switch::{BoundSwitch, Enabled};
-use crate::values::{ToldValues, Truths, same_truth};
+use crate::values::{ToldValues, Truths};
 use bay_config::bay::{MeterField, Source, SwitchPoint};
 use bay_tree::leaf::{Dbpos, Leaf, Quality};
 use bay_tree::tree::Tree;
@@ -193,30 +193,10 @@ fn change_enabled(tree: &mut Tree, rows: StatusRows, stood: bool, value: bool, n
     ensures rows { tree.new ≡ with_enabled (status_in (layout_of tree.old) rows) value now tree.old }
     ensures layout { layout_of tree.new ≡ layout_of tree.old }
 {
-    if same_truth(value, stood) {
+    if value == stood {
         return;
     }
     put_status(tree, rows, Leaf::Truth(value), Quality::Good, now)
-}
-
-/// Gives the interlocking values of the switch at a place new values, where the last scan wrote
-/// these.
-fn change_output(
-    tree: &mut Tree,
-    _place: usize,
-    rows: &SwitchRows,
-    stood: Enabled,
-    enabled: Enabled,
-    now: u64,
-)
-    requires rows { IsInterlocked (layout_of tree.old) _place rows.now }
-    requires stands { IsTold tree.old _place stood }
-    ensures rows { tree.new ≡ with_output (switch_in (layout_of tree.old) rows.now) enabled.may_open enabled.may_close now tree.old }
-    ensures layout { layout_of tree.new ≡ layout_of tree.old }
-    ensures told { IsTold tree.new _place enabled }
-{
-    change_enabled(tree, rows.ena_opn, stood.may_open, enabled.may_open, now);
-    change_enabled(tree, rows.ena_cls, stood.may_close, enabled.may_close, now);
 }
 
 /// Gives the interlocking values of the switch at a place new values. What the last scan wrote is
@@ -241,7 +221,10 @@ fn tell(
     let stood = told.get(place);
     told.set(place, enabled);
     match stood {
-        Some(stood) => change_output(tree, place, rows, stood, enabled, now),
+        Some(stood) => {
+            change_enabled(tree, rows.ena_opn, stood.may_open, enabled.may_open, now);
+            change_enabled(tree, rows.ena_cls, stood.may_close, enabled.may_close, now);
+        }
         None => write_output(tree, rows, enabled, now),
     }
 }

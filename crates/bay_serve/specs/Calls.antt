@@ -33,6 +33,7 @@ FitsIn room (Ok Nothing) = Unit {0}
 FitsIn room (Ok End) = Unit {0}
 FitsIn room (Err e) = Unit {0}
 
+-- the link failed
 abbrev pub is_broken : Heard → Bool
 is_broken (Octets xs) = false
 is_broken Silence = false

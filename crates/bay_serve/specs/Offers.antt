@@ -14,9 +14,11 @@ pub record Offered : Type 0 where
   pub failed : Bool
   pub calls : List Call
 
+-- the same behind one call more on the link
 abbrev pub after_call : Call → Offered → Offered
 after_call call o = record { left = o.left; failed = o.failed; calls = call ∷ o.calls }
 
+-- and behind these
 abbrev pub after_calls : List Call → Offered → Offered
 after_calls calls o = record { left = o.left; failed = o.failed; calls = calls ++ o.calls }
 

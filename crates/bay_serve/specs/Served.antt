@@ -16,6 +16,7 @@ use Rattle.bay_serve.specs.declared.told.Turn.{Turn}
 abbrev pub line_of : List ℕ → Option NamedData
 line_of text = process_of (trace_line_of text)
 
+-- what a turn's line tells, where there is a line that is understood
 abbrev pub line_in : Option (List ℕ) → Option NamedData
 line_in line = option_and_then line_of line
 

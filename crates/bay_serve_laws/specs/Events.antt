@@ -86,6 +86,7 @@ abbrev pub events_of_each : {C : Type 0} → (ℕ → C → Turning → Turning)
 events_of_each f events place [] s = []
 events_of_each f events place (c ∷ cs) s = events place c s ++ events_of_each f events (place + 1) cs (f place c s)
 
+-- the events of a turn, in their order
 abbrev pub turn_events : ℕ → Option NamedData → Script → Held → List ChosenEvent
 turn_events now line script h =
     accept_events now script.accepted (begun h)

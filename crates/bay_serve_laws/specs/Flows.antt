@@ -26,13 +26,16 @@ taken_of a (call ∷ calls) = taken_by a call ++ taken_of a calls
 
 -- ---- what the device sends
 
+-- the octets that are for an association
 abbrev pub octets_to : ℕ → Sent → List ℕ
 octets_to a sent = if sent.association == a then sent.octets else []
 
+-- of all that is sent
 abbrev pub all_to : ℕ → List Sent → List ℕ
 all_to a [] = []
 all_to a (sent ∷ more) = octets_to a sent ++ all_to a more
 
+-- of what tells of an end
 abbrev pub end_to : ℕ → Option Sent → List ℕ
 end_to a None = []
 end_to a (Some sent) = octets_to a sent

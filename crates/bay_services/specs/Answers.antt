@@ -71,6 +71,7 @@ abbrev pub write_asked : Client → ℕ → Bay → List Naming → List Datum �
 write_asked c id b ns values =
     write_done c id b (write_all c ns values (nothing_written b))
 
+-- the answer to a confirmed request
 abbrev pub served : Client → ℕ → Bay → Asking → Answered
 served c id b identify = identified c id b
 served c id b (names class place after) = responded c id b (listing c id class place after b)
@@ -91,12 +92,14 @@ asked c b (initiate proposal) = rejected None InvalidPdu b
 asked c b conclude = said concluded_text b
 asked c b (confirmed id asking) = served c id b asking
 
+-- the answer to a PDU that is not taken
 abbrev pub refused : MmsFault → Bay → Answered
 refused (BadPdu known) b = rejected known InvalidPdu b
 refused (UnknownService id) b = rejected (Some id) UnrecognizedService b
 refused (TooMany id) b = said (error_text id Resource) b
 refused OutOfMemory b = rejected None InvalidPdu b
 
+-- the answer to what was read of a PDU
 abbrev pub answer_of : Client → Bay → Result Message MmsFault → Answered
 answer_of c b (Ok message) = asked c b message
 answer_of c b (Err fault) = refused fault b

@@ -36,6 +36,7 @@ read_call c k SelectWith = None
 read_call c k Operate = None
 read_call c k Cancel = None
 
+-- what a read of this asks of the controls
 abbrev pub call_of_read : Client → Option Target → Option Call
 call_of_read c None = None
 call_of_read c (Some t) = read_call c t.switch t.part
@@ -54,12 +55,14 @@ abbrev pub cancel_call : Client → ℕ → Result Control ControlFault → Opti
 cancel_call c k (Ok control) = Some (call.Cancel c.association k)
 cancel_call c k (Err fault) = None
 
+-- what a write to a part of a control asks of the controls
 abbrev pub write_call : Client → Bay → Datum → ℕ → ControlPart → Option Call
 write_call c b given k Select = None
 write_call c b given k SelectWith = select_with_call c k (operate_in given)
 write_call c b given k Operate = operate_call c k b (operate_in given)
 write_call c b given k Cancel = cancel_call c k (cancel_in given)
 
+-- what a write of this asks of the controls
 abbrev pub call_of_write : Client → Bay → Datum → Option Target → Option Call
 call_of_write c b given None = None
 call_of_write c b given (Some t) = write_call c b given t.switch t.part
@@ -85,6 +88,7 @@ write_entries c (name ∷ ns) (given ∷ values) w =
 abbrev pub within_size : Client → List ℕ → List Entry → List Entry
 within_size c response entries = if nat_le (length response) c.size then entries else []
 
+-- what a request asked for, and what was accepted of it
 abbrev pub service_entries : Client → ℕ → Bay → Asking → List Entry
 service_entries c id b identify = []
 service_entries c id b (names class place after) = []
@@ -93,6 +97,7 @@ service_entries c id b (read ns) = within_size c (read_text id (read_all c ns (n
 service_entries c id b (write ns values) =
     within_size c (write_text id (write_all c ns values (nothing_written b)).results) (write_entries c ns values (nothing_written b))
 
+-- the same of a PDU
 abbrev pub message_entries : Client → Bay → Result Message MmsFault → List Entry
 message_entries c b (Ok (initiate proposal)) = []
 message_entries c b (Ok conclude) = []

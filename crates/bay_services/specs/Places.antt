@@ -28,6 +28,7 @@ pub record IsPlaced (layout : Layout) (switches : List BoundSwitch) (k : ℕ) (b
   pub named : switch_in layout bound.rows ≡ switch_names (switches_of switches) k bound.switch
   pub leaf_typed : AreSwitchRows layout bound.rows
 
+-- each switch is placed at its place
 abbrev pub ArePlaced : Layout → List BoundSwitch → Type 0
 ArePlaced layout switches = (k : ℕ) (b : BoundSwitch) → slice_get switches k ≡ Some b → IsPlaced layout switches k b
 

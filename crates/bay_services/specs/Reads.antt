@@ -55,6 +55,7 @@ abbrev pub read_row : Client → Reading → Option ℕ → Reading
 read_row c r None = record r { results = r.results ++ failure_result 10 }
 read_row c r (Some place) = read_target c place r (target_of (length r.bay.switches) (name_at r.bay.rows place))
 
+-- one variable of a read
 abbrev pub read_one : Client → Naming → Reading → Reading
 read_one c name r = read_row c r (row_named r.bay name)
 

@@ -13,6 +13,7 @@ use Rattle.bay_services.specs.declared.answer.Answer.{Answer}
 use Rattle.bay_services.specs.declared.bay.ServedBay.{ServedBay}
 use Rattle.bay_services.specs.declared.writing.Written.{Written}
 
+-- a bay that is served, as definitions see it
 abbrev pub bay_view : ServedBay → Bay
 bay_view b = record {
   domain = b.domain;

@@ -63,6 +63,7 @@ abbrev pub later_ending : Option Ending → Option Ending → Option Ending
 later_ending before None = before
 later_ending before (Some ending) = Some ending
 
+-- an operate after its decision
 abbrev pub operated : Client → ℕ → List ℕ → asked.Operate → Outcome → Writing → Writing
 operated c k item o outcome w = record (decided c k item o.control outcome w) {
   commands = w.commands ++ commands_for k o outcome.answer;
@@ -97,6 +98,7 @@ abbrev pub write_row : Client → Datum → Writing → Option ℕ → Writing
 write_row c given w None = write_failed 10 w
 write_row c given w (Some place) = write_target c (name_at w.bay.rows place) given w (target_of (length w.bay.switches) (name_at w.bay.rows place))
 
+-- one variable of a write
 abbrev pub write_one : Client → Naming → Datum → Writing → Writing
 write_one c name given w = write_row c given w (row_named w.bay name)
 

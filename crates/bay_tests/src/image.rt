@@ -1,15 +1,15 @@
 // Values, timers, instructions and images, with rows whose values come from the format and the standard.
-use bay_base::types::ElementaryType;
+use bay_base::types::{ElementaryType, TimerKind};
 use il_image::arithmetic::{Comparison, Operation, Width, compare, compute, connect, widen, wrap};
 use il_image::decode::decode;
 use il_image::encode::encode;
 use il_image::fault::ImageFault;
 use il_image::image::{Image, ImagePoint};
 use il_image::instr::Instr;
-use il_image::kind::{Kind, is_within, join};
+use il_image::kind::{CellKind, is_within, join};
 use il_image::opcode::{Connective, SlotUse, TimerUse, When, Widening};
 use il_image::read::instr_at;
-use il_image::timer::{Timer, TimerKind};
+use il_image::timer::TimerState;
 use il_image::value::Value;
 use std::alloc::{AllocError, Global};
 use std::test::Fail;
@@ -462,10 +462,10 @@ fn values_of_numbers(rt: HostRuntime) {
 
 #[test]
 fn kinds(rt: HostRuntime) {
-    let int = Kind::Plain(ElementaryType::Int);
-    let some = Kind::NotZero(Width::Int);
+    let int = CellKind::Plain(ElementaryType::Int);
+    let some = CellKind::NotZero(Width::Int);
     assert!(rt; join(some, int) == int);
-    assert!(rt; join(some, Kind::NotZero(Width::Dint)) == Kind::Any);
+    assert!(rt; join(some, CellKind::NotZero(Width::Dint)) == CellKind::Any);
     assert!(rt; is_within(some, int) && !is_within(int, some));
 }
 
@@ -492,7 +492,7 @@ const OFF_DELAY: [(bool, u32, u64, bool, u32); 7] = [
 
 /// Whether a timer of this kind, called row by row, gives what each row says.
 fn gives(kind: TimerKind, rows: &[(bool, u32, u64, bool, u32)]) -> bool {
-    let mut timer = Timer::new(kind);
+    let mut timer = TimerState::new(kind);
     for (input, preset, now, output, elapsed) in rows {
         timer.input = *input;
         timer.preset = *preset;

@@ -63,6 +63,7 @@ pub record Took (event : NamedData) (old new : LineRoom) : Type 0 where
   pub octets : AreOctets event new.octets
   pub room : new.room ≡ max old.room (count_of event)
 
+-- what taking the octets of an event answers and leaves
 abbrev pub Takes : {X E : Type 0} → NamedData → LineRoom → LineRoom → Result X E → Type 0
 Takes event old new (Ok x) = Took event old new
 Takes event old new (Err e) = old.room < count_of event

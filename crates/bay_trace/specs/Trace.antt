@@ -26,6 +26,7 @@ pub data LineData : Type 0 where
   blank : LineData
   at_moment : ℕ → NamedData → LineData
 
+-- a blank
 abbrev pub is_space : ℕ → Bool
 is_space b = b == 32
 
@@ -83,6 +84,7 @@ truth_of word =
     else if bytes_eq word (codes "1") then Some true
     else None
 
+-- the field of a meter that a word names
 abbrev pub field_of : List ℕ → Option MeterField
 field_of word =
     if bytes_eq word (codes "TOTW") then Some TotW
@@ -137,6 +139,7 @@ abbrev pub talk_in : List (List ℕ) → Option NamedData
 talk_in [] = None
 talk_in (verb ∷ words) = talk_of verb words
 
+-- the word of a line that tells of an association
 abbrev pub is_talk : List ℕ → Bool
 is_talk verb = bytes_eq verb (codes "open") || (bytes_eq verb (codes "close") || bytes_eq verb (codes "recv"))
 

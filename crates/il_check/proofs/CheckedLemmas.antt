@@ -17,7 +17,7 @@ use Rattle.il_check.specs.Given.{Names}
 use Rattle.il_check.specs.LabelsView.{StandsAs}
 use Rattle.il_check.specs.NamesView.{names_of}
 use Rattle.il_check.specs.Program.{Checked, Item}
-use Rattle.il_check.specs.Standing.{StandsFor}
+use Rattle.il_check.specs.DeclarationsView.{StandsFor}
 use Rattle.il_check.specs.WellTyped.{Standing, first, unreached, items_faults, items_left}
 use Rattle.il_check.specs.declared.declare.Declarations.{Declarations}
 use Rattle.il_check.specs.declared.labels.Labels.{Labels}
@@ -32,30 +32,45 @@ use Rattle.il_check.proofs.ApartLemmas.{all_apart}
 use Rattle.il_check.proofs.NotedLemmas.{noted-append, least_fault-none, append-none}
 
 -- what is known once all is read
-pub record IsRead (points : List Point) (program : text.PlainProgram) (d : Declarations) (l : Labels) (names : code.Names) (items : List Item) (answer : Option CheckFault) : Type 0 where
+pub record IsRead (points : List Point) (program : text.PlainProgram) (d : Declarations)
+    (l : Labels) (names : code.Names) (items : List Item) (answer : Option CheckFault)
+    : Type 0 where
   pub stands : StandsFor points program.declarations d
   pub declared : d.found ≡ least_fault (declarations_faults points [] program.declarations)
   pub labels : StandsAs (labels_from 0 program.items) l
   pub meanings : names.meanings ≡ d.meanings
   pub numbers : names.labels ≡ l.numbers
-  pub items_read : answer ≡ None → items ≡ items_left (names_of names) program.items (first l.arrivals.items)
-  pub found : answer ≡ noted d.found (items_faults (names_of names) program.items (first l.arrivals.items))
+  pub items_read : answer ≡ None
+      → items ≡ items_left (names_of names) program.items (first l.arrivals.items)
+  pub found : answer ≡ noted d.found
+      (items_faults (names_of names) program.items (first l.arrivals.items))
 
-module _ (points : List Point) (program : text.PlainProgram) (d : Declarations) (l : Labels) (names : code.Names) (items : List Item) (answer : Option CheckFault)
+module _ (points : List Point) (program : text.PlainProgram) (d : Declarations) (l : Labels)
+    (names : code.Names) (items : List Item) (answer : Option CheckFault)
     (read : IsRead points program d l names items answer) where
-  meanings_same : (let f : List ℕ → Option Meaning = λ name. get_by_text names.meanings (upper name) in
-      let g : List ℕ → Option Meaning = λ name. looked_up (meanings_of points program.declarations) (upper name) in f ≡ g)
-  meanings_same = fun_ext (λ name. ap (λ m. get_by_text m (upper name)) read.meanings ∙ read.stands.meanings (upper name))
+  meanings_same : (let f : List ℕ
+      → Option Meaning = λ name. get_by_text names.meanings (upper name) in
+      let g : List ℕ → Option Meaning =
+      λ name. looked_up (meanings_of points program.declarations) (upper name) in f ≡ g)
+  meanings_same =
+      fun_ext (λ name. ap (λ m. get_by_text m (upper name)) read.meanings
+      ∙ read.stands.meanings (upper name))
 
   labels_same : (let f : List ℕ → Option ℕ = λ name. get_by_text names.labels (upper name) in
-      let g : List ℕ → Option ℕ = λ name. looked_up (labels_from 0 program.items) (upper name) in f ≡ g)
-  labels_same = fun_ext (λ name. ap (λ m. get_by_text m (upper name)) read.numbers ∙ read.labels.numbers (upper name))
+      let g : List ℕ → Option ℕ =
+      λ name. looked_up (labels_from 0 program.items) (upper name) in f ≡ g)
+  labels_same =
+      fun_ext (λ name. ap (λ m. get_by_text m (upper name)) read.numbers
+      ∙ read.labels.numbers (upper name))
 
   names_same : names_of names ≡ names_in points program
   names_same =
-      let with_both : (List ℕ → Option Meaning) → (List ℕ → Option ℕ) → Names = λ m n. record { meaning = m; label = n } in
-      ap (λ (m : List ℕ → Option Meaning). with_both m (λ name. get_by_text names.labels (upper name))) meanings_same
-      ∙ ap (λ (n : List ℕ → Option ℕ). with_both (λ name. looked_up (meanings_of points program.declarations) (upper name)) n) labels_same
+      let with_both : (List ℕ → Option Meaning) → (List ℕ → Option ℕ) → Names =
+      λ m n. record { meaning = m; label = n } in
+      ap (λ (m : List ℕ → Option Meaning). with_both m
+      (λ name. get_by_text names.labels (upper name))) meanings_same
+      ∙ ap (λ (n : List ℕ → Option ℕ). with_both
+      (λ name. looked_up (meanings_of points program.declarations) (upper name)) n) labels_same
 
   started : first l.arrivals.items ≡ first (map (λ x. unreached) (labels_from 0 program.items))
   started = ap first read.labels.arrivals
@@ -63,17 +78,25 @@ module _ (points : List Point) (program : text.PlainProgram) (d : Declarations) 
   found-is : answer ≡ least_fault (faults_of points program)
   found-is =
       read.found
-      ∙ ap (λ (n : Names). noted d.found (items_faults n program.items (first l.arrivals.items))) names_same
-      ∙ ap (λ (s : Standing). noted d.found (items_faults (names_in points program) program.items s)) started
-      ∙ ap (λ (o : Option CheckFault). noted o (items_faults (names_in points program) program.items (first (map (λ x. unreached) (labels_from 0 program.items))))) read.declared
+      ∙ ap (λ (n : Names). noted d.found (items_faults n program.items (first l.arrivals.items)))
+      names_same
+      ∙ ap (λ (s : Standing). noted d.found
+      (items_faults (names_in points program) program.items s)) started
+      ∙ ap (λ (o : Option CheckFault). noted o
+      (items_faults (names_in points program) program.items
+      (first (map (λ x. unreached) (labels_from 0 program.items))))) read.declared
       ∙ sym (noted-append None (declarations_faults points [] program.declarations)
-      (items_faults (names_in points program) program.items (first (map (λ x. unreached) (labels_from 0 program.items)))))
+      (items_faults (names_in points program) program.items
+      (first (map (λ x. unreached) (labels_from 0 program.items)))))
 
   -- the fault that is found is the answer
   pub refused : (f : CheckFault) → answer ≡ Some f → checked_of points program ≡ Err f
-  refused f is = ap (λ (o : Option CheckFault). judged o (checked_program points program)) (sym found-is ∙ is)
+  refused f is =
+      ap (λ (o : Option CheckFault). judged o (checked_program points program)) (sym found-is ∙ is)
 
-  items_same : answer ≡ None → items ≡ items_left (names_in points program) program.items (first (map (λ x. unreached) (labels_from 0 program.items)))
+  items_same : answer ≡ None
+      → items ≡ items_left (names_in points program) program.items
+      (first (map (λ x. unreached) (labels_from 0 program.items)))
   items_same none =
       read.items_read none
       ∙ ap (λ (n : Names). items_left n program.items (first l.arrivals.items)) names_same
@@ -81,41 +104,79 @@ module _ (points : List Point) (program : text.PlainProgram) (d : Declarations) 
 
   -- no declaration has a fault where none is found
   pub declared_right : answer ≡ None → declarations_faults points [] program.declarations ≡ []
-  declared_right none = (append-none _ _ (least_fault-none (faults_of points program) (sym found-is ∙ none))).0
+  declared_right none =
+      (append-none _ _ (least_fault-none (faults_of points program) (sym found-is ∙ none))).0
 
   -- without a fault, the answer is what is left
   pub passed : answer ≡ None → checked_of points program
-      ≡ Ok (record { externals = d.externals.items; variables = d.variables.items; timers = d.timers.items; items = items })
+      ≡ Ok (record {
+        externals = d.externals.items;
+        variables = d.variables.items;
+        timers = d.timers.items;
+        items = items;
+      })
   passed none =
-      let left : List Item = items_left (names_in points program) program.items (first (map (λ x. unreached) (labels_from 0 program.items))) in
-      let with_all : List External → List Variable → List Timer → List Item → Checked = λ es vs ts is. record { externals = es; variables = vs; timers = ts; items = is } in
-      ap (λ (o : Option CheckFault). judged o (checked_program points program)) (sym found-is ∙ none)
+      let left : List Item =
+      items_left (names_in points program) program.items
+      (first (map (λ x. unreached) (labels_from 0 program.items))) in
+      let with_all : List External → List Variable → List Timer → List Item → Checked =
+      λ es vs ts is. record { externals = es; variables = vs; timers = ts; items = is } in
+      ap (λ (o : Option CheckFault). judged o (checked_program points program))
+      (sym found-is ∙ none)
       ∙ ap Ok
-      (ap (λ (es : List External). with_all es (variables_of program.declarations) (timers_of program.declarations) left) (sym read.stands.externals)
-      ∙ ap (λ (vs : List Variable). with_all d.externals.items vs (timers_of program.declarations) left) (sym read.stands.variables)
-      ∙ ap (λ (ts : List Timer). with_all d.externals.items d.variables.items ts left) (sym read.stands.timers)
-      ∙ ap (λ (is : List Item). with_all d.externals.items d.variables.items d.timers.items is) (sym (items_same none)))
+      (ap (λ (es : List External). with_all es (variables_of program.declarations)
+      (timers_of program.declarations) left) (sym read.stands.externals)
+      ∙ ap (λ (vs : List Variable). with_all d.externals.items vs (timers_of program.declarations)
+      left) (sym read.stands.variables)
+      ∙ ap (λ (ts : List Timer). with_all d.externals.items d.variables.items ts left)
+      (sym read.stands.timers)
+      ∙ ap (λ (is : List Item). with_all d.externals.items d.variables.items d.timers.items is)
+      (sym (items_same none)))
 
   -- without a fault, the names of the slots differ
-  pub apart_names : answer ≡ None → AreApart (map (λ e. e.name) d.externals.items ++ map (λ v. v.name) d.variables.items)
+  pub apart_names : answer ≡ None
+      → AreApart (map (λ e. e.name) d.externals.items ++ map (λ v. v.name) d.variables.items)
   apart_names none =
-      subst (λ (vs : List Variable). AreApart (map (λ e. e.name) d.externals.items ++ map (λ v. v.name) vs)) (sym read.stands.variables)
-      (subst (λ (es : List External). AreApart (map (λ e. e.name) es ++ map (λ v. v.name) (variables_of program.declarations))) (sym read.stands.externals)
+      subst (λ (vs : List Variable). AreApart
+      (map (λ e. e.name) d.externals.items ++ map (λ v. v.name) vs)) (sym read.stands.variables)
+      (subst (λ (es : List External). AreApart
+      (map (λ e. e.name) es ++ map (λ v. v.name) (variables_of program.declarations)))
+      (sym read.stands.externals)
       (all_apart points program.declarations (declared_right none)))
 
-pub is_read : (points : List Point) (p : program.Program) (declarations : List Declaration) (first_items items : List source.Item) (d : Declarations) (l : Labels) (left : List Item) (answer : Option CheckFault)
+pub is_read : (points : List Point) (p : program.Program) (declarations : List Declaration)
+    (first_items items : List source.Item) (d : Declarations) (l : Labels) (left : List Item)
+    (answer : Option CheckFault)
     → declarations ≡ p.declarations.items → first_items ≡ p.items.items → items ≡ p.items.items
-    → StandsFor points (map declared_of declarations) d → d.found ≡ least_fault (declarations_faults points [] (map declared_of declarations))
+    → StandsFor points (map declared_of declarations) d
+    → d.found ≡ least_fault (declarations_faults points [] (map declared_of declarations))
     → StandsAs (labels_from 0 (map entry_of first_items)) l
-    → (answer ≡ None → left ≡ items_left (names_of (record { meanings = d.meanings; labels = l.numbers })) (map entry_of items) (first l.arrivals.items))
-    → answer ≡ noted d.found (items_faults (names_of (record { meanings = d.meanings; labels = l.numbers })) (map entry_of items) (first l.arrivals.items))
-    → IsRead points (plain_program p) d l (record { meanings = d.meanings; labels = l.numbers }) left answer
-is_read points p declarations first_items items d l left answer these those them stands declared labels read found = record {
-  stands = subst (λ (ds : List Declaration). StandsFor points (map declared_of ds) d) these stands;
-  declared = declared ∙ ap (λ (ds : List Declaration). least_fault (declarations_faults points [] (map declared_of ds))) these;
-  labels = subst (λ (is : List source.Item). StandsAs (labels_from 0 (map entry_of is)) l) those labels;
-  meanings = refl;
-  numbers = refl;
-  items_read = λ (none : answer ≡ None). read none ∙ ap (λ (is : List source.Item). items_left (names_of (record { meanings = d.meanings; labels = l.numbers })) (map entry_of is) (first l.arrivals.items)) them;
-  found = found ∙ ap (λ (is : List source.Item). noted d.found (items_faults (names_of (record { meanings = d.meanings; labels = l.numbers })) (map entry_of is) (first l.arrivals.items))) them;
-}
+    → (answer ≡ None → left ≡ items_left
+    (names_of (record { meanings = d.meanings; labels = l.numbers })) (map entry_of items)
+    (first l.arrivals.items))
+    → answer ≡ noted d.found
+    (items_faults (names_of (record { meanings = d.meanings; labels = l.numbers }))
+    (map entry_of items) (first l.arrivals.items))
+    → IsRead points (plain_program p) d l (record { meanings = d.meanings; labels = l.numbers })
+    left answer
+is_read points p declarations first_items items d l left answer these those them stands declared
+    labels read found = record {
+      stands =
+          subst (λ (ds : List Declaration). StandsFor points (map declared_of ds) d) these stands;
+      declared =
+          declared ∙ ap (λ (ds : List Declaration). least_fault
+          (declarations_faults points [] (map declared_of ds))) these;
+      labels =
+          subst (λ (is : List source.Item). StandsAs (labels_from 0 (map entry_of is)) l) those
+          labels;
+      meanings = refl;
+      numbers = refl;
+      items_read =
+          λ (none : answer ≡ None). read none
+          ∙ ap (λ (is : List source.Item). items_left
+          (names_of (record { meanings = d.meanings; labels = l.numbers })) (map entry_of is)
+          (first l.arrivals.items)) them;
+      found = found ∙ ap (λ (is : List source.Item). noted d.found
+          (items_faults (names_of (record { meanings = d.meanings; labels = l.numbers }))
+          (map entry_of is) (first l.arrivals.items))) them;
+    }

@@ -1,4 +1,5 @@
--- What a program without a fault declares: values of their types, names of points, and meanings that are there.
+-- What a program without a fault declares: values of their types, names of points, and meanings
+-- that are there.
 use Rattle.std.proofs.Common.{◌≡◌, ℕ, zero, suc, ◌+◌, ◌<◌, ◌≤◌, ℤ, pos, Bool, true, false, cond, ◌&&◌, ◌⊎◌, inl, inr, is_some, is_none, nat_lt, nat_le, List, [], ◌∷◌, ◌++◌, length, slice_get, option_to_list, Option, None, Some, refl, ap, sym, subst, ◌∙◌, arith, append-nil, append_assoc}
 use Rattle.std.proofs.lemmas.Bool.{and_parts}
 use Rattle.std.proofs.lemmas.Bool.Decides.{nat_tests}
@@ -20,12 +21,12 @@ use Rattle.il_text.specs.declared.program.Literal.TheVariants as literal
 use Rattle.il_text.specs.declared.program.Scope.{Scope}
 use Rattle.il_text.specs.declared.program.Scope.TheVariants as scope
 use Rattle.il_image.specs.Images.{Each, IsName, IsValue, is_name_octet}
-use Rattle.il_image.specs.Values.{number_of, type_of, value_of}
+use Rattle.il_image.specs.Values.{default_value, number_of, type_of, value_of}
 use Rattle.il_image.specs.declared.value.Value.{Value}
 use Rattle.il_image.specs.declared.value.Value.TheVariants as value
 use Rattle.il_image.proofs.KindLemmas.{same_is}
-use Rattle.il_image.proofs.ValueLemmas.{value_is}
-use Rattle.il_check.specs.Declaring.{may_stand, is_name, point_of, of_type, value_in, default_value, initial_in, is_typed, is_external, is_writable, external_at, external_in, variable_at, variable_in, timer_in, externals_of, variables_of, timers_of, counts_of, meaning_at, meanings_of, looked_up, is_full, declaration_faults, declarations_faults}
+use Rattle.il_image.proofs.ValueLemmas.{default_typed, value_is}
+use Rattle.il_check.specs.Declaring.{may_stand, is_name, point_of, of_type, literal_value, initial_in, is_typed, is_external, is_writable, external_at, external_in, variable_at, variable_in, timer_in, externals_of, variables_of, timers_of, counts_of, meaning_at, meanings_of, looked_up, is_full, declaration_faults, declarations_faults}
 use Rattle.il_check.specs.Given.{typed_value}
 use Rattle.il_check.specs.Rules.{number_in}
 use Rattle.il_check.specs.TypedProgram.{HasName, BeginsRight}
@@ -37,14 +38,17 @@ use Rattle.il_check.specs.declared.typed.Timer.{Timer}
 use Rattle.il_check.specs.declared.typed.Slot.TheVariants as slot
 use Rattle.il_check.proofs.LabellingLemmas.{both_none, if_none, if_some, not_false, some_is}
 use Rattle.il_check.proofs.NameLemmas.{looked_up-more}
-use Rattle.il_check.proofs.StandingLemmas.{filter_map-more, meanings-more}
+use Rattle.il_check.proofs.DeclarationsViewLemmas.{filter_map-more, meanings-more}
 
 -- ---- values
 
-pub is_value : (kind : ElementaryType) (z : ℤ) (v : Value) → value_of kind z ≡ Some v → IsValue v × (type_of v ≡ kind)
+pub is_value : (kind : ElementaryType) (z : ℤ) (v : Value) → value_of kind z ≡ Some v
+    → IsValue v × (type_of v ≡ kind)
 is_value kind z v e =
     let of = value_is kind z v e in
-    let same : value_of (type_of v) (number_of v) ≡ Some v = ap (λ (t : ElementaryType). value_of t (number_of v)) of.type ∙ ap (value_of kind) of.number ∙ e in
+    let same : value_of (type_of v) (number_of v) ≡ Some v =
+    ap (λ (t : ElementaryType). value_of t (number_of v)) of.type ∙ ap (value_of kind) of.number
+    ∙ e in
     (ap is_some same, of.type)
 
 truth_value : (b : Bool) → IsValue (value.Truth b)
@@ -59,40 +63,40 @@ typed_is (literal.Dint z) v e = (is_value elementary.Dint z v e).0
 typed_is (literal.Lint z) v e = (is_value elementary.Lint z v e).0
 typed_is (literal.Time n) v e = (is_value elementary.Time (pos n) v e).0
 
-pub number_is : (kind : ElementaryType) (z : ℤ) (v : Value) → number_in kind z ≡ Some v → value_of kind z ≡ Some v
+pub number_is : (kind : ElementaryType) (z : ℤ) (v : Value) → number_in kind z ≡ Some v
+    → value_of kind z ≡ Some v
 number_is elementary.Bool z v e = e
 number_is elementary.Int z v e = e
 number_is elementary.Dint z v e = e
 number_is elementary.Lint z v e = e
 number_is elementary.Time z v e = absurd (cc)
 
-of_type_is : (kind : ElementaryType) (o : Option Value) (v : Value) → of_type kind o ≡ Some v → (o ≡ Some v) × (type_of v ≡ kind)
+of_type_is : (kind : ElementaryType) (o : Option Value) (v : Value) → of_type kind o ≡ Some v
+    → (o ≡ Some v) × (type_of v ≡ kind)
 of_type_is kind None v e = absurd (cc)
 of_type_is kind (Some w) v e =
     let c = if_some (same_type (type_of w) kind) w v e in
     (ap Some c.1, subst (λ (x : Value). type_of x ≡ kind) c.1 (same_is (type_of w) kind c.0))
 
-of_literal : (kind : ElementaryType) (l : Literal) (v : Value) → of_type kind (typed_value l) ≡ Some v → IsValue v × (type_of v ≡ kind)
+of_literal : (kind : ElementaryType) (l : Literal) (v : Value)
+    → of_type kind (typed_value l) ≡ Some v → IsValue v × (type_of v ≡ kind)
 of_literal kind l v e = let h = of_type_is kind (typed_value l) v e in (typed_is l v h.0, h.1)
 
-value_in_is : (kind : ElementaryType) (l : Literal) (v : Value) → value_in kind l ≡ Some v → IsValue v × (type_of v ≡ kind)
-value_in_is kind (literal.Truth b) v e = of_literal kind (literal.Truth b) v e
-value_in_is kind (literal.Number z) v e = is_value kind z v (number_is kind z v e)
-value_in_is kind (literal.Int z) v e = of_literal kind (literal.Int z) v e
-value_in_is kind (literal.Dint z) v e = of_literal kind (literal.Dint z) v e
-value_in_is kind (literal.Lint z) v e = of_literal kind (literal.Lint z) v e
-value_in_is kind (literal.Time n) v e = of_literal kind (literal.Time n) v e
+literal_value_is : (kind : ElementaryType) (l : Literal) (v : Value) → literal_value kind l ≡ Some v
+    → IsValue v × (type_of v ≡ kind)
+literal_value_is kind (literal.Truth b) v e = of_literal kind (literal.Truth b) v e
+literal_value_is kind (literal.Number z) v e = is_value kind z v (number_is kind z v e)
+literal_value_is kind (literal.Int z) v e = of_literal kind (literal.Int z) v e
+literal_value_is kind (literal.Dint z) v e = of_literal kind (literal.Dint z) v e
+literal_value_is kind (literal.Lint z) v e = of_literal kind (literal.Lint z) v e
+literal_value_is kind (literal.Time n) v e = of_literal kind (literal.Time n) v e
 
-default_is : (kind : ElementaryType) → IsValue (default_value kind) × (type_of (default_value kind) ≡ kind)
-default_is elementary.Bool = (refl, refl)
-default_is elementary.Int = (refl, refl)
-default_is elementary.Dint = (refl, refl)
-default_is elementary.Lint = (refl, refl)
-default_is elementary.Time = (refl, refl)
-
-pub initial_is : (kind : ElementaryType) (o : Option Literal) (v : Value) → initial_in kind o ≡ Some v → IsValue v × (type_of v ≡ kind)
-initial_is kind None v e = subst (λ (x : Value). IsValue x × (type_of x ≡ kind)) (some_is (default_value kind) v e) (default_is kind)
-initial_is kind (Some l) v e = value_in_is kind l v e
+pub initial_is : (kind : ElementaryType) (o : Option Literal) (v : Value)
+    → initial_in kind o ≡ Some v → IsValue v × (type_of v ≡ kind)
+initial_is kind None v e =
+    subst (λ (x : Value). IsValue x × (type_of x ≡ kind)) (some_is (default_value kind) v e)
+    (let h = default_typed kind in (h.1, h.0))
+initial_is kind (Some l) v e = literal_value_is kind l v e
 
 -- ---- names of points
 
@@ -104,7 +108,8 @@ few_octets n h = grind (arith, nat_tests)
 
 name_is : (name : List ℕ) → is_name name ≡ true → IsName (upper name)
 name_is name e =
-    let a = and_parts (nat_lt 0 (length name) && nat_le (length name) 64) (list_all may_stand name) e in
+    let a = and_parts (nat_lt 0 (length name) && nat_le (length name) 64) (list_all may_stand name)
+    e in
     let b = and_parts (nat_lt 0 (length name)) (nat_le (length name) 64) a.0 in
     let same : length (upper name) ≡ length name = length-map name to_ascii_uppercase in
     record {
@@ -117,7 +122,8 @@ if_there : {A : Type 0} (b : Bool) (o : Option A) (x : A) → cond b o None ≡ 
 if_there true o x e = refl
 if_there false o x e = absurd (cc)
 
-point_named : (points : List Point) (name : List ℕ) (p : Point) → point_of points name ≡ Some p → IsName (upper name)
+point_named : (points : List Point) (name : List ℕ) (p : Point) → point_of points name ≡ Some p
+    → IsName (upper name)
 point_named points name p e = name_is name (if_there (is_name name) _ p e)
 
 -- ---- what a name means is there
@@ -125,10 +131,12 @@ point_named points name p e = name_is name (if_there (is_name name) _ p e)
 abbrev pub IsMeant : List External → List Variable → List Timer → Meaning → Type 0
 IsMeant es vs ts (meaning.Variable (slot.External n) kind writable) =
     (e : External) × (slice_get es n ≡ Some e) × (e.kind ≡ kind) × (e.writable ≡ writable)
-IsMeant es vs ts (meaning.Variable (slot.Variable n) kind writable) = (v : Variable) × (slice_get vs n ≡ Some v) × (type_of v.initial ≡ kind)
+IsMeant es vs ts (meaning.Variable (slot.Variable n) kind writable) =
+    (v : Variable) × (slice_get vs n ≡ Some v) × (type_of v.initial ≡ kind)
 IsMeant es vs ts (meaning.Timer n) = n < length ts
 
-pub get_more : {A : Type 0} (xs ys : List A) (n : ℕ) (x : A) → slice_get xs n ≡ Some x → slice_get (xs ++ ys) n ≡ Some x
+pub get_more : {A : Type 0} (xs ys : List A) (n : ℕ) (x : A) → slice_get xs n ≡ Some x
+    → slice_get (xs ++ ys) n ≡ Some x
 get_more [] ys n x e = absurd (cc)
 get_more (y ∷ xs) ys zero x e = e
 get_more (y ∷ xs) ys (suc n) x e = get_more xs ys n x e
@@ -137,31 +145,40 @@ pub get_last : {A : Type 0} (xs : List A) (x : A) → slice_get (xs ++ x ∷ [])
 get_last [] x = refl
 get_last (y ∷ xs) x = get_last xs x
 
-meant_more : (es es2 : List External) (vs vs2 : List Variable) (ts ts2 : List Timer) (m : Meaning) → IsMeant es vs ts m → IsMeant (es ++ es2) (vs ++ vs2) (ts ++ ts2) m
-meant_more es es2 vs vs2 ts ts2 (meaning.Variable (slot.External n) kind writable) h = (h.0, get_more es es2 n h.0 h.1, h.2, h.3)
-meant_more es es2 vs vs2 ts ts2 (meaning.Variable (slot.Variable n) kind writable) h = (h.0, get_more vs vs2 n h.0 h.1, h.2)
+meant_more : (es es2 : List External) (vs vs2 : List Variable) (ts ts2 : List Timer) (m : Meaning)
+    → IsMeant es vs ts m → IsMeant (es ++ es2) (vs ++ vs2) (ts ++ ts2) m
+meant_more es es2 vs vs2 ts ts2 (meaning.Variable (slot.External n) kind writable) h =
+    (h.0, get_more es es2 n h.0 h.1, h.2, h.3)
+meant_more es es2 vs vs2 ts ts2 (meaning.Variable (slot.Variable n) kind writable) h =
+    (h.0, get_more vs vs2 n h.0 h.1, h.2)
 meant_more es es2 vs vs2 ts ts2 (meaning.Timer n) h = let l = length-append ts ts2 in omega arith
 
-each_more : {A : Type 0} (P : A → Type 0) (xs ys : List A) → Each P xs → Each P ys → Each P (xs ++ ys)
+each_more : {A : Type 0} (P : A → Type 0) (xs ys : List A) → Each P xs → Each P ys
+    → Each P (xs ++ ys)
 each_more P [] ys h k = k
 each_more P (x ∷ xs) ys h k = (h.0, each_more P xs ys h.1 k)
 
 -- ---- one declaration
 
 -- what a declaration adds to lists, and what its name means
-record IsAdded (es es2 : List External) (vs vs2 : List Variable) (ts ts2 : List Timer) (m : Meaning) : Type 0 where
+record IsAdded (es es2 : List External) (vs vs2 : List Variable) (ts ts2 : List Timer) (m : Meaning)
+    : Type 0 where
   slots : length (es ++ es2) + length (vs ++ vs2) ≤ 512
   timers : length (ts ++ ts2) ≤ 64
   names : Each HasName es2
   initial : Each BeginsRight vs2
   meant : IsMeant (es ++ es2) (vs ++ vs2) (ts ++ ts2) m
 
-external_added : (name : List ℕ) (kind : ElementaryType) (o : Option Point) (es : List External) (vs : List Variable) (ts : List Timer) → is_none o ≡ false
-    → ((p : Point) → o ≡ Some p → IsName (upper name)) → length es + length vs < 512 → length ts ≤ 64
-    → IsAdded es (option_to_list (external_at name kind o)) vs [] ts [] (meaning.Variable (slot.External (length es)) kind (is_writable o))
+external_added : (name : List ℕ) (kind : ElementaryType) (o : Option Point) (es : List External)
+    (vs : List Variable) (ts : List Timer) → is_none o ≡ false
+    → ((p : Point) → o ≡ Some p → IsName (upper name)) → length es + length vs < 512
+    → length ts ≤ 64
+    → IsAdded es (option_to_list (external_at name kind o)) vs [] ts []
+    (meaning.Variable (slot.External (length es)) kind (is_writable o))
 external_added name kind None es vs ts there named few timers = absurd (cc)
 external_added name kind (Some p) es vs ts there named few timers =
-    let e : External = record { name = upper name; kind = kind; writable = p.writable; source = p.source } in
+    let e : External =
+    record { name = upper name; kind = kind; writable = p.writable; source = p.source } in
     record {
       slots = let a = length-append es (e ∷ []) in let b = length-append vs [] in omega arith;
       timers = let a = length-append ts [] in omega arith;
@@ -170,9 +187,12 @@ external_added name kind (Some p) es vs ts there named few timers =
       meant = (e, get_last es e, refl, refl);
     }
 
-variable_added : (name : List ℕ) (kind : ElementaryType) (o : Option Value) (es : List External) (vs : List Variable) (ts : List Timer) → is_some o ≡ true
-    → ((v : Value) → o ≡ Some v → IsValue v × (type_of v ≡ kind)) → length es + length vs < 512 → length ts ≤ 64
-    → IsAdded es [] vs (option_to_list (variable_at name o)) ts [] (meaning.Variable (slot.Variable (length vs)) kind true)
+variable_added : (name : List ℕ) (kind : ElementaryType) (o : Option Value) (es : List External)
+    (vs : List Variable) (ts : List Timer) → is_some o ≡ true
+    → ((v : Value) → o ≡ Some v → IsValue v × (type_of v ≡ kind)) → length es + length vs < 512
+    → length ts ≤ 64
+    → IsAdded es [] vs (option_to_list (variable_at name o)) ts []
+    (meaning.Variable (slot.Variable (length vs)) kind true)
 variable_added name kind None es vs ts there right few timers = absurd (cc)
 variable_added name kind (Some w) es vs ts there right few timers =
     let v : Variable = record { name = upper name; initial = w } in
@@ -185,7 +205,9 @@ variable_added name kind (Some w) es vs ts there right few timers =
       meant = (v, get_last vs v, h.1);
     }
 
-timer_added : (t : Timer) (es : List External) (vs : List Variable) (ts : List Timer) → length es + length vs ≤ 512 → length ts < 64 → IsAdded es [] vs [] ts (t ∷ []) (meaning.Timer (length ts))
+timer_added : (t : Timer) (es : List External) (vs : List Variable) (ts : List Timer)
+    → length es + length vs ≤ 512 → length ts < 64
+    → IsAdded es [] vs [] ts (t ∷ []) (meaning.Timer (length ts))
 timer_added t es vs ts slots few = record {
   slots = let a = length-append es [] in let b = length-append vs [] in omega arith;
   timers = let a = length-append ts (t ∷ []) in omega arith;
@@ -200,53 +222,68 @@ few_slots n h = grind (arith, nat_tests)
 few_timers : (n : ℕ) → nat_le 64 n ≡ false → n < 64
 few_timers n h = grind (arith, nat_tests)
 
-added : (points : List Point) (d : text.Declared) (s : Scope) (k : DeclaredType) (es : List External) (vs : List Variable) (ts : List Timer)
-    → is_external s && is_none (point_of points d.name) ≡ false → is_typed s k (point_of points d.name) d.initial ≡ true
-    → is_full (record { externals = length es; variables = length vs; timers = length ts }) k ≡ false
+added : (points : List Point) (d : text.Declared) (s : Scope) (k : DeclaredType)
+    (es : List External) (vs : List Variable) (ts : List Timer)
+    → is_external s && is_none (point_of points d.name) ≡ false
+    → is_typed s k (point_of points d.name) d.initial ≡ true
+    → is_full (record { externals = length es; variables = length vs; timers = length ts }) k
+    ≡ false
     → length es + length vs ≤ 512 → length ts ≤ 64
-    → IsAdded es (option_to_list (external_in points d s k)) vs (option_to_list (variable_in d s k)) ts (option_to_list (timer_in d k))
-    (meaning_at (record { externals = length es; variables = length vs; timers = length ts }) s k (point_of points d.name))
+    → IsAdded es (option_to_list (external_in points d s k)) vs (option_to_list (variable_in d s k))
+    ts (option_to_list (timer_in d k))
+    (meaning_at (record { externals = length es; variables = length vs; timers = length ts }) s k
+    (point_of points d.name))
 added points d scope.External (type.Elementary kind) es vs ts there right room slots timers =
-    external_added d.name kind (point_of points d.name) es vs ts there (λ p e. point_named points d.name p e) (few_slots _ room) timers
+    external_added d.name kind (point_of points d.name) es vs ts there
+    (λ p e. point_named points d.name p e) (few_slots _ room) timers
 added points d scope.External (type.Timer kind) es vs ts there right room slots timers =
     timer_added (record { name = upper d.name; kind = kind }) es vs ts slots (few_timers _ room)
 added points d scope.Local (type.Elementary kind) es vs ts there right room slots timers =
-    variable_added d.name kind (initial_in kind d.initial) es vs ts right (λ v e. initial_is kind d.initial v e) (few_slots _ room) timers
+    variable_added d.name kind (initial_in kind d.initial) es vs ts right
+    (λ v e. initial_is kind d.initial v e) (few_slots _ room) timers
 added points d scope.Local (type.Timer kind) es vs ts there right room slots timers =
     timer_added (record { name = upper d.name; kind = kind }) es vs ts slots (few_timers _ room)
 
 -- ---- all declarations
 
 -- what is declared is right, and so is what names mean
-pub record AreDeclared (es : List External) (vs : List Variable) (ts : List Timer) (ms : List (List ℕ × Meaning)) : Type 0 where
+pub record AreDeclared (es : List External) (vs : List Variable) (ts : List Timer)
+    (ms : List (List ℕ × Meaning)) : Type 0 where
   pub slots : length es + length vs ≤ 512
   pub timers : length ts ≤ 64
   pub names : Each HasName es
   pub initial : Each BeginsRight vs
   pub meant : (key : List ℕ) (m : Meaning) → looked_up ms key ≡ Some m → IsMeant es vs ts m
 
-either_found : {A : Type 0} (o : Option A) (b : Bool) (x y : A) → cond (is_some o) o (cond b (Some x) None) ≡ Some y → (o ≡ Some y) ⊎ (x ≡ y)
+either_found : {A : Type 0} (o : Option A) (b : Bool) (x y : A)
+    → cond (is_some o) o (cond b (Some x) None) ≡ Some y → (o ≡ Some y) ⊎ (x ≡ y)
 either_found (Some z) b x y e = inl e
 either_found None true x y e = inr (some_is x y e)
 either_found None false x y e = absurd (cc)
 
-declared_added : (es es2 : List External) (vs vs2 : List Variable) (ts ts2 : List Timer) (ms : List (List ℕ × Meaning)) (name : List ℕ) (m : Meaning)
-    → AreDeclared es vs ts ms → IsAdded es es2 vs vs2 ts ts2 m → AreDeclared (es ++ es2) (vs ++ vs2) (ts ++ ts2) (ms ++ (name, m) ∷ [])
+declared_added : (es es2 : List External) (vs vs2 : List Variable) (ts ts2 : List Timer)
+    (ms : List (List ℕ × Meaning)) (name : List ℕ) (m : Meaning)
+    → AreDeclared es vs ts ms → IsAdded es es2 vs vs2 ts ts2 m
+    → AreDeclared (es ++ es2) (vs ++ vs2) (ts ++ ts2) (ms ++ (name, m) ∷ [])
 declared_added es es2 vs vs2 ts ts2 ms name m known more = record {
   slots = more.slots;
   timers = more.timers;
   names = each_more HasName es es2 known.names more.names;
   initial = each_more BeginsRight vs vs2 known.initial more.initial;
-  meant = λ key n e. elim (either_found (looked_up ms key) (bytes_eq name key) m n (sym (looked_up-more ms name m key) ∙ e)) [
-    | inl is ↦ meant_more es es2 vs vs2 ts ts2 n (known.meant key n is)
-    | inr is ↦ subst (IsMeant (es ++ es2) (vs ++ vs2) (ts ++ ts2)) is more.meant
-  ];
+  meant = λ key n e. elim (either_found (looked_up ms key) (bytes_eq name key) m n
+      (sym (looked_up-more ms name m key) ∙ e)) [
+        | inl is ↦ meant_more es es2 vs vs2 ts ts2 n (known.meant key n is)
+        | inr is ↦ subst (IsMeant (es ++ es2) (vs ++ vs2) (ts ++ ts2)) is more.meant
+      ];
 }
 
 abbrev Declares : List Point → List text.Declared → Type 0
-Declares points ds = AreDeclared (externals_of points ds) (variables_of ds) (timers_of ds) (meanings_of points ds)
+Declares points ds =
+    AreDeclared (externals_of points ds) (variables_of ds) (timers_of ds) (meanings_of points ds)
 
-declares_more : (points : List Point) (before : List text.Declared) (d : text.Declared) → Declares points before → declaration_faults points before d ≡ [] → Declares points (before ++ d ∷ [])
+declares_more : (points : List Point) (before : List text.Declared) (d : text.Declared)
+    → Declares points before → declaration_faults points before d ≡ []
+    → Declares points (before ++ d ∷ [])
 declares_more points before d known none =
     let missing = both_none _ _ none in
     let twice = both_none _ _ missing.1 in
@@ -254,25 +291,52 @@ declares_more points before d known none =
     let es = externals_of points before in
     let vs = variables_of before in
     let ts = timers_of before in
-    let m : Meaning = meaning_at (counts_of points before) d.scope d.kind (point_of points d.name) in
-    let more = added points d d.scope d.kind es vs ts (if_none _ _ missing.0) (not_false _ (if_none _ _ wrong.0)) (if_none _ _ wrong.1) known.slots known.timers in
-    let is = declared_added es (option_to_list (external_in points d d.scope d.kind)) vs (option_to_list (variable_in d d.scope d.kind)) ts (option_to_list (timer_in d d.kind)) (meanings_of points before) (upper d.name) m known more in
-    subst (λ (xs : List External). AreDeclared xs (variables_of (before ++ d ∷ [])) (timers_of (before ++ d ∷ [])) (meanings_of points (before ++ d ∷ [])))
+    let m : Meaning =
+    meaning_at (counts_of points before) d.scope d.kind (point_of points d.name) in
+    let more =
+    added points d d.scope d.kind es vs ts (if_none _ _ missing.0)
+    (not_false _ (if_none _ _ wrong.0)) (if_none _ _ wrong.1) known.slots known.timers in
+    let is =
+    declared_added es (option_to_list (external_in points d d.scope d.kind)) vs
+    (option_to_list (variable_in d d.scope d.kind)) ts (option_to_list (timer_in d d.kind))
+    (meanings_of points before) (upper d.name) m known more in
+    subst (λ (xs : List External). AreDeclared xs (variables_of (before ++ d ∷ []))
+    (timers_of (before ++ d ∷ [])) (meanings_of points (before ++ d ∷ [])))
     (sym (filter_map-more (λ (x : text.Declared). external_in points x x.scope x.kind) before d))
-    (subst (λ (xs : List Variable). AreDeclared (es ++ option_to_list (external_in points d d.scope d.kind)) xs (timers_of (before ++ d ∷ [])) (meanings_of points (before ++ d ∷ [])))
+    (subst (λ (xs : List Variable). AreDeclared
+    (es ++ option_to_list (external_in points d d.scope d.kind)) xs
+    (timers_of (before ++ d ∷ [])) (meanings_of points (before ++ d ∷ [])))
     (sym (filter_map-more (λ (x : text.Declared). variable_in x x.scope x.kind) before d))
-    (subst (λ (xs : List Timer). AreDeclared (es ++ option_to_list (external_in points d d.scope d.kind)) (vs ++ option_to_list (variable_in d d.scope d.kind)) xs (meanings_of points (before ++ d ∷ [])))
+    (subst (λ (xs : List Timer). AreDeclared
+    (es ++ option_to_list (external_in points d d.scope d.kind))
+    (vs ++ option_to_list (variable_in d d.scope d.kind)) xs
+    (meanings_of points (before ++ d ∷ [])))
     (sym (filter_map-more (λ (x : text.Declared). timer_in x x.kind) before d))
-    (subst (λ (xs : List (List ℕ × Meaning)). AreDeclared (es ++ option_to_list (external_in points d d.scope d.kind)) (vs ++ option_to_list (variable_in d d.scope d.kind)) (ts ++ option_to_list (timer_in d d.kind)) xs)
+    (subst (λ (xs : List (List ℕ × Meaning)). AreDeclared
+    (es ++ option_to_list (external_in points d d.scope d.kind))
+    (vs ++ option_to_list (variable_in d d.scope d.kind))
+    (ts ++ option_to_list (timer_in d d.kind)) xs)
     (sym (meanings-more points [] before d)) is)))
 
-declares_all : (points : List Point) (before ds : List text.Declared) → Declares points before → declarations_faults points before ds ≡ [] → Declares points (before ++ ds)
+declares_all : (points : List Point) (before ds : List text.Declared) → Declares points before
+    → declarations_faults points before ds ≡ [] → Declares points (before ++ ds)
 declares_all points before [] known none = subst (Declares points) (sym (append-nil before)) known
 declares_all points before (d ∷ ds) known none =
     let two = both_none _ _ none in
-    subst (Declares points) (append_assoc before (d ∷ []) ds) (declares_all points (before ++ d ∷ []) ds (declares_more points before d known two.0) two.1)
+    subst (Declares points) (append_assoc before (d ∷ []) ds)
+    (declares_all points (before ++ d ∷ []) ds (declares_more points before d known two.0)
+    two.1)
 
 -- where no declaration has a fault, all is declared as it should be
-pub declares : (points : List Point) (ds : List text.Declared) → declarations_faults points [] ds ≡ [] → AreDeclared (externals_of points ds) (variables_of ds) (timers_of ds) (meanings_of points ds)
+pub declares : (points : List Point) (ds : List text.Declared)
+    → declarations_faults points [] ds ≡ []
+    → AreDeclared (externals_of points ds) (variables_of ds) (timers_of ds) (meanings_of points ds)
 declares points ds none =
-    declares_all points [] ds (record { slots = omega arith; timers = omega arith; names = tt; initial = tt; meant = λ key m e. absurd (cc) }) none
+    declares_all points [] ds
+    (record {
+      slots = omega arith;
+      timers = omega arith;
+      names = tt;
+      initial = tt;
+      meant = λ key m e. absurd (cc);
+    }) none

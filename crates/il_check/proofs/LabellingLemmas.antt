@@ -12,13 +12,13 @@ use Rattle.il_text.specs.Listing as text
 use Rattle.il_text.specs.declared.program.Operator.{Operator}
 use Rattle.il_text.specs.declared.program.Condition.TheVariants.{Always, IfTrue, IfFalse}
 use Rattle.il_image.proofs.KindLemmas.{same_is, same_self}
-use Rattle.il_check.specs.Checking.{start}
+use Rattle.il_check.specs.Checking.{initial_standing}
 use Rattle.il_check.specs.Declaring.{labels_from, names_in, looked_up}
 use Rattle.il_check.specs.Faults.{fault_if}
 use Rattle.il_check.specs.Given.{Names, resolved}
-use Rattle.il_check.specs.Labelling.{Labelling, Becomes, IsRight, IsJoined, IsRightEntry, AreRightEntries, Coming, Falls, Jumps, is_named, with_target, carried, beginning, coming_behind_label, coming_behind_action, with_result, Flows, IsWellTyped, behind_all, coming_behind}
-use Rattle.il_check.specs.Rules.{is_wrong, is_unset, type_after, allows, uses_result, any_type, joins_unset, jumps_back, gives, goes_on, target_of}
-use Rattle.il_check.specs.WellTyped.{Standing, is_first, type_behind, type_behind_all, instruction_faults, entry_faults, entries_faults, items_faults, same_result, met_type, met, unreached, arrival, arrived, moved, behind}
+use Rattle.il_check.specs.Labelling.{Labelling, Becomes, IsRight, IsCombined, IsRightEntry, AreRightEntries, Coming, Falls, Jumps, is_named, with_target, carried, beginning, coming_behind_label, coming_behind_action, with_result, Flows, IsWellTyped, behind_all, coming_behind}
+use Rattle.il_check.specs.Rules.{is_wrong, is_unset, type_after, allows, uses_result, any_type, combines_unset, jumps_back, gives, goes_on, target_of}
+use Rattle.il_check.specs.WellTyped.{Standing, is_first, type_behind, type_behind_all, instruction_faults, entry_faults, entries_faults, items_faults, same_result, join_types, join, unreached, arrival, arrived, moved, behind}
 use Rattle.il_check.specs.declared.reach.Reach.{Reach}
 use Rattle.il_check.specs.declared.given.Resolved.{Resolved}
 use Rattle.il_check.specs.declared.given.Resolved.TheVariants.{Load, Store, Combine, Not, Convert, Jump, Return, Call}
@@ -59,7 +59,8 @@ false_and false b e = refl
 
 -- ---- one instruction
 
-pub right_from : (is_reached : Bool) (passed line : ℕ) (r : Resolved) (t : Option ElementaryType) → instruction_faults is_reached passed line r t ≡ [] → (is_reached ≡ true) × IsRight passed r t
+pub right_from : (is_reached : Bool) (passed line : ℕ) (r : Resolved) (t : Option ElementaryType)
+    → instruction_faults is_reached passed line r t ≡ [] → (is_reached ≡ true) × IsRight passed r t
 right_from is_reached passed line r t e =
     let halves = both_none _ _ e in
     let names = both_none _ _ halves.0 in
@@ -81,29 +82,41 @@ right_from is_reached passed line r t e =
       },
     )
 
-right_to : (is_reached : Bool) (passed line : ℕ) (r : Resolved) (t : Option ElementaryType) → is_reached ≡ true → IsRight passed r t → instruction_faults is_reached passed line r t ≡ []
+right_to : (is_reached : Bool) (passed line : ℕ) (r : Resolved) (t : Option ElementaryType)
+    → is_reached ≡ true → IsRight passed r t → instruction_faults is_reached passed line r t ≡ []
 right_to is_reached passed line r t reached ok =
     none_both _ _
-    (none_both _ _ (none_if _ _ ok.named) (none_both _ _ (none_if _ _ (false_and is_reached _ ok.allowed)) (none_both _ _ (none_if _ _ (false_and is_reached _ ok.set)) (none_if _ _ ok.forward))))
-    (none_both _ _ (none_if _ _ ok.labelled) (none_both _ _ (none_if _ _ (ap not reached)) (none_both _ _ (none_if _ _ ok.writable) (none_if _ _ ok.nonzero))))
+    (none_both _ _ (none_if _ _ ok.named)
+    (none_both _ _ (none_if _ _ (false_and is_reached _ ok.allowed))
+    (none_both _ _ (none_if _ _ (false_and is_reached _ ok.set)) (none_if _ _ ok.forward))))
+    (none_both _ _ (none_if _ _ ok.labelled)
+    (none_both _ _ (none_if _ _ (ap not reached))
+    (none_both _ _ (none_if _ _ ok.writable) (none_if _ _ ok.nonzero))))
 
 -- ---- an entry
 
 pub no_zero : (n : ℕ) → (suc n == 0) ≡ false
 no_zero n = grind (arith, nat_tests)
 
-within : (room : ℕ) (line : ℕ) (fs : List CheckFault) → cond (room == 0) (TooMany line ∷ []) fs ≡ [] → (0 < room) × (fs ≡ [])
+within : (room : ℕ) (line : ℕ) (fs : List CheckFault) → cond (room == 0) (TooMany line ∷ []) fs ≡ []
+    → (0 < room) × (fs ≡ [])
 within zero line fs e = absurd (cc)
-within (suc room) line fs e = (omega arith, sym (ap (λ (b : Bool). cond b (TooMany line ∷ []) fs) (no_zero room)) ∙ e)
+within (suc room) line fs e =
+    (omega arith, sym (ap (λ (b : Bool). cond b (TooMany line ∷ []) fs) (no_zero room)) ∙ e)
 
-from_within : (room : ℕ) (line : ℕ) (fs : List CheckFault) → 0 < room → fs ≡ [] → cond (room == 0) (TooMany line ∷ []) fs ≡ []
+from_within : (room : ℕ) (line : ℕ) (fs : List CheckFault) → 0 < room → fs ≡ []
+    → cond (room == 0) (TooMany line ∷ []) fs ≡ []
 from_within zero line fs some e = absurd (omega arith)
-from_within (suc room) line fs some e = ap (λ (b : Bool). cond b (TooMany line ∷ []) fs) (no_zero room) ∙ e
+from_within (suc room) line fs some e =
+    ap (λ (b : Bool). cond b (TooMany line ∷ []) fs) (no_zero room) ∙ e
 
 mutual
-  pub entry_from : (names : Names) (room : ℕ) (is_reached : Bool) (passed : ℕ) (e : text.Entry) (t : Option ElementaryType) → entry_faults names room is_reached passed e t ≡ [] → IsRightEntry names room passed e t
+  pub entry_from : (names : Names) (room : ℕ) (is_reached : Bool) (passed : ℕ) (e : text.Entry)
+      (t : Option ElementaryType) → entry_faults names room is_reached passed e t ≡ []
+      → IsRightEntry names room passed e t
   entry_from names room is_reached passed (text.label line name) t e = tt
-  entry_from names room is_reached passed (text.action line a) t e = (right_from is_reached passed line (resolved names a) t e).1
+  entry_from names room is_reached passed (text.action line a) t e =
+      (right_from is_reached passed line (resolved names a) t e).1
   entry_from names room is_reached passed (text.block line operator negated items end) t e =
       let opened = both_none _ _ e in
       let deep = within room line _ opened.1 in
@@ -121,32 +134,48 @@ mutual
         },
       )
 
-  entries_from : (names : Names) (room : ℕ) (is_reached : Bool) (passed : ℕ) (es : text.Entries) (t : Option ElementaryType) → entries_faults names room is_reached passed es t ≡ [] → AreRightEntries names room passed es t
+  entries_from : (names : Names) (room : ℕ) (is_reached : Bool) (passed : ℕ) (es : text.Entries)
+      (t : Option ElementaryType) → entries_faults names room is_reached passed es t ≡ []
+      → AreRightEntries names room passed es t
   entries_from names room is_reached passed text.no_entries t e = tt
   entries_from names room is_reached passed (text.entry x es) t e =
-      let h = both_none _ _ e in
-      (entry_from names room is_reached passed x t h.0, entries_from names room is_reached passed es (type_behind names x t) h.1)
+      let h = both_none _ _ e in (
+        entry_from names room is_reached passed x t h.0,
+        entries_from names room is_reached passed es (type_behind names x t) h.1,
+      )
 
 mutual
-  entry_to : (names : Names) (room : ℕ) (is_reached : Bool) (passed : ℕ) (e : text.Entry) (t : Option ElementaryType) → is_reached ≡ true → IsRightEntry names room passed e t → entry_faults names room is_reached passed e t ≡ []
+  entry_to : (names : Names) (room : ℕ) (is_reached : Bool) (passed : ℕ) (e : text.Entry)
+      (t : Option ElementaryType) → is_reached ≡ true → IsRightEntry names room passed e t
+      → entry_faults names room is_reached passed e t ≡ []
   entry_to names room is_reached passed (text.label line name) t r ok = refl
-  entry_to names room is_reached passed (text.action line a) t r ok = right_to is_reached passed line (resolved names a) t r ok
+  entry_to names room is_reached passed (text.action line a) t r ok =
+      right_to is_reached passed line (resolved names a) t r ok
   entry_to names room is_reached passed (text.block line operator negated items end) t r ok =
       none_both _ _
       (none_both _ _ (none_if _ _ (ap not r)) (none_if _ _ ok.2.nonzero))
       (from_within room line _ ok.0
       (none_both _ _ (entries_to names (room - 1) is_reached passed items None r ok.1)
-      (none_both _ _ (none_if _ _ (false_and is_reached _ ok.2.allowed)) (none_both _ _ (none_if _ _ (false_and is_reached _ ok.2.set)) (none_if _ _ (ap not r))))))
+      (none_both _ _ (none_if _ _ (false_and is_reached _ ok.2.allowed))
+      (none_both _ _ (none_if _ _ (false_and is_reached _ ok.2.set))
+      (none_if _ _ (ap not r))))))
 
-  entries_to : (names : Names) (room : ℕ) (is_reached : Bool) (passed : ℕ) (es : text.Entries) (t : Option ElementaryType) → is_reached ≡ true → AreRightEntries names room passed es t → entries_faults names room is_reached passed es t ≡ []
+  entries_to : (names : Names) (room : ℕ) (is_reached : Bool) (passed : ℕ) (es : text.Entries)
+      (t : Option ElementaryType) → is_reached ≡ true → AreRightEntries names room passed es t
+      → entries_faults names room is_reached passed es t ≡ []
   entries_to names room is_reached passed text.no_entries t r ok = refl
   entries_to names room is_reached passed (text.entry x es) t r ok =
-      none_both _ _ (entry_to names room is_reached passed x t r ok.0) (entries_to names room is_reached passed es (type_behind names x t) r ok.1)
+      none_both _ _ (entry_to names room is_reached passed x t r ok.0)
+      (entries_to names room is_reached passed es (type_behind names x t) r ok.1)
 
 -- the opening parenthesis is reached, or an instruction is
-pub entry_reached : (names : Names) (room : ℕ) (is_reached : Bool) (passed line : ℕ) (operator : Operator) (negated : Bool) (items : text.Entries) (end : ℕ) (t : Option ElementaryType)
-    → entry_faults names room is_reached passed (text.block line operator negated items end) t ≡ [] → is_reached ≡ true
-entry_reached names room is_reached passed line operator negated items end t e = not_false is_reached (if_none _ _ (both_none _ _ (both_none _ _ e).0).0)
+pub entry_reached : (names : Names) (room : ℕ) (is_reached : Bool) (passed line : ℕ)
+    (operator : Operator) (negated : Bool) (items : text.Entries) (end : ℕ)
+    (t : Option ElementaryType)
+    → entry_faults names room is_reached passed (text.block line operator negated items end) t ≡ []
+    → is_reached ≡ true
+entry_reached names room is_reached passed line operator negated items end t e =
+    not_false is_reached (if_none _ _ (both_none _ _ (both_none _ _ e).0).0)
 
 -- ---- a result that is unset, in the place of one with a type
 
@@ -156,12 +185,14 @@ becomes_along t u v (inl e) (inr f) = inr f
 becomes_along t u v (inr e) (inl f) = inr (f ∙ e)
 becomes_along t u v (inr e) (inr f) = inr f
 
-becomes_under : (f : ElementaryType → ElementaryType) (t u : Option ElementaryType) → Becomes t u → Becomes (option_map f t) (option_map f u)
+becomes_under : (f : ElementaryType → ElementaryType) (t u : Option ElementaryType) → Becomes t u
+    → Becomes (option_map f t) (option_map f u)
 becomes_under f t u (inl e) = inl (ap (option_map f) e)
 becomes_under f t u (inr e) = inr (ap (option_map f) e)
 
 -- an instruction that does not use the result is right on each, or on none
-pub same_for_all : (r : Resolved) (k : ElementaryType) → uses_result r ≡ false → allows r k ≡ allows r elementary.Bool
+pub same_for_all : (r : Resolved) (k : ElementaryType) → uses_result r ≡ false
+    → allows r k ≡ allows r elementary.Bool
 same_for_all (Load negated given) k e = refl
 same_for_all (Store how target) k e = absurd (cc)
 same_for_all (Combine operator negated given is_nonzero) k e = absurd (cc)
@@ -179,12 +210,15 @@ any_of : (a b c d e : Bool) → b ≡ a → c ≡ a → d ≡ a → e ≡ a → 
 any_of true b c d e p q r s = refl
 any_of false b c d e p q r s = rw (p, q, r, s) refl
 
-pub right_typed : (r : Resolved) (t u : Option ElementaryType) → uses_result r ≡ false → is_wrong r None ≡ false → is_wrong r t ≡ false
+pub right_typed : (r : Resolved) (t u : Option ElementaryType) → uses_result r ≡ false
+    → is_wrong r None ≡ false → is_wrong r t ≡ false
 right_typed r None u e ok = ok
 right_typed r (Some k) u e ok =
     let all : any_type (allows r) ≡ allows r elementary.Bool =
-    any_of (allows r elementary.Bool) (allows r elementary.Int) (allows r elementary.Dint) (allows r elementary.Lint) (allows r elementary.Time)
-    (same_for_all r elementary.Int e) (same_for_all r elementary.Dint e) (same_for_all r elementary.Lint e) (same_for_all r elementary.Time e) in
+    any_of (allows r elementary.Bool) (allows r elementary.Int) (allows r elementary.Dint)
+    (allows r elementary.Lint) (allows r elementary.Time)
+    (same_for_all r elementary.Int e) (same_for_all r elementary.Dint e)
+    (same_for_all r elementary.Lint e) (same_for_all r elementary.Time e) in
     let some : any_type (allows r) ≡ true = not_false (any_type (allows r)) ok in
     ap not (same_for_all r k e ∙ sym all ∙ some)
 
@@ -194,7 +228,8 @@ unset_unused r e = elim (two (uses_result r)) [
   | inr h ↦ h
 ]
 
-right_under : (passed : ℕ) (r : Resolved) (t u : Option ElementaryType) → Becomes t u → IsRight passed r u → IsRight passed r t
+right_under : (passed : ℕ) (r : Resolved) (t u : Option ElementaryType) → Becomes t u
+    → IsRight passed r u → IsRight passed r t
 right_under passed r t u (inl e) ok = subst (IsRight passed r) e ok
 right_under passed r t u (inr e) ok =
     let none : IsRight passed r None = subst (IsRight passed r) e ok in
@@ -209,7 +244,8 @@ right_under passed r t u (inr e) ok =
       nonzero = ok.nonzero;
     }
 
-after_under : (r : Resolved) (t u : Option ElementaryType) → Becomes t u → Becomes (type_after r t) (type_after r u)
+after_under : (r : Resolved) (t u : Option ElementaryType) → Becomes t u
+    → Becomes (type_after r t) (type_after r u)
 after_under (Load negated given) t u b = inl refl
 after_under (Store how target) t u b = b
 after_under (Combine operator negated given is_nonzero) t u b = becomes_under (gives operator) t u b
@@ -223,35 +259,44 @@ pub or_true : (b : Bool) → b || true ≡ true
 or_true true = refl
 or_true false = refl
 
-joined_under : (operator : Operator) (negated : Bool) (inner t u : Option ElementaryType) → Becomes t u → IsJoined operator negated inner u → IsJoined operator negated inner t
-joined_under operator negated inner t u (inl e) ok = subst (IsJoined operator negated inner) e ok
-joined_under operator negated inner t u (inr e) ok =
-    let set : joins_unset inner None ≡ false = subst (λ (v : Option ElementaryType). joins_unset inner v ≡ false) e ok.set in
+combined_under : (operator : Operator) (negated : Bool) (inner t u : Option ElementaryType)
+    → Becomes t u → IsCombined operator negated inner u → IsCombined operator negated inner t
+combined_under operator negated inner t u (inl e) ok =
+    subst (IsCombined operator negated inner) e ok
+combined_under operator negated inner t u (inr e) ok =
+    let set : combines_unset inner None ≡ false =
+    subst (λ (v : Option ElementaryType). combines_unset inner v ≡ false) e ok.set in
     absurd (let k : true ≡ false = sym (or_true (is_none inner)) ∙ set in cc)
 
-entry_under : (names : Names) (room passed : ℕ) (e : text.Entry) (t u : Option ElementaryType) → Becomes t u → IsRightEntry names room passed e u → IsRightEntry names room passed e t
+entry_under : (names : Names) (room passed : ℕ) (e : text.Entry) (t u : Option ElementaryType)
+    → Becomes t u → IsRightEntry names room passed e u → IsRightEntry names room passed e t
 entry_under names room passed (text.label line name) t u b ok = tt
-entry_under names room passed (text.action line a) t u b ok = right_under passed (resolved names a) t u b ok
+entry_under names room passed (text.action line a) t u b ok =
+    right_under passed (resolved names a) t u b ok
 entry_under names room passed (text.block line operator negated items end) t u b ok =
-    (ok.0, ok.1, joined_under operator negated (type_behind_all names items None) t u b ok.2)
+    (ok.0, ok.1, combined_under operator negated (type_behind_all names items None) t u b ok.2)
 
 -- ---- where ways meet
 
-met_none : (a b : Reach) → a.is_reached ≡ false → met a b ≡ b
-met_none a b e = rw e refl
+join_none : (a b : Reach) → a.is_reached ≡ false → join a b ≡ b
+join_none a b e = rw e refl
 
-met_first : (a b : Reach) → a.is_reached ≡ true → b.is_reached ≡ false → met a b ≡ a
-met_first a b e f = rw (e, f) refl
+join_first : (a b : Reach) → a.is_reached ≡ true → b.is_reached ≡ false → join a b ≡ a
+join_first a b e f = rw (e, f) refl
 
-met_both : (a b : Reach) → a.is_reached ≡ true → b.is_reached ≡ true → met a b ≡ record { is_reached = true; kind = met_type a.kind b.kind }
-met_both a b e f = rw (e, f) refl
+join_both : (a b : Reach) → a.is_reached ≡ true → b.is_reached ≡ true
+    → join a b ≡ record { is_reached = true; kind = join_types a.kind b.kind }
+join_both a b e f = rw (e, f) refl
 
-met_reached : (a b : Reach) → (met a b).is_reached ≡ a.is_reached || b.is_reached
-met_reached a b = elim (two a.is_reached) [
-  | inr e ↦ ap (λ (r : Reach). r.is_reached) (met_none a b e) ∙ sym (ap (λ (x : Bool). x || b.is_reached) e)
+join_reached : (a b : Reach) → (join a b).is_reached ≡ a.is_reached || b.is_reached
+join_reached a b = elim (two a.is_reached) [
+  | inr e ↦ ap (λ (r : Reach). r.is_reached) (join_none a b e)
+      ∙ sym (ap (λ (x : Bool). x || b.is_reached) e)
   | inl e ↦ elim (two b.is_reached) [
-    | inr f ↦ ap (λ (r : Reach). r.is_reached) (met_first a b e f) ∙ e ∙ sym (ap (λ (x : Bool). x || b.is_reached) e)
-    | inl f ↦ ap (λ (r : Reach). r.is_reached) (met_both a b e f) ∙ sym (ap (λ (x : Bool). x || b.is_reached) e)
+    | inr f ↦ ap (λ (r : Reach). r.is_reached) (join_first a b e f) ∙ e
+        ∙ sym (ap (λ (x : Bool). x || b.is_reached) e)
+    | inl f ↦ ap (λ (r : Reach). r.is_reached) (join_both a b e f)
+        ∙ sym (ap (λ (x : Bool). x || b.is_reached) e)
   ]
 ]
 
@@ -261,14 +306,14 @@ same_results None (Some k) e = absurd (cc)
 same_results (Some j) None e = absurd (cc)
 same_results (Some j) (Some k) e = ap (λ (x : ElementaryType). Some x) (same_is j k e)
 
-meets_left : (t u : Option ElementaryType) → Becomes t (met_type t u)
-meets_left t u = elim (two (same_result t u)) [
+join_types_left : (t u : Option ElementaryType) → Becomes t (join_types t u)
+join_types_left t u = elim (two (same_result t u)) [
   | inl e ↦ inl (ap (λ (b : Bool). cond b t None) e)
   | inr e ↦ inr (ap (λ (b : Bool). cond b t None) e)
 ]
 
-meets_right : (t u : Option ElementaryType) → Becomes u (met_type t u)
-meets_right t u = elim (two (same_result t u)) [
+join_types_right : (t u : Option ElementaryType) → Becomes u (join_types t u)
+join_types_right t u = elim (two (same_result t u)) [
   | inl e ↦ inl (ap (λ (b : Bool). cond b t None) e ∙ same_results t u e)
   | inr e ↦ inr (ap (λ (b : Bool). cond b t None) e)
 ]
@@ -278,48 +323,59 @@ self_same None e = refl
 self_same (Some k) e = absurd (let h = same_self k in cc)
 
 -- the type that two ways have where they meet is above no other that both become
-meets_least : (t u w : Option ElementaryType) → Becomes t w → Becomes u w → Becomes (met_type t u) w
-meets_least t u w (inr e) h = inr e
-meets_least t u w (inl e) (inr f) = inr f
-meets_least t u w (inl e) (inl f) = elim (two (same_result t u)) [
+join_types_least : (t u w : Option ElementaryType) → Becomes t w → Becomes u w
+    → Becomes (join_types t u) w
+join_types_least t u w (inr e) h = inr e
+join_types_least t u w (inl e) (inr f) = inr f
+join_types_least t u w (inl e) (inl f) = elim (two (same_result t u)) [
   | inl s ↦ inl (e ∙ sym (ap (λ (b : Bool). cond b t None) s))
   | inr s ↦ (
       let same : t ≡ u = sym e ∙ f in
-      let none : t ≡ None = self_same t (subst (λ (v : Option ElementaryType). same_result t v ≡ false) (sym same) s) in
+      let none : t ≡ None =
+      self_same t (subst (λ (v : Option ElementaryType). same_result t v ≡ false) (sym same) s)
+      in
       inr (e ∙ none))
 ]
 
-met_left : (a b : Reach) → a.is_reached ≡ true → Becomes a.kind (met a b).kind
-met_left a b e = elim (two b.is_reached) [
-  | inl f ↦ subst (λ (r : Reach). Becomes a.kind r.kind) (sym (met_both a b e f)) (meets_left a.kind b.kind)
-  | inr f ↦ inl (ap (λ (r : Reach). r.kind) (met_first a b e f))
+join_left : (a b : Reach) → a.is_reached ≡ true → Becomes a.kind (join a b).kind
+join_left a b e = elim (two b.is_reached) [
+  | inl f ↦ subst (λ (r : Reach). Becomes a.kind r.kind) (sym (join_both a b e f))
+      (join_types_left a.kind b.kind)
+  | inr f ↦ inl (ap (λ (r : Reach). r.kind) (join_first a b e f))
 ]
 
-met_right : (a b : Reach) → b.is_reached ≡ true → Becomes b.kind (met a b).kind
-met_right a b f = elim (two a.is_reached) [
-  | inl e ↦ subst (λ (r : Reach). Becomes b.kind r.kind) (sym (met_both a b e f)) (meets_right a.kind b.kind)
-  | inr e ↦ inl (ap (λ (r : Reach). r.kind) (met_none a b e))
+join_right : (a b : Reach) → b.is_reached ≡ true → Becomes b.kind (join a b).kind
+join_right a b f = elim (two a.is_reached) [
+  | inl e ↦ subst (λ (r : Reach). Becomes b.kind r.kind) (sym (join_both a b e f))
+      (join_types_right a.kind b.kind)
+  | inr e ↦ inl (ap (λ (r : Reach). r.kind) (join_none a b e))
 ]
 
-met_under : (a b : Reach) (w : Option ElementaryType) → (a.is_reached ≡ true → Becomes a.kind w) → (b.is_reached ≡ true → Becomes b.kind w) → (met a b).is_reached ≡ true → Becomes (met a b).kind w
-met_under a b w left right reached = elim (two a.is_reached) [
+join_under : (a b : Reach) (w : Option ElementaryType) → (a.is_reached ≡ true → Becomes a.kind w)
+    → (b.is_reached ≡ true → Becomes b.kind w) → (join a b).is_reached ≡ true
+    → Becomes (join a b).kind w
+join_under a b w left right reached = elim (two a.is_reached) [
   | inr e ↦ (
-      let same = met_none a b e in
-      subst (λ (r : Reach). Becomes r.kind w) (sym same) (right (ap (λ (r : Reach). r.is_reached) (sym same) ∙ reached)))
+      let same = join_none a b e in
+      subst (λ (r : Reach). Becomes r.kind w) (sym same)
+      (right (ap (λ (r : Reach). r.is_reached) (sym same) ∙ reached)))
   | inl e ↦ elim (two b.is_reached) [
-    | inr f ↦ subst (λ (r : Reach). Becomes r.kind w) (sym (met_first a b e f)) (left e)
-    | inl f ↦ subst (λ (r : Reach). Becomes r.kind w) (sym (met_both a b e f)) (meets_least a.kind b.kind w (left e) (right f))
+    | inr f ↦ subst (λ (r : Reach). Becomes r.kind w) (sym (join_first a b e f)) (left e)
+    | inl f ↦ subst (λ (r : Reach). Becomes r.kind w) (sym (join_both a b e f))
+        (join_types_least a.kind b.kind w (left e) (right f))
   ]
 ]
 
 -- ---- lists
 
-set_here : {A : Type 0} (xs : List A) (i : ℕ) (x : A) → i < length xs → slice_get (slice_set xs i x) i ≡ Some x
+set_here : {A : Type 0} (xs : List A) (i : ℕ) (x : A) → i < length xs
+    → slice_get (slice_set xs i x) i ≡ Some x
 set_here [] i x h = absurd (omega arith)
 set_here (y ∷ xs) zero x h = refl
 set_here (y ∷ xs) (suc i) x h = set_here xs i x (omega arith)
 
-set_elsewhere : {A : Type 0} (xs : List A) (i j : ℕ) (x : A) → (j ≡ i → ⊥) → slice_get (slice_set xs i x) j ≡ slice_get xs j
+set_elsewhere : {A : Type 0} (xs : List A) (i j : ℕ) (x : A) → (j ≡ i → ⊥)
+    → slice_get (slice_set xs i x) j ≡ slice_get xs j
 set_elsewhere [] i j x ne = refl
 set_elsewhere (y ∷ xs) zero zero x ne = absurd (ne refl)
 set_elsewhere (y ∷ xs) zero (suc j) x ne = refl
@@ -336,7 +392,8 @@ there_within [] i x e = absurd (cc)
 there_within (y ∷ xs) zero x e = omega arith
 there_within (y ∷ xs) (suc i) x e = let h = there_within xs i x e in omega arith
 
-pub none_arrived : {A : Type 0} (xs : List A) (n : ℕ) → (arrival (slice_get (map (λ x. unreached) xs) n)).is_reached ≡ false
+pub none_arrived : {A : Type 0} (xs : List A) (n : ℕ)
+    → (arrival (slice_get (map (λ x. unreached) xs) n)).is_reached ≡ false
 none_arrived [] zero = refl
 none_arrived [] (suc n) = refl
 none_arrived (x ∷ xs) zero = refl
@@ -377,7 +434,8 @@ some_if false x = refl
 pub some_is : {A : Type 0} (x y : A) → Some x ≡ Some y → x ≡ y
 some_is x y e = cc
 
-pub if_some : {A : Type 0} (b : Bool) (x y : A) → cond b (Some x) None ≡ Some y → (b ≡ true) × (x ≡ y)
+pub if_some : {A : Type 0} (b : Bool) (x y : A) → cond b (Some x) None ≡ Some y
+    → (b ≡ true) × (x ≡ y)
 if_some true x y e = (refl, cc)
 if_some false x y e = absurd (cc)
 
@@ -387,7 +445,8 @@ if_some false x y e = absurd (cc)
 abbrev pub InRange : Names → ℕ → Type 0
 InRange names count = (name : List ℕ) (n : ℕ) → names.label name ≡ Some n → n < count
 
-pub target_in : (names : Names) (count : ℕ) (a : text.Action) (n : ℕ) → InRange names count → target_of (resolved names a) ≡ Some n → n < count
+pub target_in : (names : Names) (count : ℕ) (a : text.Action) (n : ℕ) → InRange names count
+    → target_of (resolved names a) ≡ Some n → n < count
 target_in names count (text.load negated source) n range e = absurd (cc)
 target_in names count (text.store kind place) n range e = absurd (cc)
 target_in names count (text.combine operator negated source) n range e = absurd (cc)
@@ -397,13 +456,15 @@ target_in names count (text.jump condition name) n range e = range name n e
 target_in names count (text.leave condition) n range e = absurd (cc)
 target_in names count (text.call timer arguments) n range e = absurd (cc)
 
-pub target_ahead : (passed : ℕ) (r : Resolved) (n : ℕ) → target_of r ≡ Some n → jumps_back passed r ≡ false → passed ≤ n
+pub target_ahead : (passed : ℕ) (r : Resolved) (n : ℕ) → target_of r ≡ Some n
+    → jumps_back passed r ≡ false → passed ≤ n
 target_ahead passed (Load negated given) n e h = absurd (cc)
 target_ahead passed (Store how target) n e h = absurd (cc)
 target_ahead passed (Combine operator negated given is_nonzero) n e h = absurd (cc)
 target_ahead passed Not n e h = absurd (cc)
 target_ahead passed (Convert conversion) n e h = absurd (cc)
-target_ahead passed (Jump condition label) n e h = ahead passed n (subst (λ (l : Option ℕ). jumps_back passed (Jump condition l) ≡ false) e h)
+target_ahead passed (Jump condition label) n e h =
+    ahead passed n (subst (λ (l : Option ℕ). jumps_back passed (Jump condition l) ≡ false) e h)
 target_ahead passed (Return condition) n e h = absurd (cc)
 target_ahead passed (Call called arguments) n e h = absurd (cc)
 
@@ -414,129 +475,209 @@ pub record Brought (named : List ℕ) (arrivals : List Reach) (count : ℕ) : Ty
   pub arrived : (n : ℕ) → (arrival (slice_get arrivals n)).is_reached ≡ is_named named n
   pub size : length arrivals ≡ count
 
-brings : (target : Option ℕ) (now : Reach) (named : List ℕ) (arrivals : List Reach) (count : ℕ) → now.is_reached ≡ true → ((n : ℕ) → target ≡ Some n → n < count)
-    → Brought named arrivals count → Brought (with_target target named) (arrived target now arrivals) count
+brings : (target : Option ℕ) (now : Reach) (named : List ℕ) (arrivals : List Reach) (count : ℕ)
+    → now.is_reached ≡ true → ((n : ℕ) → target ≡ Some n → n < count)
+    → Brought named arrivals count
+    → Brought (with_target target named) (arrived target now arrivals) count
 brings None now named arrivals count reached range b = b
 brings (Some m) now named arrivals count reached range b =
-    let here = met (arrival (slice_get arrivals m)) now in
+    let here = join (arrival (slice_get arrivals m)) now in
     record {
       arrived = λ n. elim (cases_eq n m) [
         | inl e ↦ (
-            let there : slice_get (slice_set arrivals m here) n ≡ Some here = subst (λ (q : ℕ). slice_get (slice_set arrivals m here) q ≡ Some here) (sym e) (set_here arrivals m here (let h = range m refl in let k = b.size in omega arith)) in
-            let met_here : here.is_reached ≡ true = met_reached (arrival (slice_get arrivals m)) now ∙ ap (λ (x : Bool). (arrival (slice_get arrivals m)).is_reached || x) reached ∙ or_true (arrival (slice_get arrivals m)).is_reached in
-            ap (λ (o : Option Reach). (arrival o).is_reached) there ∙ met_here ∙ sym (ap (λ (x : Bool). x || is_named named n) (same_number m n (sym e))))
+            let there : slice_get (slice_set arrivals m here) n ≡ Some here =
+            subst (λ (q : ℕ). slice_get (slice_set arrivals m here) q ≡ Some here) (sym e)
+            (set_here arrivals m here (let h = range m refl in let k = b.size in omega arith))
+            in
+            let join_here : here.is_reached ≡ true =
+            join_reached (arrival (slice_get arrivals m)) now
+            ∙ ap (λ (x : Bool). (arrival (slice_get arrivals m)).is_reached || x) reached
+            ∙ or_true (arrival (slice_get arrivals m)).is_reached in
+            ap (λ (o : Option Reach). (arrival o).is_reached) there ∙ join_here
+            ∙ sym (ap (λ (x : Bool). x || is_named named n) (same_number m n (sym e))))
         | inr ne ↦ (
-            ap (λ (o : Option Reach). (arrival o).is_reached) (set_elsewhere arrivals m n here ne) ∙ b.arrived n ∙ sym (ap (λ (x : Bool). x || is_named named n) (other_number m n (λ e. ne (sym e)))))
+            ap (λ (o : Option Reach). (arrival o).is_reached) (set_elsewhere arrivals m n here ne)
+            ∙ b.arrived n ∙ sym (ap (λ (x : Bool). x || is_named named n)
+            (other_number m n (λ e. ne (sym e)))))
       ];
       size = set_length arrivals m here ∙ b.size;
     }
 
-brings_under : (labels : Labelling) (target : Option ℕ) (now : Reach) (t : Option ElementaryType) (named : List ℕ) (arrivals : List Reach) (count : ℕ) → now.is_reached ≡ true → Becomes now.kind t → Jumps labels target t
+brings_under : (labels : Labelling) (target : Option ℕ) (now : Reach) (t : Option ElementaryType)
+    (named : List ℕ) (arrivals : List Reach) (count : ℕ) → now.is_reached ≡ true
+    → Becomes now.kind t → Jumps labels target t
     → ((n : ℕ) → target ≡ Some n → n < count) → Brought named arrivals count
     → ((n : ℕ) → is_named named n ≡ true → Becomes (arrival (slice_get arrivals n)).kind (labels n))
-    → (n : ℕ) → is_named (with_target target named) n ≡ true → Becomes (arrival (slice_get (arrived target now arrivals) n)).kind (labels n)
-brings_under labels None now t named arrivals count reached under jumps range b brought n is = brought n is
+    → (n : ℕ) → is_named (with_target target named) n ≡ true
+    → Becomes (arrival (slice_get (arrived target now arrivals) n)).kind (labels n)
+brings_under labels None now t named arrivals count reached under jumps range b brought n is =
+    brought n is
 brings_under labels (Some m) now t named arrivals count reached under jumps range b brought n is =
     let old = arrival (slice_get arrivals m) in
-    let here = met old now in
+    let here = join old now in
     elim (cases_eq n m) [
       | inl e ↦ (
-          let there : slice_get (slice_set arrivals m here) n ≡ Some here = subst (λ (q : ℕ). slice_get (slice_set arrivals m here) q ≡ Some here) (sym e) (set_here arrivals m here (let h = range m refl in let k = b.size in omega arith)) in
-          let met_here : here.is_reached ≡ true = met_reached old now ∙ ap (λ (x : Bool). old.is_reached || x) reached ∙ or_true old.is_reached in
-          let is_so = met_under old now (labels m) (λ r. brought m (sym (b.arrived m) ∙ r)) (λ r. becomes_along now.kind t (labels m) under jumps) met_here in
-          subst (λ (o : Option Reach). Becomes (arrival o).kind (labels n)) (sym there) (subst (λ (q : ℕ). Becomes here.kind (labels q)) (sym e) is_so))
+          let there : slice_get (slice_set arrivals m here) n ≡ Some here =
+          subst (λ (q : ℕ). slice_get (slice_set arrivals m here) q ≡ Some here) (sym e)
+          (set_here arrivals m here (let h = range m refl in let k = b.size in omega arith)) in
+          let join_here : here.is_reached ≡ true =
+          join_reached old now ∙ ap (λ (x : Bool). old.is_reached || x) reached
+          ∙ or_true old.is_reached in
+          let is_so =
+          join_under old now (labels m) (λ r. brought m (sym (b.arrived m) ∙ r))
+          (λ r. becomes_along now.kind t (labels m) under jumps) join_here in
+          subst (λ (o : Option Reach). Becomes (arrival o).kind (labels n)) (sym there)
+          (subst (λ (q : ℕ). Becomes here.kind (labels q)) (sym e) is_so))
       | inr ne ↦ (
-          let before : is_named named n ≡ true = sym (ap (λ (x : Bool). x || is_named named n) (other_number m n (λ e. ne (sym e)))) ∙ is in
-          subst (λ (o : Option Reach). Becomes (arrival o).kind (labels n)) (sym (set_elsewhere arrivals m n here ne)) (brought n before))
+          let before : is_named named n ≡ true =
+          sym (ap (λ (x : Bool). x || is_named named n) (other_number m n (λ e. ne (sym e))))
+          ∙ is in
+          subst (λ (o : Option Reach). Becomes (arrival o).kind (labels n))
+          (sym (set_elsewhere arrivals m n here ne)) (brought n before))
     ]
 
 -- ---- with a labelling there is no fault
 
 -- What is known before items with the least types, beside what flows there with a labelling.
-record Stands (labels : Labelling) (count : ℕ) (named : List ℕ) (s : Standing) (now : Coming) : Type 0 where
+record Stands (labels : Labelling) (count : ℕ) (named : List ℕ) (s : Standing) (now : Coming)
+    : Type 0 where
   reached : s.now.is_reached ≡ is_some now
   typed : (t : Option ElementaryType) → now ≡ Some t → Becomes s.now.kind t
   brought : Brought named s.arrivals count
-  under : (n : ℕ) → is_named named n ≡ true → Becomes (arrival (slice_get s.arrivals n)).kind (labels n)
+  under : (n : ℕ) → is_named named n ≡ true
+      → Becomes (arrival (slice_get s.arrivals n)).kind (labels n)
 
-falls_in : (labels : Labelling) (number : ℕ) (kind : Option ElementaryType) (now : Coming) → Falls labels number now → is_some now ≡ true → ((t : Option ElementaryType) → now ≡ Some t → Becomes kind t) → Becomes kind (labels number)
+falls_in : (labels : Labelling) (number : ℕ) (kind : Option ElementaryType) (now : Coming)
+    → Falls labels number now → is_some now ≡ true
+    → ((t : Option ElementaryType) → now ≡ Some t → Becomes kind t) → Becomes kind (labels number)
 falls_in labels number kind None falls is typed = absurd (cc)
-falls_in labels number kind (Some t) falls is typed = becomes_along kind t (labels number) (typed t refl) falls
+falls_in labels number kind (Some t) falls is typed =
+    becomes_along kind t (labels number) (typed t refl) falls
 
-stands_behind_label : (labels : Labelling) (count line : ℕ) (names : Names) (name : List ℕ) (named : List ℕ) (s : Standing) (now : Coming) → Falls labels s.passed now → Stands labels count named s now
-    → Stands labels count named (behind names (text.label line name) s) (coming_behind_label labels (carried s.passed named now))
+stands_behind_label : (labels : Labelling) (count line : ℕ) (names : Names) (name : List ℕ)
+    (named : List ℕ) (s : Standing) (now : Coming) → Falls labels s.passed now
+    → Stands labels count named s now
+    → Stands labels count named (behind names (text.label line name) s)
+    (coming_behind_label labels (carried s.passed named now))
 stands_behind_label labels count line names name named s now falls st =
     let come = arrival (slice_get s.arrivals s.passed) in
-    let either : (met s.now come).is_reached ≡ is_some now || is_named named s.passed =
-    met_reached s.now come ∙ ap (λ (x : Bool). x || come.is_reached) st.reached ∙ ap (λ (x : Bool). is_some now || x) (st.brought.arrived s.passed) in
+    let either : (join s.now come).is_reached ≡ is_some now || is_named named s.passed =
+    join_reached s.now come ∙ ap (λ (x : Bool). x || come.is_reached) st.reached
+    ∙ ap (λ (x : Bool). is_some now || x) (st.brought.arrived s.passed) in
     record {
       reached = either ∙ sym (some_if (is_some now || is_named named s.passed) (labels s.passed));
       typed = λ t e.
           let c = if_some (is_some now || is_named named s.passed) (labels s.passed) t e in
-          let left = λ (r : s.now.is_reached ≡ true). falls_in labels s.passed s.now.kind now falls (sym st.reached ∙ r) st.typed in
-          let right = λ (r : come.is_reached ≡ true). st.under s.passed (sym (st.brought.arrived s.passed) ∙ r) in
-          subst (λ (u : Option ElementaryType). Becomes (met s.now come).kind u) c.1 (met_under s.now come (labels s.passed) left right (either ∙ c.0));
+          let left =
+          λ (r : s.now.is_reached ≡ true). falls_in labels s.passed s.now.kind now falls
+          (sym st.reached ∙ r) st.typed in
+          let right =
+          λ (r : come.is_reached ≡ true). st.under s.passed
+          (sym (st.brought.arrived s.passed) ∙ r) in
+          subst (λ (u : Option ElementaryType). Becomes (join s.now come).kind u) c.1
+          (join_under s.now come (labels s.passed) left right (either ∙ c.0));
       brought = st.brought;
       under = st.under;
     }
 
-stands_behind_action : (labels : Labelling) (count : ℕ) (r : Resolved) (t : Option ElementaryType) (named : List ℕ) (s : Standing) (now : Coming) → now ≡ Some t → Jumps labels (target_of r) t → ((n : ℕ) → target_of r ≡ Some n → n < count)
-    → Stands labels count named s now → Stands labels count (with_target (target_of r) named) (moved r s) (coming_behind_action r t)
+stands_behind_action : (labels : Labelling) (count : ℕ) (r : Resolved) (t : Option ElementaryType)
+    (named : List ℕ) (s : Standing) (now : Coming) → now ≡ Some t → Jumps labels (target_of r) t
+    → ((n : ℕ) → target_of r ≡ Some n → n < count)
+    → Stands labels count named s now
+    → Stands labels count (with_target (target_of r) named) (moved r s)
+    (coming_behind_action r t)
 stands_behind_action labels count r t named s now is jumps range st =
     let reached : s.now.is_reached ≡ true = st.reached ∙ ap is_some is in
-    let goes : s.now.is_reached && goes_on r ≡ goes_on r = ap (λ (x : Bool). x && goes_on r) reached in
+    let goes : s.now.is_reached && goes_on r ≡ goes_on r =
+    ap (λ (x : Bool). x && goes_on r) reached in
     record {
       reached = goes ∙ sym (some_if (goes_on r) (type_after r t));
-      typed = λ u e. subst (λ (v : Option ElementaryType). Becomes (type_after r s.now.kind) v) (if_some (goes_on r) (type_after r t) u e).1 (after_under r s.now.kind t (st.typed t is));
+      typed = λ u e. subst (λ (v : Option ElementaryType). Becomes (type_after r s.now.kind) v)
+          (if_some (goes_on r) (type_after r t) u e).1 (after_under r s.now.kind t (st.typed t is));
       brought = brings (target_of r) s.now named s.arrivals count reached range st.brought;
-      under = brings_under labels (target_of r) s.now t named s.arrivals count reached (st.typed t is) jumps range st.brought st.under;
+      under = brings_under labels (target_of r) s.now t named s.arrivals count reached
+          (st.typed t is) jumps range st.brought st.under;
     }
 
-stands_behind_block : (labels : Labelling) (count : ℕ) (names : Names) (line : ℕ) (operator : Operator) (negated : Bool) (items : text.Entries) (end : ℕ) (t : Option ElementaryType) (named : List ℕ) (s : Standing) (now : Coming) → now ≡ Some t
-    → Stands labels count named s now → Stands labels count named (behind names (text.block line operator negated items end) s) (Some (option_map (gives operator) t))
-stands_behind_block labels count names line operator negated items end t named s now is st = record {
-  reached = st.reached ∙ ap is_some is;
-  typed = λ u e. subst (λ (v : Option ElementaryType). Becomes (option_map (gives operator) s.now.kind) v) (some_is (option_map (gives operator) t) u e) (becomes_under (gives operator) s.now.kind t (st.typed t is));
-  brought = st.brought;
-  under = st.under;
-}
+stands_behind_block : (labels : Labelling) (count : ℕ) (names : Names) (line : ℕ)
+    (operator : Operator) (negated : Bool) (items : text.Entries) (end : ℕ)
+    (t : Option ElementaryType) (named : List ℕ) (s : Standing) (now : Coming) → now ≡ Some t
+    → Stands labels count named s now
+    → Stands labels count named (behind names (text.block line operator negated items end) s)
+    (Some (option_map (gives operator) t))
+stands_behind_block labels count names line operator negated items end t named s now is st =
+    record {
+      reached = st.reached ∙ ap is_some is;
+      typed = λ u e. subst (λ (v : Option ElementaryType). Becomes
+          (option_map (gives operator) s.now.kind) v) (some_is (option_map (gives operator) t) u e)
+          (becomes_under (gives operator) s.now.kind t (st.typed t is));
+      brought = st.brought;
+      under = st.under;
+    }
 
-flows_to : (names : Names) (labels : Labelling) (count : ℕ) → InRange names count → (es : List text.Entry) (s : Standing) (named : List ℕ) (now : Coming) → Flows names labels es (carried s.passed named now) → Stands labels count named s now
+flows_to : (names : Names) (labels : Labelling) (count : ℕ) → InRange names count
+    → (es : List text.Entry) (s : Standing) (named : List ℕ) (now : Coming)
+    → Flows names labels es (carried s.passed named now) → Stands labels count named s now
     → items_faults names es s ≡ []
 flows_to names labels count range [] s named now f st = refl
 flows_to names labels count range (text.label line name ∷ es) s named now f st =
     none_both _ _
     (none_both _ _ (none_if _ _ (ap not f.0.0)) (none_if _ _ (few s.passed f.0.1)))
-    (flows_to names labels count range es (behind names (text.label line name) s) named (coming_behind_label labels (carried s.passed named now)) f.1
+    (flows_to names labels count range es (behind names (text.label line name) s) named
+    (coming_behind_label labels (carried s.passed named now)) f.1
     (stands_behind_label labels count line names name named s now f.0.2 st))
 flows_to names labels count range (text.action line a ∷ es) s named now f st =
     let r = resolved names a in
     let reached : s.now.is_reached ≡ true = st.reached ∙ ap is_some f.1.0 in
     none_both _ _
-    (right_to s.now.is_reached s.passed line r s.now.kind reached (right_under s.passed r s.now.kind f.0 (st.typed f.0 f.1.0) f.1.1))
-    (flows_to names labels count range es (moved r s) (with_target (target_of r) named) (coming_behind_action r f.0) f.2
-    (stands_behind_action labels count r f.0 named s now f.1.0 f.1.2 (λ n e. target_in names count a n range e) st))
-flows_to names labels count range (text.block line operator negated items end ∷ es) s named now f st =
+    (right_to s.now.is_reached s.passed line r s.now.kind reached
+    (right_under s.passed r s.now.kind f.0 (st.typed f.0 f.1.0) f.1.1))
+    (flows_to names labels count range es (moved r s) (with_target (target_of r) named)
+    (coming_behind_action r f.0) f.2
+    (stands_behind_action labels count r f.0 named s now f.1.0 f.1.2
+    (λ n e. target_in names count a n range e) st))
+flows_to names labels count range (text.block line operator negated items end ∷ es) s named now f
+    st =
     let b = text.block line operator negated items end in
     let reached : s.now.is_reached ≡ true = st.reached ∙ ap is_some f.1.0 in
     none_both _ _
-    (entry_to names 16 s.now.is_reached s.passed b s.now.kind reached (entry_under names 16 s.passed b s.now.kind f.0 (st.typed f.0 f.1.0) f.1.1))
-    (flows_to names labels count range es (behind names b s) named (Some (option_map (gives operator) f.0)) f.2 (stands_behind_block labels count names line operator negated items end f.0 named s now f.1.0 st))
+    (entry_to names 16 s.now.is_reached s.passed b s.now.kind reached
+    (entry_under names 16 s.passed b s.now.kind f.0 (st.typed f.0 f.1.0) f.1.1))
+    (flows_to names labels count range es (behind names b s) named
+    (Some (option_map (gives operator) f.0)) f.2
+    (stands_behind_block labels count names line operator negated items end f.0 named s now
+    f.1.0 st))
 
-stands_behind_all : (names : Names) (labels : Labelling) (count : ℕ) → InRange names count → (es : List text.Entry) (s : Standing) (named : List ℕ) (now : Coming) (t : Option ElementaryType) → Flows names labels es (carried s.passed named now) → Stands labels count named s now
-    → coming_behind names labels es (carried s.passed named now) ≡ Some t → Becomes (behind_all names es s).now.kind t
+stands_behind_all : (names : Names) (labels : Labelling) (count : ℕ) → InRange names count
+    → (es : List text.Entry) (s : Standing) (named : List ℕ) (now : Coming)
+    (t : Option ElementaryType) → Flows names labels es (carried s.passed named now)
+    → Stands labels count named s now
+    → coming_behind names labels es (carried s.passed named now) ≡ Some t
+    → Becomes (behind_all names es s).now.kind t
 stands_behind_all names labels count range [] s named now t f st is = st.typed t is
 stands_behind_all names labels count range (text.label line name ∷ es) s named now t f st is =
-    stands_behind_all names labels count range es (behind names (text.label line name) s) named (coming_behind_label labels (carried s.passed named now)) t f.1 (stands_behind_label labels count line names name named s now f.0.2 st) is
+    stands_behind_all names labels count range es (behind names (text.label line name) s) named
+    (coming_behind_label labels (carried s.passed named now)) t f.1
+    (stands_behind_label labels count line names name named s now f.0.2 st) is
 stands_behind_all names labels count range (text.action line a ∷ es) s named now t f st is =
     let r = resolved names a in
-    stands_behind_all names labels count range es (moved r s) (with_target (target_of r) named) (coming_behind_action r f.0) t f.2
-    (stands_behind_action labels count r f.0 named s now f.1.0 f.1.2 (λ n e. target_in names count a n range e) st)
-    (subst (λ (c : Coming). coming_behind names labels es (carried s.passed (with_target (target_of r) named) (with_result (coming_behind_action r) c)) ≡ Some t) f.1.0 is)
-stands_behind_all names labels count range (text.block line operator negated items end ∷ es) s named now t f st is =
-    stands_behind_all names labels count range es (behind names (text.block line operator negated items end) s) named (Some (option_map (gives operator) f.0)) t f.2
-    (stands_behind_block labels count names line operator negated items end f.0 named s now f.1.0 st)
-    (subst (λ (c : Coming). coming_behind names labels es (carried s.passed named (with_result (λ u. Some (option_map (gives operator) u)) c)) ≡ Some t) f.1.0 is)
+    stands_behind_all names labels count range es (moved r s) (with_target (target_of r) named)
+    (coming_behind_action r f.0) t f.2
+    (stands_behind_action labels count r f.0 named s now f.1.0 f.1.2
+    (λ n e. target_in names count a n range e) st)
+    (subst (λ (c : Coming). coming_behind names labels es
+    (carried s.passed (with_target (target_of r) named)
+    (with_result (coming_behind_action r) c)) ≡ Some t) f.1.0 is)
+stands_behind_all names labels count range (text.block line operator negated items end ∷ es) s named
+    now t f st is =
+    stands_behind_all names labels count range es
+    (behind names (text.block line operator negated items end) s) named
+    (Some (option_map (gives operator) f.0)) t f.2
+    (stands_behind_block labels count names line operator negated items end f.0 named s now f.1.0
+    st)
+    (subst (λ (c : Coming). coming_behind names labels es
+    (carried s.passed named (with_result (λ u. Some (option_map (gives operator) u)) c))
+    ≡ Some t) f.1.0 is)
 
 -- ---- without a fault there is a labelling
 
@@ -544,127 +685,209 @@ stands_behind_all names labels count range (text.block line operator negated ite
 abbrev pub least : Names → List text.Entry → Standing → ℕ → Option ElementaryType
 least names [] s n = None
 least names (text.label line name ∷ es) s n =
-    cond (n == s.passed) (met s.now (arrival (slice_get s.arrivals s.passed))).kind (least names es (behind names (text.label line name) s) n)
+    cond (n == s.passed) (join s.now (arrival (slice_get s.arrivals s.passed))).kind
+    (least names es (behind names (text.label line name) s) n)
 least names (text.action line a ∷ es) s n = least names es (moved (resolved names a) s) n
-least names (text.block line operator negated items end ∷ es) s n = least names es (behind names (text.block line operator negated items end) s) n
+least names (text.block line operator negated items end ∷ es) s n =
+    least names es (behind names (text.block line operator negated items end) s) n
 
 -- what one more jump brings to a label
-brought_by : (names : Names) (es : List text.Entry) (r : Resolved) (s : Standing) (n : ℕ) (v : Reach) (target : Option ℕ) → target_of r ≡ target → slice_get s.arrivals n ≡ Some v → v.is_reached ≡ true
-    → ((w : Reach) → slice_get (arrived (target_of r) s.now s.arrivals) n ≡ Some w → w.is_reached ≡ true → Becomes w.kind (least names es (moved r s) n)) → Becomes v.kind (least names es (moved r s) n)
-brought_by names es r s n v None t is reached more = more v (ap (λ (o : Option ℕ). slice_get (arrived o s.now s.arrivals) n) t ∙ is) reached
+brought_by : (names : Names) (es : List text.Entry) (r : Resolved) (s : Standing) (n : ℕ)
+    (v : Reach) (target : Option ℕ) → target_of r ≡ target → slice_get s.arrivals n ≡ Some v
+    → v.is_reached ≡ true
+    → ((w : Reach) → slice_get (arrived (target_of r) s.now s.arrivals) n ≡ Some w
+    → w.is_reached ≡ true → Becomes w.kind (least names es (moved r s) n))
+    → Becomes v.kind (least names es (moved r s) n)
+brought_by names es r s n v None t is reached more =
+    more v (ap (λ (o : Option ℕ). slice_get (arrived o s.now s.arrivals) n) t ∙ is) reached
 brought_by names es r s n v (Some m) t is reached more =
     let old = arrival (slice_get s.arrivals m) in
-    let here = met old s.now in
+    let here = join old s.now in
     elim (cases_eq n m) [
       | inl e ↦ (
-          let was : old ≡ v = ap (λ (q : ℕ). arrival (slice_get s.arrivals q)) (sym e) ∙ ap arrival is in
-          let there : slice_get (slice_set s.arrivals m here) n ≡ Some here = subst (λ (q : ℕ). slice_get (slice_set s.arrivals m here) q ≡ Some here) (sym e) (set_here s.arrivals m here (subst (λ (q : ℕ). q < length s.arrivals) e (there_within s.arrivals n v is))) in
-          let is_met : here.is_reached ≡ true = met_reached old s.now ∙ ap (λ (x : Bool). x || s.now.is_reached) (ap (λ (x : Reach). x.is_reached) was ∙ reached) in
-          let left : Becomes old.kind here.kind = met_left old s.now (ap (λ (x : Reach). x.is_reached) was ∙ reached) in
-          becomes_along v.kind here.kind _ (subst (λ (x : Reach). Becomes x.kind here.kind) was left)
-          (more here (ap (λ (o : Option ℕ). slice_get (arrived o s.now s.arrivals) n) t ∙ there) is_met))
-      | inr ne ↦ more v (ap (λ (o : Option ℕ). slice_get (arrived o s.now s.arrivals) n) t ∙ set_elsewhere s.arrivals m n here ne ∙ is) reached
+          let was : old ≡ v =
+          ap (λ (q : ℕ). arrival (slice_get s.arrivals q)) (sym e) ∙ ap arrival is in
+          let there : slice_get (slice_set s.arrivals m here) n ≡ Some here =
+          subst (λ (q : ℕ). slice_get (slice_set s.arrivals m here) q ≡ Some here) (sym e)
+          (set_here s.arrivals m here
+          (subst (λ (q : ℕ). q < length s.arrivals) e (there_within s.arrivals n v is))) in
+          let is_met : here.is_reached ≡ true =
+          join_reached old s.now
+          ∙ ap (λ (x : Bool). x || s.now.is_reached)
+          (ap (λ (x : Reach). x.is_reached) was ∙ reached) in
+          let left : Becomes old.kind here.kind =
+          join_left old s.now (ap (λ (x : Reach). x.is_reached) was ∙ reached) in
+          becomes_along v.kind here.kind _
+          (subst (λ (x : Reach). Becomes x.kind here.kind) was left)
+          (more here (ap (λ (o : Option ℕ). slice_get (arrived o s.now s.arrivals) n) t ∙ there)
+          is_met))
+      | inr ne ↦ more v (ap (λ (o : Option ℕ). slice_get (arrived o s.now s.arrivals) n) t
+          ∙ set_elsewhere s.arrivals m n here ne ∙ is) reached
     ]
 
 -- what has come to a label becomes its type
-brought_becomes : (names : Names) (es : List text.Entry) (s : Standing) (n : ℕ) (v : Reach) → slice_get s.arrivals n ≡ Some v → v.is_reached ≡ true → Becomes v.kind (least names es s n)
+brought_becomes : (names : Names) (es : List text.Entry) (s : Standing) (n : ℕ) (v : Reach)
+    → slice_get s.arrivals n ≡ Some v → v.is_reached ≡ true → Becomes v.kind (least names es s n)
 brought_becomes names [] s n v is reached = inr refl
 brought_becomes names (text.label line name ∷ es) s n v is reached = elim (cases_eq n s.passed) [
   | inl e ↦ (
-      let come : arrival (slice_get s.arrivals s.passed) ≡ v = ap (λ (q : ℕ). arrival (slice_get s.arrivals q)) (sym e) ∙ ap arrival is in
-      let here : Becomes v.kind (met s.now (arrival (slice_get s.arrivals s.passed))).kind = subst (λ (b : Reach). Becomes v.kind (met s.now b).kind) (sym come) (met_right s.now v reached) in
-      subst (λ (b : Bool). Becomes v.kind (cond b (met s.now (arrival (slice_get s.arrivals s.passed))).kind (least names es (behind names (text.label line name) s) n))) (sym (same_number n s.passed e)) here)
+      let come : arrival (slice_get s.arrivals s.passed) ≡ v =
+      ap (λ (q : ℕ). arrival (slice_get s.arrivals q)) (sym e) ∙ ap arrival is in
+      let here : Becomes v.kind (join s.now (arrival (slice_get s.arrivals s.passed))).kind =
+      subst (λ (b : Reach). Becomes v.kind (join s.now b).kind) (sym come)
+      (join_right s.now v reached) in
+      subst (λ (b : Bool). Becomes v.kind
+      (cond b (join s.now (arrival (slice_get s.arrivals s.passed))).kind
+      (least names es (behind names (text.label line name) s) n)))
+      (sym (same_number n s.passed e)) here)
   | inr ne ↦
-      subst (λ (b : Bool). Becomes v.kind (cond b (met s.now (arrival (slice_get s.arrivals s.passed))).kind (least names es (behind names (text.label line name) s) n))) (sym (other_number n s.passed ne))
+      subst (λ (b : Bool). Becomes v.kind
+      (cond b (join s.now (arrival (slice_get s.arrivals s.passed))).kind
+      (least names es (behind names (text.label line name) s) n)))
+      (sym (other_number n s.passed ne))
       (brought_becomes names es (behind names (text.label line name) s) n v is reached)
 ]
-brought_becomes names (text.action line a ∷ es) s n v is reached = brought_by names es (resolved names a) s n v (target_of (resolved names a)) refl is reached (λ w. brought_becomes names es (moved (resolved names a) s) n w)
-brought_becomes names (text.block line operator negated items end ∷ es) s n v is reached = brought_becomes names es (behind names (text.block line operator negated items end) s) n v is reached
+brought_becomes names (text.action line a ∷ es) s n v is reached =
+    brought_by names es (resolved names a) s n v (target_of (resolved names a)) refl is reached
+    (λ w. brought_becomes names es (moved (resolved names a) s) n w)
+brought_becomes names (text.block line operator negated items end ∷ es) s n v is reached =
+    brought_becomes names es (behind names (text.block line operator negated items end) s) n v is
+    reached
 
 -- What is known before items with the least types is just what flows there.
 pub record Exact (count : ℕ) (named : List ℕ) (s : Standing) (now : Coming) : Type 0 where
   pub is : now ≡ cond s.now.is_reached (Some s.now.kind) None
   pub brought : Brought named s.arrivals count
 
-exact_some : (count : ℕ) (named : List ℕ) (s : Standing) (now : Coming) → Exact count named s now → is_some now ≡ s.now.is_reached
+exact_some : (count : ℕ) (named : List ℕ) (s : Standing) (now : Coming) → Exact count named s now
+    → is_some now ≡ s.now.is_reached
 exact_some count named s now x = ap is_some x.is ∙ some_if s.now.is_reached s.now.kind
 
-pub exact_now : (count : ℕ) (named : List ℕ) (s : Standing) (now : Coming) → Exact count named s now → s.now.is_reached ≡ true → now ≡ Some s.now.kind
-exact_now count named s now x reached = x.is ∙ ap (λ (b : Bool). cond b (Some s.now.kind) None) reached
+pub exact_now : (count : ℕ) (named : List ℕ) (s : Standing) (now : Coming) → Exact count named s now
+    → s.now.is_reached ≡ true → now ≡ Some s.now.kind
+exact_now count named s now x reached =
+    x.is ∙ ap (λ (b : Bool). cond b (Some s.now.kind) None) reached
 
-falls_out : (labels : Labelling) (number : ℕ) (r : Reach) (b : Bool) → r.is_reached ≡ b → (r.is_reached ≡ true → Becomes r.kind (labels number)) → Falls labels number (cond b (Some r.kind) None)
+falls_out : (labels : Labelling) (number : ℕ) (r : Reach) (b : Bool) → r.is_reached ≡ b
+    → (r.is_reached ≡ true → Becomes r.kind (labels number))
+    → Falls labels number (cond b (Some r.kind) None)
 falls_out labels number r true e h = h e
 falls_out labels number r false e h = tt
 
-pub jumps_out : (labels : Labelling) (names : Names) (es : List text.Entry) (count : ℕ) (r : Resolved) (s : Standing) (named : List ℕ) (target : Option ℕ) → target_of r ≡ target → s.now.is_reached ≡ true → IsRight s.passed r s.now.kind
-    → ((n : ℕ) → target_of r ≡ Some n → n < count) → Brought named s.arrivals count → ((n : ℕ) → s.passed ≤ n → labels n ≡ least names es (moved r s) n) → Jumps labels target s.now.kind
+pub jumps_out : (labels : Labelling) (names : Names) (es : List text.Entry) (count : ℕ)
+    (r : Resolved) (s : Standing) (named : List ℕ) (target : Option ℕ) → target_of r ≡ target
+    → s.now.is_reached ≡ true → IsRight s.passed r s.now.kind
+    → ((n : ℕ) → target_of r ≡ Some n → n < count) → Brought named s.arrivals count
+    → ((n : ℕ) → s.passed ≤ n → labels n ≡ least names es (moved r s) n)
+    → Jumps labels target s.now.kind
 jumps_out labels names es count r s named None t reached ok range b same = tt
 jumps_out labels names es count r s named (Some m) t reached ok range b same =
     let old = arrival (slice_get s.arrivals m) in
-    let here = met old s.now in
-    let there : slice_get (slice_set s.arrivals m here) m ≡ Some here = set_here s.arrivals m here (let h = range m t in let k = b.size in omega arith) in
-    let is_met : here.is_reached ≡ true = met_reached old s.now ∙ ap (λ (x : Bool). old.is_reached || x) reached ∙ or_true old.is_reached in
-    let more = brought_becomes names es (moved r s) m here (ap (λ (o : Option ℕ). slice_get (arrived o s.now s.arrivals) m) t ∙ there) is_met in
-    subst (λ (u : Option ElementaryType). Becomes s.now.kind u) (sym (same m (target_ahead s.passed r m t ok.forward)))
-    (becomes_along s.now.kind here.kind (least names es (moved r s) m) (met_right old s.now reached) more)
+    let here = join old s.now in
+    let there : slice_get (slice_set s.arrivals m here) m ≡ Some here =
+    set_here s.arrivals m here (let h = range m t in let k = b.size in omega arith) in
+    let is_met : here.is_reached ≡ true =
+    join_reached old s.now ∙ ap (λ (x : Bool). old.is_reached || x) reached
+    ∙ or_true old.is_reached in
+    let more =
+    brought_becomes names es (moved r s) m here
+    (ap (λ (o : Option ℕ). slice_get (arrived o s.now s.arrivals) m) t ∙ there) is_met in
+    subst (λ (u : Option ElementaryType). Becomes s.now.kind u)
+    (sym (same m (target_ahead s.passed r m t ok.forward)))
+    (becomes_along s.now.kind here.kind (least names es (moved r s) m)
+    (join_right old s.now reached) more)
 
 -- the labels have the least types
 abbrev pub AreLeast : Labelling → Names → List text.Entry → Standing → Type 0
 AreLeast labels names es s = (n : ℕ) → s.passed ≤ n → labels n ≡ least names es s n
 
-label_least : (names : Names) (labels : Labelling) (line : ℕ) (name : List ℕ) (es : List text.Entry) (s : Standing) → AreLeast labels names (text.label line name ∷ es) s
-    → labels s.passed ≡ (met s.now (arrival (slice_get s.arrivals s.passed))).kind
+label_least : (names : Names) (labels : Labelling) (line : ℕ) (name : List ℕ) (es : List text.Entry)
+    (s : Standing) → AreLeast labels names (text.label line name ∷ es) s
+    → labels s.passed ≡ (join s.now (arrival (slice_get s.arrivals s.passed))).kind
 label_least names labels line name es s same =
     let come = arrival (slice_get s.arrivals s.passed) in
     let after = behind names (text.label line name) s in
-    same s.passed (no_less s.passed) ∙ ap (λ (b : Bool). cond b (met s.now come).kind (least names es after s.passed)) (same_number s.passed s.passed refl)
+    same s.passed (no_less s.passed)
+    ∙ ap (λ (b : Bool). cond b (join s.now come).kind (least names es after s.passed))
+    (same_number s.passed s.passed refl)
 
-pub least_behind_label : (names : Names) (labels : Labelling) (line : ℕ) (name : List ℕ) (es : List text.Entry) (s : Standing) → AreLeast labels names (text.label line name ∷ es) s
+pub least_behind_label : (names : Names) (labels : Labelling) (line : ℕ) (name : List ℕ)
+    (es : List text.Entry) (s : Standing) → AreLeast labels names (text.label line name ∷ es) s
     → AreLeast labels names es (behind names (text.label line name) s)
 least_behind_label names labels line name es s same n le =
     let come = arrival (slice_get s.arrivals s.passed) in
     let after = behind names (text.label line name) s in
-    same n (less_one s.passed n le) ∙ ap (λ (b : Bool). cond b (met s.now come).kind (least names es after n)) (other_number n s.passed (not_before s.passed n le))
+    same n (less_one s.passed n le)
+    ∙ ap (λ (b : Bool). cond b (join s.now come).kind (least names es after n))
+    (other_number n s.passed (not_before s.passed n le))
 
-pub exact_behind_label : (names : Names) (labels : Labelling) (count : ℕ) (line : ℕ) (name : List ℕ) (es : List text.Entry) (s : Standing) (named : List ℕ) (now : Coming)
-    → AreLeast labels names (text.label line name ∷ es) s → Exact count named s now → Exact count named (behind names (text.label line name) s) (coming_behind_label labels (carried s.passed named now))
+pub exact_behind_label : (names : Names) (labels : Labelling) (count : ℕ) (line : ℕ) (name : List ℕ)
+    (es : List text.Entry) (s : Standing) (named : List ℕ) (now : Coming)
+    → AreLeast labels names (text.label line name ∷ es) s → Exact count named s now
+    → Exact count named (behind names (text.label line name) s)
+    (coming_behind_label labels (carried s.passed named now))
 exact_behind_label names labels count line name es s named now same x =
     let come = arrival (slice_get s.arrivals s.passed) in
     let here = label_least names labels line name es s same in
-    let either : is_some now || is_named named s.passed ≡ (met s.now come).is_reached =
-    ap (λ (b : Bool). b || is_named named s.passed) (exact_some count named s now x) ∙ ap (λ (b : Bool). s.now.is_reached || b) (sym (x.brought.arrived s.passed)) ∙ sym (met_reached s.now come) in
+    let either : is_some now || is_named named s.passed ≡ (join s.now come).is_reached =
+    ap (λ (b : Bool). b || is_named named s.passed) (exact_some count named s now x)
+    ∙ ap (λ (b : Bool). s.now.is_reached || b) (sym (x.brought.arrived s.passed))
+    ∙ sym (join_reached s.now come) in
     record {
-      is = ap (λ (b : Bool). cond b (Some (labels s.passed)) None) either ∙ ap (λ (u : Option ElementaryType). cond (met s.now come).is_reached (Some u) None) here;
+      is = ap (λ (b : Bool). cond b (Some (labels s.passed)) None) either
+          ∙ ap (λ (u : Option ElementaryType). cond (join s.now come).is_reached (Some u) None)
+          here;
       brought = x.brought;
     }
 
-pub exact_behind_action : (names : Names) (count : ℕ) (range : InRange names count) (a : text.Action) (s : Standing) (named : List ℕ) (now : Coming) → s.now.is_reached ≡ true → Exact count named s now
-    → Exact count (with_target (target_of (resolved names a)) named) (moved (resolved names a) s) (coming_behind_action (resolved names a) s.now.kind)
+pub exact_behind_action : (names : Names) (count : ℕ) (range : InRange names count)
+    (a : text.Action) (s : Standing) (named : List ℕ) (now : Coming) → s.now.is_reached ≡ true
+    → Exact count named s now
+    → Exact count (with_target (target_of (resolved names a)) named) (moved (resolved names a) s)
+    (coming_behind_action (resolved names a) s.now.kind)
 exact_behind_action names count range a s named now reached x =
     let r = resolved names a in
     record {
-      is = ap (λ (b : Bool). cond (b && goes_on r) (Some (type_after r s.now.kind)) None) (sym reached);
-      brought = brings (target_of r) s.now named s.arrivals count reached (λ n e. target_in names count a n range e) x.brought;
+      is = ap (λ (b : Bool). cond (b && goes_on r) (Some (type_after r s.now.kind)) None)
+          (sym reached);
+      brought =
+          brings (target_of r) s.now named s.arrivals count reached
+          (λ n e. target_in names count a n range e) x.brought;
     }
 
-pub exact_behind_block : (names : Names) (count line : ℕ) (operator : Operator) (negated : Bool) (items : text.Entries) (end : ℕ) (s : Standing) (named : List ℕ) (now : Coming) → s.now.is_reached ≡ true → Exact count named s now
-    → Exact count named (behind names (text.block line operator negated items end) s) (Some (option_map (gives operator) s.now.kind))
+pub exact_behind_block : (names : Names) (count line : ℕ) (operator : Operator) (negated : Bool)
+    (items : text.Entries) (end : ℕ) (s : Standing) (named : List ℕ) (now : Coming)
+    → s.now.is_reached ≡ true → Exact count named s now
+    → Exact count named (behind names (text.block line operator negated items end) s)
+    (Some (option_map (gives operator) s.now.kind))
 exact_behind_block names count line operator negated items end s named now reached x = record {
   is = ap (λ (b : Bool). cond b (Some (option_map (gives operator) s.now.kind)) None) (sym reached);
   brought = x.brought;
 }
 
-pub flows_from : (names : Names) (labels : Labelling) (count : ℕ) → InRange names count → (es : List text.Entry) (s : Standing) (named : List ℕ) (now : Coming) → AreLeast labels names es s → items_faults names es s ≡ []
+pub flows_from : (names : Names) (labels : Labelling) (count : ℕ) → InRange names count
+    → (es : List text.Entry) (s : Standing) (named : List ℕ) (now : Coming)
+    → AreLeast labels names es s → items_faults names es s ≡ []
     → Exact count named s now → Flows names labels es (carried s.passed named now)
 flows_from names labels count range [] s named now same none x = tt
 flows_from names labels count range (text.label line name ∷ es) s named now same none x =
     let h = both_none _ _ none in
     let own = both_none _ _ h.0 in
     let here = label_least names labels line name es s same in
-    let fall = λ (r : s.now.is_reached ≡ true). subst (λ (u : Option ElementaryType). Becomes s.now.kind u) (sym here) (met_left s.now (arrival (slice_get s.arrivals s.passed)) r) in
-    let falls : Falls labels s.passed now = subst (Falls labels s.passed) (sym x.is) (falls_out labels s.passed s.now s.now.is_reached refl fall) in (
-      (not_false (is_first s.passed (names.label name)) (if_none _ _ own.0), few_back s.passed (if_none _ _ own.1), falls),
-      flows_from names labels count range es (behind names (text.label line name) s) named (coming_behind_label labels (carried s.passed named now)) (least_behind_label names labels line name es s same) h.1
+    let fall =
+    λ (r : s.now.is_reached ≡ true). subst (λ (u : Option ElementaryType). Becomes s.now.kind u)
+    (sym here) (join_left s.now (arrival (slice_get s.arrivals s.passed)) r) in
+    let falls : Falls labels s.passed now =
+    subst (Falls labels s.passed) (sym x.is)
+    (falls_out labels s.passed s.now s.now.is_reached refl fall) in (
+      (
+        not_false (is_first s.passed (names.label name)) (if_none _ _ own.0),
+        few_back s.passed (if_none _ _ own.1),
+        falls,
+      ),
+      flows_from names labels count range es (behind names (text.label line name) s) named
+          (coming_behind_label labels (carried s.passed named now))
+          (least_behind_label names labels line name es s same) h.1
           (exact_behind_label names labels count line name es s named now same x),
     )
 flows_from names labels count range (text.action line a ∷ es) s named now same none x =
@@ -673,59 +896,100 @@ flows_from names labels count range (text.action line a ∷ es) s named now same
     let right = right_from s.now.is_reached s.passed line r s.now.kind h.0 in
     let range_here = λ (n : ℕ) (e : target_of r ≡ Some n). target_in names count a n range e in (
       s.now.kind,
-      (exact_now count named s now x right.0, right.1, jumps_out labels names es count r s named (target_of r) refl right.0 right.1 range_here x.brought same),
-      flows_from names labels count range es (moved r s) (with_target (target_of r) named) (coming_behind_action r s.now.kind) same h.1 (exact_behind_action names count range a s named now right.0 x),
+      (
+        exact_now count named s now x right.0,
+        right.1,
+        jumps_out labels names es count r s named (target_of r) refl right.0 right.1 range_here
+            x.brought same,
+      ),
+      flows_from names labels count range es (moved r s) (with_target (target_of r) named)
+          (coming_behind_action r s.now.kind) same h.1
+          (exact_behind_action names count range a s named now right.0 x),
     )
-flows_from names labels count range (text.block line operator negated items end ∷ es) s named now same none x =
+flows_from names labels count range (text.block line operator negated items end ∷ es) s named now
+    same none x =
     let b = text.block line operator negated items end in
     let h = both_none _ _ none in
-    let reached = entry_reached names 16 s.now.is_reached s.passed line operator negated items end s.now.kind h.0 in (
+    let reached =
+    entry_reached names 16 s.now.is_reached s.passed line operator negated items end s.now.kind
+    h.0 in (
       s.now.kind,
-      (exact_now count named s now x reached, entry_from names 16 s.now.is_reached s.passed b s.now.kind h.0),
-      flows_from names labels count range es (behind names b s) named (Some (option_map (gives operator) s.now.kind)) same h.1 (exact_behind_block names count line operator negated items end s named now reached x),
+      (
+        exact_now count named s now x reached,
+        entry_from names 16 s.now.is_reached s.passed b s.now.kind h.0,
+      ),
+      flows_from names labels count range es (behind names b s) named
+          (Some (option_map (gives operator) s.now.kind)) same h.1
+          (exact_behind_block names count line operator negated items end s named now reached x),
     )
 
 -- ---- a program
 
-within_case : (from line : ℕ) (other : List ℕ) (es : List text.Entry) (name : List ℕ) (n : ℕ) (b : Bool) → cond b (Some from) (looked_up (labels_from (from + 1) es) name) ≡ Some n
-    → ((m : ℕ) → looked_up (labels_from (from + 1) es) name ≡ Some m → m < (from + 1) + length (labels_from (from + 1) es)) → n < from + suc (length (labels_from (from + 1) es))
-within_case from line other es name n true e more = let same : from ≡ n = some_is from n e in omega arith
+within_case : (from line : ℕ) (other : List ℕ) (es : List text.Entry) (name : List ℕ) (n : ℕ)
+    (b : Bool) → cond b (Some from) (looked_up (labels_from (from + 1) es) name) ≡ Some n
+    → ((m : ℕ) → looked_up (labels_from (from + 1) es) name ≡ Some m
+    → m < (from + 1) + length (labels_from (from + 1) es))
+    → n < from + suc (length (labels_from (from + 1) es))
+within_case from line other es name n true e more = let same : from ≡ n =
+    some_is from n e in omega arith
 within_case from line other es name n false e more = let h = more n e in omega arith
 
-labels_within : (from : ℕ) (es : List text.Entry) (name : List ℕ) (n : ℕ) → looked_up (labels_from from es) name ≡ Some n → n < from + length (labels_from from es)
+labels_within : (from : ℕ) (es : List text.Entry) (name : List ℕ) (n : ℕ)
+    → looked_up (labels_from from es) name ≡ Some n → n < from + length (labels_from from es)
 labels_within from [] name n e = absurd (cc)
-labels_within from (text.label line other ∷ es) name n e = within_case from line other es name n (bytes_eq (upper other) name) e (λ m f. labels_within (from + 1) es name m f)
+labels_within from (text.label line other ∷ es) name n e =
+    within_case from line other es name n (bytes_eq (upper other) name) e
+    (λ m f. labels_within (from + 1) es name m f)
 labels_within from (text.action line a ∷ es) name n e = labels_within from es name n e
-labels_within from (text.block line operator negated items end ∷ es) name n e = labels_within from es name n e
+labels_within from (text.block line operator negated items end ∷ es) name n e =
+    labels_within from es name n e
 
-pub first_labels : (es : List text.Entry) (name : List ℕ) (n : ℕ) → looked_up (labels_from 0 es) name ≡ Some n → n < length (labels_from 0 es)
+pub first_labels : (es : List text.Entry) (name : List ℕ) (n : ℕ)
+    → looked_up (labels_from 0 es) name ≡ Some n → n < length (labels_from 0 es)
 first_labels es name n e = let h = labels_within 0 es name n e in omega arith
 
--- the start of a program is what the checks and any labelling begin with
-begins : (points : List Point) (program : text.PlainProgram) (labels : Labelling) → Stands labels (length (labels_from 0 program.items)) [] (start program) (Some None)
+-- the initial standing of a program is what the checks and any labelling begin with
+begins : (points : List Point) (program : text.PlainProgram) (labels : Labelling)
+    → Stands labels (length (labels_from 0 program.items)) [] (initial_standing program) (Some None)
 begins points program labels = record {
   reached = refl;
   typed = λ t e. inl (sym (some_is None t e));
-  brought = record { arrived = none_arrived (labels_from 0 program.items); size = mapped_length (labels_from 0 program.items) };
+  brought =
+      record {
+        arrived = none_arrived (labels_from 0 program.items);
+        size = mapped_length (labels_from 0 program.items);
+      };
   under = λ n e. absurd (cc);
 }
 
-pub least_types : (points : List Point) (program : text.PlainProgram) (front more : List text.Entry) (labels : Labelling) (t : Option ElementaryType)
-    → program.items ≡ front ++ more → Flows (names_in points program) labels front beginning → coming_behind (names_in points program) labels front beginning ≡ Some t
-    → Becomes (behind_all (names_in points program) front (start program)).now.kind t
+pub least_types : (points : List Point) (program : text.PlainProgram) (front more : List text.Entry)
+    (labels : Labelling) (t : Option ElementaryType)
+    → program.items ≡ front ++ more → Flows (names_in points program) labels front beginning
+    → coming_behind (names_in points program) labels front beginning ≡ Some t
+    → Becomes (behind_all (names_in points program) front (initial_standing program)).now.kind t
 least_types points program front more labels t parts f is =
-    stands_behind_all (names_in points program) labels (length (labels_from 0 program.items)) (λ name n e. first_labels program.items (upper name) n e) front (start program) [] (Some None) t f (begins points program labels) is
+    stands_behind_all (names_in points program) labels (length (labels_from 0 program.items))
+    (λ name n e. first_labels program.items (upper name) n e) front (initial_standing program)
+    [] (Some None) t f (begins points program labels) is
 
 pub some_labelling : (points : List Point) (program : text.PlainProgram)
-    → (items_faults (names_in points program) program.items (start program) ≡ []) ↔ IsWellTyped (names_in points program) program.items
+    → (items_faults (names_in points program) program.items (initial_standing program) ≡ [])
+    ↔ IsWellTyped (names_in points program) program.items
 some_labelling points program =
     let names = names_in points program in
     let labels = labels_from 0 program.items in
     let count = length labels in
-    let range = λ (name : List ℕ) (n : ℕ) (e : names.label name ≡ Some n). first_labels program.items (upper name) n e in
-    let brought : Brought [] (start program).arrivals count = record { arrived = none_arrived labels; size = mapped_length labels } in (
+    let range =
+    λ (name : List ℕ) (n : ℕ) (e : names.label name ≡ Some n). first_labels program.items
+    (upper name) n e in
+    let brought : Brought [] (initial_standing program).arrivals count =
+    record { arrived = none_arrived labels; size = mapped_length labels } in (
       (λ none.
-          let found = least names program.items (start program) in
-          (found, flows_from names found count range program.items (start program) [] (Some None) (λ n le. refl) none (record { is = refl; brought = brought }))),
-      (λ h. flows_to names h.0 count range program.items (start program) [] (Some None) h.1 (begins points program h.0)),
+          let found = least names program.items (initial_standing program) in (
+            found,
+            flows_from names found count range program.items (initial_standing program) []
+                (Some None) (λ n le. refl) none (record { is = refl; brought = brought }),
+          )),
+      (λ h. flows_to names h.0 count range program.items (initial_standing program) [] (Some None)
+          h.1 (begins points program h.0)),
     )

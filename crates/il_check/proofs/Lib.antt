@@ -1,5 +1,6 @@
 pub mod ApartLemmas
 pub mod CheckedLemmas
+pub mod DeclarationsViewLemmas
 pub mod DeclaredLemmas
 pub mod EntryLemmas
 pub mod GivenLemmas
@@ -10,7 +11,6 @@ pub mod NameLemmas
 pub mod NotedLemmas
 pub mod OwnLemmas
 pub mod RightLemmas
-pub mod StandingLemmas
 pub mod TakenLemmas
 pub mod TypedLemmas
 pub mod ViewLemmas

@@ -7,7 +7,7 @@ use Rattle.bay_base.specs.Exact.{judged}
 use Rattle.bay_base.specs.Names.{same_name, upper}
 use Rattle.bay_config.specs.declared.bay.Point.{Point}
 use Rattle.il_text.specs.Listing as text
-use Rattle.il_check.specs.Checking.{checked_of, checked_program, faults_of, start}
+use Rattle.il_check.specs.Checking.{checked_of, checked_program, faults_of, initial_standing}
 use Rattle.il_check.specs.Declaring.{counts_of, declaration_faults, declarations_faults, is_external, looked_up, meaning_at, meanings_from, names_in, point_of}
 use Rattle.il_check.specs.Faults.{IsLeast, fault_if, least_fault}
 use Rattle.il_check.specs.Program.{Checked}
@@ -21,16 +21,22 @@ use Rattle.il_check.proofs.NotedLemmas.{least_fault-none}
 
 -- ---- names that are declared before
 
-some_or : {A : Type 0} (b : Bool) (x : A) (o : Option A) → is_some (cond b (Some x) o) ≡ b || is_some o
+some_or : {A : Type 0} (b : Bool) (x : A) (o : Option A)
+    → is_some (cond b (Some x) o) ≡ b || is_some o
 some_or true x o = refl
 some_or false x o = refl
 
-known_from : (points : List Point) (acc before : List text.Declared) (name : List ℕ) → is_some (looked_up (meanings_from points acc before) (upper name)) ≡ list_any (λ e. same_name e.name name) before
+known_from : (points : List Point) (acc before : List text.Declared) (name : List ℕ)
+    → is_some (looked_up (meanings_from points acc before) (upper name))
+    ≡ list_any (λ e. same_name e.name name) before
 unfolding same_name
 known_from points acc [] name = refl
 known_from points acc (d ∷ before) name =
-    some_or (bytes_eq (upper d.name) (upper name)) (meaning_at (counts_of points acc) d.scope d.kind (point_of points d.name)) (looked_up (meanings_from points (acc ++ d ∷ []) before) (upper name))
-    ∙ ap (λ (b : Bool). bytes_eq (upper d.name) (upper name) || b) (known_from points (acc ++ d ∷ []) before name)
+    some_or (bytes_eq (upper d.name) (upper name))
+    (meaning_at (counts_of points acc) d.scope d.kind (point_of points d.name))
+    (looked_up (meanings_from points (acc ++ d ∷ []) before) (upper name))
+    ∙ ap (λ (b : Bool). bytes_eq (upper d.name) (upper name) || b)
+    (known_from points (acc ++ d ∷ []) before name)
 
 -- ---- one declaration
 
@@ -44,7 +50,8 @@ all_known true None h = absurd (let e : false ≡ true = h refl in cc)
 all_known true (Some x) h = refl
 all_known false o h = refl
 
-right_one : (points : List Point) (before : List text.Declared) (d : text.Declared) → declaration_faults points before d ≡ [] → IsRightDeclaration points before d
+right_one : (points : List Point) (before : List text.Declared) (d : text.Declared)
+    → declaration_faults points before d ≡ [] → IsRightDeclaration points before d
 right_one points before d none =
     let missing = both_none _ _ none in
     let twice = both_none _ _ missing.1 in
@@ -64,7 +71,8 @@ none_of : {A : Type 0} (xs ys : List A) → xs ≡ [] → ys ≡ [] → xs ++ ys
 none_of [] ys e f = f
 none_of (x ∷ xs) ys e f = absurd cc
 
-one_right : (points : List Point) (before : List text.Declared) (d : text.Declared) → IsRightDeclaration points before d → declaration_faults points before d ≡ []
+one_right : (points : List Point) (before : List text.Declared) (d : text.Declared)
+    → IsRightDeclaration points before d → declaration_faults points before d ≡ []
 one_right points before d h =
     none_of _ _ (no_fault _ _ (all_known (is_external d.scope) (point_of points d.name) h.known))
     (none_of _ _ (no_fault _ _ (known_from points [] before d.name ∙ h.own))
@@ -73,7 +81,9 @@ one_right points before d h =
 -- ---- all of them
 
 abbrev AreRightFrom : List Point → List text.Declared → List text.Declared → Type 0
-AreRightFrom points acc declared = (before : List text.Declared) (d : text.Declared) (after : List text.Declared) → declared ≡ before ++ d ∷ after → IsRightDeclaration points (acc ++ before) d
+AreRightFrom points acc declared =
+    (before : List text.Declared) (d : text.Declared) (after : List text.Declared)
+    → declared ≡ before ++ d ∷ after → IsRightDeclaration points (acc ++ before) d
 
 head_same : {A : Type 0} (x y : A) (xs ys : List A) → x ∷ xs ≡ y ∷ ys → (x ≡ y) × (xs ≡ ys)
 head_same x y xs ys e = (cc, cc)
@@ -82,72 +92,114 @@ none_there : {A : Type 0} (before : List A) (d : A) (after : List A) → [] ≡ 
 none_there [] d after e = cc
 none_there (x ∷ before) d after e = cc
 
-right_case : (points : List Point) (acc : List text.Declared) (x : text.Declared) (ds : List text.Declared) → IsRightDeclaration points acc x → AreRightFrom points (acc ++ x ∷ []) ds → AreRightFrom points acc (x ∷ ds)
+right_case : (points : List Point) (acc : List text.Declared) (x : text.Declared)
+    (ds : List text.Declared) → IsRightDeclaration points acc x
+    → AreRightFrom points (acc ++ x ∷ []) ds → AreRightFrom points acc (x ∷ ds)
 right_case points acc x ds here rest [] d after e =
     let same = head_same x d ds after e in
-    subst (λ (bs : List text.Declared). IsRightDeclaration points bs d) (sym (append-nil acc)) (subst (IsRightDeclaration points acc) same.0 here)
+    subst (λ (bs : List text.Declared). IsRightDeclaration points bs d) (sym (append-nil acc))
+    (subst (IsRightDeclaration points acc) same.0 here)
 right_case points acc x ds here rest (b ∷ before) d after e =
     let same = head_same x b ds (before ++ d ∷ after) e in
     subst (λ (y : text.Declared). IsRightDeclaration points (acc ++ y ∷ before) d) same.0
-    (subst (λ (bs : List text.Declared). IsRightDeclaration points bs d) (append_assoc acc (x ∷ []) before) (rest before d after same.1))
+    (subst (λ (bs : List text.Declared). IsRightDeclaration points bs d)
+    (append_assoc acc (x ∷ []) before) (rest before d after same.1))
 
-right_all : (points : List Point) (acc ds : List text.Declared) → declarations_faults points acc ds ≡ [] → AreRightFrom points acc ds
+right_all : (points : List Point) (acc ds : List text.Declared)
+    → declarations_faults points acc ds ≡ [] → AreRightFrom points acc ds
 right_all points acc [] none = λ before d after e. absurd (none_there before d after e)
 right_all points acc (x ∷ ds) none =
-    let two = both_none (declaration_faults points acc x) (declarations_faults points (acc ++ x ∷ []) ds) none in
-    right_case points acc x ds (right_one points acc x two.0) (right_all points (acc ++ x ∷ []) ds two.1)
+    let two =
+    both_none (declaration_faults points acc x) (declarations_faults points (acc ++ x ∷ []) ds)
+    none in
+    right_case points acc x ds (right_one points acc x two.0)
+    (right_all points (acc ++ x ∷ []) ds two.1)
 
-all_right : (points : List Point) (acc ds : List text.Declared) → AreRightFrom points acc ds → declarations_faults points acc ds ≡ []
+all_right : (points : List Point) (acc ds : List text.Declared) → AreRightFrom points acc ds
+    → declarations_faults points acc ds ≡ []
 all_right points acc [] h = refl
 all_right points acc (x ∷ ds) h =
     none_of (declaration_faults points acc x) (declarations_faults points (acc ++ x ∷ []) ds)
-    (one_right points acc x (subst (λ (bs : List text.Declared). IsRightDeclaration points bs x) (append-nil acc) (h [] x ds refl)))
+    (one_right points acc x (subst (λ (bs : List text.Declared). IsRightDeclaration points bs x)
+    (append-nil acc) (h [] x ds refl)))
     (all_right points (acc ++ x ∷ []) ds
-    (λ before d after e. subst (λ (bs : List text.Declared). IsRightDeclaration points bs d) (sym (append_assoc acc (x ∷ []) before)) (h (x ∷ before) d after (ap (λ (ys : List text.Declared). x ∷ ys) e))))
+    (λ before d after e. subst (λ (bs : List text.Declared). IsRightDeclaration points bs d)
+    (sym (append_assoc acc (x ∷ []) before))
+    (h (x ∷ before) d after (ap (λ (ys : List text.Declared). x ∷ ys) e))))
 
 -- ---- a program
 
-pub right_program : (points : List Point) (program : text.PlainProgram) → faults_of points program ≡ [] → IsRightProgram points program
+pub right_program : (points : List Point) (program : text.PlainProgram)
+    → faults_of points program ≡ [] → IsRightProgram points program
 right_program points program none =
-    let two = both_none (declarations_faults points [] program.declarations) (items_faults (names_in points program) program.items (start program)) none in
-    record { declarations = right_all points [] program.declarations two.0; instructions = (some_labelling points program).0 two.1 }
+    let two =
+    both_none (declarations_faults points [] program.declarations)
+    (items_faults (names_in points program) program.items (initial_standing program)) none in
+    record {
+      declarations = right_all points [] program.declarations two.0;
+      instructions = (some_labelling points program).0 two.1;
+    }
 
-pub program_right : (points : List Point) (program : text.PlainProgram) → IsRightProgram points program → faults_of points program ≡ []
+pub program_right : (points : List Point) (program : text.PlainProgram)
+    → IsRightProgram points program → faults_of points program ≡ []
 program_right points program h =
-    none_of (declarations_faults points [] program.declarations) (items_faults (names_in points program) program.items (start program)) (all_right points [] program.declarations h.declarations) ((some_labelling points program).1 h.instructions)
+    none_of (declarations_faults points [] program.declarations)
+    (items_faults (names_in points program) program.items (initial_standing program))
+    (all_right points [] program.declarations h.declarations)
+    ((some_labelling points program).1 h.instructions)
 
 judged_ok : (o : Option CheckFault) (x c : Checked) → judged o x ≡ Ok c → o ≡ None
 judged_ok None x c e = refl
 judged_ok (Some f) x c e = absurd cc
 
-judged_err : (o : Option CheckFault) (x : Checked) (f : CheckFault) → judged o x ≡ Err f → o ≡ Some f
+judged_err : (o : Option CheckFault) (x : Checked) (f : CheckFault) → judged o x ≡ Err f
+    → o ≡ Some f
 judged_err None x f e = absurd cc
 judged_err (Some g) x f e = cc
 
-pub passes : (points : List Point) (program : text.PlainProgram) (c : Checked) → checked_of points program ≡ Ok c → IsRightProgram points program
-passes points program c e = right_program points program (least_fault-none (faults_of points program) (judged_ok (least_fault (faults_of points program)) (checked_program points program) c e))
+pub passes : (points : List Point) (program : text.PlainProgram) (c : Checked)
+    → checked_of points program ≡ Ok c → IsRightProgram points program
+passes points program c e =
+    right_program points program
+    (least_fault-none (faults_of points program)
+    (judged_ok (least_fault (faults_of points program)) (checked_program points program) c e))
 
-pub right_passes : (points : List Point) (program : text.PlainProgram) → IsRightProgram points program → (c : Checked) × (checked_of points program ≡ Ok c)
-right_passes points program h = (checked_program points program, ap (λ (fs : List CheckFault). judged (least_fault fs) (checked_program points program)) (program_right points program h))
+pub right_passes : (points : List Point) (program : text.PlainProgram)
+    → IsRightProgram points program → (c : Checked) × (checked_of points program ≡ Ok c)
+right_passes points program h = (
+  checked_program points program,
+  ap (λ (fs : List CheckFault). judged (least_fault fs) (checked_program points program))
+      (program_right points program h),
+)
 
-pub right_programs_pass : (points : List Point) (program : text.PlainProgram) → ((c : Checked) × (checked_of points program ≡ Ok c)) ↔ IsRightProgram points program
-right_programs_pass points program = (λ p. passes points program p.0 p.1, right_passes points program)
+pub right_programs_pass : (points : List Point) (program : text.PlainProgram)
+    → ((c : Checked) × (checked_of points program ≡ Ok c)) ↔ IsRightProgram points program
+right_programs_pass points program =
+    (λ p. passes points program p.0 p.1, right_passes points program)
 
 -- what is refused is not right, and the answer is the least fault
-pub refused_wrong : (points : List Point) (program : text.PlainProgram) (f : CheckFault) → checked_of points program ≡ Err f → IsRightProgram points program → ⊥
+pub refused_wrong : (points : List Point) (program : text.PlainProgram) (f : CheckFault)
+    → checked_of points program ≡ Err f → IsRightProgram points program → ⊥
 refused_wrong points program f e h =
     let p = right_passes points program h in
     let no : ◌≡◌ {A = Result Checked CheckFault} (Ok p.0) (Err f) = sym p.1 ∙ e in
     cc
 
-pub refused_least : (points : List Point) (program : text.PlainProgram) (f : CheckFault) → checked_of points program ≡ Err f → IsLeast f (faults_of points program)
-refused_least points program f e = answered_is_least (faults_of points program) f (judged_err (least_fault (faults_of points program)) (checked_program points program) f e)
+pub refused_least : (points : List Point) (program : text.PlainProgram) (f : CheckFault)
+    → checked_of points program ≡ Err f → IsLeast f (faults_of points program)
+refused_least points program f e =
+    answered_is_least (faults_of points program) f
+    (judged_err (least_fault (faults_of points program)) (checked_program points program) f e)
 
 -- the same of an answer in whose place want of memory may stand
-pub wrong_answer : (points : List Point) (program : text.PlainProgram) (f : CheckFault) → (f ≡ OutOfMemory) ⊎ (checked_of points program ≡ Err f) → (f ≡ OutOfMemory → ⊥) → IsRightProgram points program → ⊥
+pub wrong_answer : (points : List Point) (program : text.PlainProgram) (f : CheckFault)
+    → (f ≡ OutOfMemory) ⊎ (checked_of points program ≡ Err f) → (f ≡ OutOfMemory → ⊥)
+    → IsRightProgram points program → ⊥
 wrong_answer points program f (inl e) ne h = absurd (ne e)
 wrong_answer points program f (inr e) ne h = refused_wrong points program f e h
 
-pub least_answer : (points : List Point) (program : text.PlainProgram) (f : CheckFault) → (f ≡ OutOfMemory) ⊎ (checked_of points program ≡ Err f) → (f ≡ OutOfMemory → ⊥) → IsLeast f (faults_of points program)
+pub least_answer : (points : List Point) (program : text.PlainProgram) (f : CheckFault)
+    → (f ≡ OutOfMemory) ⊎ (checked_of points program ≡ Err f) → (f ≡ OutOfMemory → ⊥)
+    → IsLeast f (faults_of points program)
 least_answer points program f (inl e) ne = absurd (ne e)
 least_answer points program f (inr e) ne = refused_least points program f e

@@ -32,19 +32,27 @@ some_room : (room : ℕ) → (room ≡ 0 → ⊥) → (room == 0) ≡ false
 some_room room ne = grind (arith, nat_tests)
 
 -- the faults of a parenthesis that is too deep, and of one that is not
-pub deep_found : (a b d : Option CheckFault) (room line : ℕ) (xs ys : List CheckFault) → room ≡ 0 → b ≡ noted a xs → d ≡ noted b (TooMany line ∷ []) → d ≡ noted a (xs ++ cond (room == 0) (TooMany line ∷ []) ys)
+pub deep_found : (a b d : Option CheckFault) (room line : ℕ) (xs ys : List CheckFault) → room ≡ 0
+    → b ≡ noted a xs → d ≡ noted b (TooMany line ∷ [])
+    → d ≡ noted a (xs ++ cond (room == 0) (TooMany line ∷ []) ys)
 deep_found a b d room line xs ys none e f =
-    f ∙ ap (λ (o : Option CheckFault). noted o (TooMany line ∷ [])) e ∙ sym (noted-append a xs (TooMany line ∷ [])) ∙ ap (λ (t : Bool). noted a (xs ++ cond t (TooMany line ∷ []) ys)) (sym (no_room room none))
+    f ∙ ap (λ (o : Option CheckFault). noted o (TooMany line ∷ [])) e
+    ∙ sym (noted-append a xs (TooMany line ∷ []))
+    ∙ ap (λ (t : Bool). noted a (xs ++ cond t (TooMany line ∷ []) ys)) (sym (no_room room none))
 
-pub looked_found : (a d : Option CheckFault) (room line : ℕ) (xs ys : List CheckFault) → (room ≡ 0 → ⊥) → d ≡ noted a (xs ++ ys) → d ≡ noted a (xs ++ cond (room == 0) (TooMany line ∷ []) ys)
-looked_found a d room line xs ys some e = e ∙ ap (λ (t : Bool). noted a (xs ++ cond t (TooMany line ∷ []) ys)) (sym (some_room room some))
+pub looked_found : (a d : Option CheckFault) (room line : ℕ) (xs ys : List CheckFault)
+    → (room ≡ 0 → ⊥) → d ≡ noted a (xs ++ ys)
+    → d ≡ noted a (xs ++ cond (room == 0) (TooMany line ∷ []) ys)
+looked_found a d room line xs ys some e =
+    e ∙ ap (λ (t : Bool). noted a (xs ++ cond t (TooMany line ∷ []) ys)) (sym (some_room room some))
 
 -- entries before others
 abbrev pub ahead : List plain.Entry → plain.Entries → plain.Entries
 ahead [] es = es
 ahead (x ∷ xs) es = plain.entry x (ahead xs es)
 
-ahead-option : (xs : List plain.Entry) (o : Option plain.Entry) (es : plain.Entries) → ahead (xs ++ option_to_list o) es ≡ ahead xs (plain.entry_before o es)
+ahead-option : (xs : List plain.Entry) (o : Option plain.Entry) (es : plain.Entries)
+    → ahead (xs ++ option_to_list o) es ≡ ahead xs (plain.entry_before o es)
 ahead-option [] None es = refl
 ahead-option [] (Some e) es = refl
 ahead-option (x ∷ xs) o es = ap (plain.entry x) (ahead-option xs o es)
@@ -53,92 +61,131 @@ ahead-none : (xs : List plain.Entry) → ahead xs plain.no_entries ≡ plain.ent
 ahead-none [] = refl
 ahead-none (x ∷ xs) = ap (plain.entry x) (ahead-none xs)
 
-cons_after : {X : Type 0} → (xs : List X) (o : Option X) (rest : List X) → (xs ++ option_to_list o) ++ rest ≡ xs ++ cons_option o rest
+cons_after : {X : Type 0} → (xs : List X) (o : Option X) (rest : List X)
+    → (xs ++ option_to_list o) ++ rest ≡ xs ++ cons_option o rest
 cons_after xs None rest = ap (λ ys. ys ++ rest) (append-nil xs)
 cons_after xs (Some x) rest = append_assoc xs (x ∷ []) rest
 
 rest_of : List Item → ℕ → text.Entries
 rest_of all i = text.entries_of (map entry_of (drop i all))
 
-module _ (names : Names) (room : ℕ) (is_reached : Bool) (passed : ℕ) (all : List Item) (begun : Option CheckFault) where
+module _ (names : Names) (room : ℕ) (is_reached : Bool) (passed : ℕ) (all : List Item)
+    (begun : Option CheckFault) where
   entries : text.Entries
   entries = text.entries_of (map entry_of all)
 
   -- what is known after so many entries
   pub record EntriesSoFar (i : ℕ) (now : Option CheckFault) (p : Passed) : Type 0 where
-    pub kind : type_behind_all names (text.entries_of (map entry_of (drop i all))) p.kind ≡ type_behind_all names (text.entries_of (map entry_of all)) None
-    pub left : ahead (map entry_view p.entries.items) (entries_left names room (text.entries_of (map entry_of (drop i all))) p.kind) ≡ entries_left names room (text.entries_of (map entry_of all)) None
-    pub found : noted now (entries_faults names room is_reached passed (text.entries_of (map entry_of (drop i all))) p.kind)
-        ≡ noted begun (entries_faults names room is_reached passed (text.entries_of (map entry_of all)) None)
+    pub kind : type_behind_all names (text.entries_of (map entry_of (drop i all))) p.kind
+        ≡ type_behind_all names (text.entries_of (map entry_of all)) None
+    pub left : ahead (map entry_view p.entries.items)
+        (entries_left names room (text.entries_of (map entry_of (drop i all))) p.kind)
+        ≡ entries_left names room (text.entries_of (map entry_of all)) None
+    pub found : noted now (entries_faults names room is_reached passed
+        (text.entries_of (map entry_of (drop i all))) p.kind)
+        ≡ noted begun (entries_faults names room is_reached passed
+        (text.entries_of (map entry_of all)) None)
 
   -- what an entry changes
   pub record EntryTaken (e : text.Entry) (old new : Option CheckFault) (p q : Passed) : Type 0 where
     pub kind : q.kind ≡ type_behind names e p.kind
-    pub left : map entry_view q.entries.items ≡ map entry_view p.entries.items ++ option_to_list (entry_left names room e p.kind)
+    pub left : map entry_view q.entries.items
+        ≡ map entry_view p.entries.items ++ option_to_list (entry_left names room e p.kind)
     pub found : new ≡ noted old (entry_faults names room is_reached passed e p.kind)
 
   pub entries-none : (p : Passed) → p.entries.items ≡ [] → p.kind ≡ None → EntriesSoFar 0 begun p
   entries-none p nothing unset = record {
     kind = ap (type_behind_all names (text.entries_of (map entry_of all))) unset;
     left =
-        ap (λ (es : List TypedEntry). ahead (map entry_view es) (entries_left names room (text.entries_of (map entry_of all)) p.kind)) nothing
+        ap (λ (es : List TypedEntry). ahead (map entry_view es)
+        (entries_left names room (text.entries_of (map entry_of all)) p.kind)) nothing
         ∙ ap (entries_left names room (text.entries_of (map entry_of all))) unset;
-    found = ap (λ (k : Option ElementaryType). noted begun (entries_faults names room is_reached passed (text.entries_of (map entry_of all)) k)) unset;
+    found = ap (λ (k : Option ElementaryType). noted begun
+        (entries_faults names room is_reached passed (text.entries_of (map entry_of all)) k)) unset;
   }
 
-  pub entries-more : (i : ℕ) (x : Item) (old new : Option CheckFault) (p q : Passed) → i < length all → x ≡ get_or all i x
+  pub entries-more : (i : ℕ) (x : Item) (old new : Option CheckFault) (p q : Passed)
+      → i < length all → x ≡ get_or all i x
       → EntriesSoFar i old p → EntryTaken (entry_of x) old new p q → EntriesSoFar (i + 1) new q
   entries-more i x old new p q within is known taken =
       let after : text.Entries = text.entries_of (map entry_of (drop (i + 1) all)) in
-      let left : text.entries_of (map entry_of (drop i all)) ≡ text.entry (entry_of x) after = ap (λ (xs : List Item). text.entries_of (map entry_of xs)) (front_item all i x within is) in
+      let left : text.entries_of (map entry_of (drop i all)) ≡ text.entry (entry_of x) after =
+      ap (λ (xs : List Item). text.entries_of (map entry_of xs)) (front_item all i x within is)
+      in
       record {
         kind =
             ap (type_behind_all names after) taken.kind
             ∙ ap (λ (es : text.Entries). type_behind_all names es p.kind) (sym left)
             ∙ known.kind;
         left =
-            ap (λ (k : Option ElementaryType). ahead (map entry_view q.entries.items) (entries_left names room after k)) taken.kind
-            ∙ ap (λ (es : List plain.Entry). ahead es (entries_left names room after (type_behind names (entry_of x) p.kind))) taken.left
-            ∙ ahead-option (map entry_view p.entries.items) (entry_left names room (entry_of x) p.kind) (entries_left names room after (type_behind names (entry_of x) p.kind))
-            ∙ ap (λ (es : text.Entries). ahead (map entry_view p.entries.items) (entries_left names room es p.kind)) (sym left)
+            ap (λ (k : Option ElementaryType). ahead (map entry_view q.entries.items)
+            (entries_left names room after k)) taken.kind
+            ∙ ap (λ (es : List plain.Entry). ahead es
+            (entries_left names room after (type_behind names (entry_of x) p.kind))) taken.left
+            ∙ ahead-option (map entry_view p.entries.items)
+            (entry_left names room (entry_of x) p.kind)
+            (entries_left names room after (type_behind names (entry_of x) p.kind))
+            ∙ ap (λ (es : text.Entries). ahead (map entry_view p.entries.items)
+            (entries_left names room es p.kind)) (sym left)
             ∙ known.left;
         found =
-            ap (λ (k : Option ElementaryType). noted new (entries_faults names room is_reached passed after k)) taken.kind
-            ∙ ap (λ (o : Option CheckFault). noted o (entries_faults names room is_reached passed after (type_behind names (entry_of x) p.kind))) taken.found
-            ∙ sym (noted-append old (entry_faults names room is_reached passed (entry_of x) p.kind) (entries_faults names room is_reached passed after (type_behind names (entry_of x) p.kind)))
-            ∙ ap (λ (es : text.Entries). noted old (entries_faults names room is_reached passed es p.kind)) (sym left)
+            ap (λ (k : Option ElementaryType). noted new
+            (entries_faults names room is_reached passed after k)) taken.kind
+            ∙ ap (λ (o : Option CheckFault). noted o
+            (entries_faults names room is_reached passed after
+            (type_behind names (entry_of x) p.kind))) taken.found
+            ∙ sym (noted-append old (entry_faults names room is_reached passed (entry_of x) p.kind)
+            (entries_faults names room is_reached passed after
+            (type_behind names (entry_of x) p.kind)))
+            ∙ ap (λ (es : text.Entries). noted old
+            (entries_faults names room is_reached passed es p.kind)) (sym left)
             ∙ known.found;
       }
 
   -- after all entries
-  pub entries-kind : (i : ℕ) (found : Option CheckFault) (p : Passed) → length all ≤ i → EntriesSoFar i found p → p.kind ≡ type_behind_all names (text.entries_of (map entry_of all)) None
+  pub entries-kind : (i : ℕ) (found : Option CheckFault) (p : Passed) → length all ≤ i
+      → EntriesSoFar i found p
+      → p.kind ≡ type_behind_all names (text.entries_of (map entry_of all)) None
   entries-kind i found p within known =
-      ap (λ (xs : List Item). type_behind_all names (text.entries_of (map entry_of xs)) p.kind) (sym (nothing_left all i within)) ∙ known.kind
+      ap (λ (xs : List Item). type_behind_all names (text.entries_of (map entry_of xs)) p.kind)
+      (sym (nothing_left all i within)) ∙ known.kind
 
-  pub entries-left : (i : ℕ) (found : Option CheckFault) (p : Passed) → length all ≤ i → EntriesSoFar i found p
-      → plain.entries_of (map entry_view p.entries.items) ≡ entries_left names room (text.entries_of (map entry_of all)) None
+  pub entries-left : (i : ℕ) (found : Option CheckFault) (p : Passed) → length all ≤ i
+      → EntriesSoFar i found p
+      → plain.entries_of (map entry_view p.entries.items)
+      ≡ entries_left names room (text.entries_of (map entry_of all)) None
   entries-left i found p within known =
       sym (ahead-none (map entry_view p.entries.items))
-      ∙ ap (λ (xs : List Item). ahead (map entry_view p.entries.items) (entries_left names room (text.entries_of (map entry_of xs)) p.kind)) (sym (nothing_left all i within))
+      ∙ ap (λ (xs : List Item). ahead (map entry_view p.entries.items)
+      (entries_left names room (text.entries_of (map entry_of xs)) p.kind))
+      (sym (nothing_left all i within))
       ∙ known.left
 
-  pub entries-found : (i : ℕ) (found : Option CheckFault) (p : Passed) → length all ≤ i → EntriesSoFar i found p
-      → found ≡ noted begun (entries_faults names room is_reached passed (text.entries_of (map entry_of all)) None)
+  pub entries-found : (i : ℕ) (found : Option CheckFault) (p : Passed) → length all ≤ i
+      → EntriesSoFar i found p
+      → found ≡ noted begun (entries_faults names room is_reached passed
+      (text.entries_of (map entry_of all)) None)
   entries-found i found p within known =
       sym (noted-nil found)
-      ∙ ap (λ (xs : List Item). noted found (entries_faults names room is_reached passed (text.entries_of (map entry_of xs)) p.kind)) (sym (nothing_left all i within))
+      ∙ ap (λ (xs : List Item). noted found
+      (entries_faults names room is_reached passed (text.entries_of (map entry_of xs)) p.kind))
+      (sym (nothing_left all i within))
       ∙ known.found
 
 module _ (names : Names) (all : List Item) (begun : Option CheckFault) (start : Standing) where
   -- what is known after so many items; what is left of them is, as long as no fault is found
   pub record ItemsSoFar (i : ℕ) (now : Option CheckFault) (w : Walk) : Type 0 where
-    pub left : now ≡ None → map item_view w.items.items ++ items_left names (map entry_of (drop i all)) (standing_of w) ≡ items_left names (map entry_of all) start
-    pub found : noted now (items_faults names (map entry_of (drop i all)) (standing_of w)) ≡ noted begun (items_faults names (map entry_of all) start)
+    pub left : now ≡ None → map item_view w.items.items
+        ++ items_left names (map entry_of (drop i all)) (standing_of w)
+        ≡ items_left names (map entry_of all) start
+    pub found : noted now (items_faults names (map entry_of (drop i all)) (standing_of w))
+        ≡ noted begun (items_faults names (map entry_of all) start)
     pub few : w.passed ≤ i
 
   pub record ItemTaken (e : text.Entry) (old new : Option CheckFault) (v w : Walk) : Type 0 where
     pub standing : standing_of w ≡ behind names e (standing_of v)
-    pub left : new ≡ None → map item_view w.items.items ≡ map item_view v.items.items ++ option_to_list (item_left names e (standing_of v))
+    pub left : new ≡ None → map item_view w.items.items
+        ≡ map item_view v.items.items ++ option_to_list (item_left names e (standing_of v))
     pub found : new ≡ noted old (item_faults names e (standing_of v))
 
   few_more : (e : text.Entry) (s : Standing) → (behind names e s).passed ≤ s.passed + 1
@@ -146,24 +193,32 @@ module _ (names : Names) (all : List Item) (begun : Option CheckFault) (start : 
   few_more (text.action line a) s = omega arith
   few_more (text.block line operator negated items end) s = omega arith
 
-  pub items-more : (i : ℕ) (x : Item) (old new : Option CheckFault) (v w : Walk) → i < length all → x ≡ get_or all i x
+  pub items-more : (i : ℕ) (x : Item) (old new : Option CheckFault) (v w : Walk) → i < length all
+      → x ≡ get_or all i x
       → ItemsSoFar i old v → ItemTaken (entry_of x) old new v w → ItemsSoFar (i + 1) new w
   items-more i x old new v w within is known taken =
       let after : List text.Entry = map entry_of (drop (i + 1) all) in
-      let left : map entry_of (drop i all) ≡ entry_of x ∷ after = ap (map entry_of) (front_item all i x within is) in
+      let left : map entry_of (drop i all) ≡ entry_of x ∷ after =
+      ap (map entry_of) (front_item all i x within is) in
       let s : Standing = behind names (entry_of x) (standing_of v) in
       record {
         left = λ (none : new ≡ None).
-            ap (λ (t : Standing). map item_view w.items.items ++ items_left names after t) taken.standing
+            ap (λ (t : Standing). map item_view w.items.items ++ items_left names after t)
+            taken.standing
             ∙ ap (λ (xs : List plain.Item). xs ++ items_left names after s) (taken.left none)
-            ∙ cons_after (map item_view v.items.items) (item_left names (entry_of x) (standing_of v)) (items_left names after s)
-            ∙ ap (λ (es : List text.Entry). map item_view v.items.items ++ items_left names es (standing_of v)) (sym left)
-            ∙ known.left (noted-none old (item_faults names (entry_of x) (standing_of v)) (sym taken.found ∙ none));
+            ∙ cons_after (map item_view v.items.items)
+            (item_left names (entry_of x) (standing_of v)) (items_left names after s)
+            ∙ ap (λ (es : List text.Entry). map item_view v.items.items
+            ++ items_left names es (standing_of v)) (sym left)
+            ∙ known.left (noted-none old (item_faults names (entry_of x) (standing_of v))
+            (sym taken.found ∙ none));
         found =
             ap (λ (t : Standing). noted new (items_faults names after t)) taken.standing
             ∙ ap (λ (o : Option CheckFault). noted o (items_faults names after s)) taken.found
-            ∙ sym (noted-append old (item_faults names (entry_of x) (standing_of v)) (items_faults names after s))
-            ∙ ap (λ (es : List text.Entry). noted old (items_faults names es (standing_of v))) (sym left)
+            ∙ sym (noted-append old (item_faults names (entry_of x) (standing_of v))
+            (items_faults names after s))
+            ∙ ap (λ (es : List text.Entry). noted old (items_faults names es (standing_of v)))
+            (sym left)
             ∙ known.found;
         few =
             let e : w.passed ≡ s.passed = ap (λ (t : Standing). t.passed) taken.standing in
@@ -172,15 +227,19 @@ module _ (names : Names) (all : List Item) (begun : Option CheckFault) (start : 
             omega arith;
       }
 
-  pub items-left : (i : ℕ) (found : Option CheckFault) (w : Walk) → length all ≤ i → ItemsSoFar i found w → found ≡ None
+  pub items-left : (i : ℕ) (found : Option CheckFault) (w : Walk) → length all ≤ i
+      → ItemsSoFar i found w → found ≡ None
       → map item_view w.items.items ≡ items_left names (map entry_of all) start
   items-left i found w within known none =
       sym (append-nil (map item_view w.items.items))
-      ∙ ap (λ (xs : List Item). map item_view w.items.items ++ items_left names (map entry_of xs) (standing_of w)) (sym (nothing_left all i within))
+      ∙ ap (λ (xs : List Item). map item_view w.items.items
+      ++ items_left names (map entry_of xs) (standing_of w)) (sym (nothing_left all i within))
       ∙ known.left none
 
-  pub items-found : (i : ℕ) (found : Option CheckFault) (w : Walk) → length all ≤ i → ItemsSoFar i found w → found ≡ noted begun (items_faults names (map entry_of all) start)
+  pub items-found : (i : ℕ) (found : Option CheckFault) (w : Walk) → length all ≤ i
+      → ItemsSoFar i found w → found ≡ noted begun (items_faults names (map entry_of all) start)
   items-found i found w within known =
       sym (noted-nil found)
-      ∙ ap (λ (xs : List Item). noted found (items_faults names (map entry_of xs) (standing_of w))) (sym (nothing_left all i within))
+      ∙ ap (λ (xs : List Item). noted found (items_faults names (map entry_of xs) (standing_of w)))
+      (sym (nothing_left all i within))
       ∙ known.found

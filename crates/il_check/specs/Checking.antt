@@ -10,20 +10,22 @@ use Rattle.il_check.specs.WellTyped.{Standing, first, unreached, items_faults, i
 use Rattle.il_check.specs.declared.fault.CheckFault.{CheckFault}
 
 -- before the first item no jump goes to a label
-abbrev pub start : text.PlainProgram → Standing
-start program = first (map (λ l. unreached) (labels_from 0 program.items))
+abbrev pub initial_standing : text.PlainProgram → Standing
+initial_standing program = first (map (λ l. unreached) (labels_from 0 program.items))
 
 -- all faults of a program
 abbrev pub faults_of : List Point → text.PlainProgram → List CheckFault
 faults_of points program =
-    declarations_faults points [] program.declarations ++ items_faults (names_in points program) program.items (start program)
+    declarations_faults points [] program.declarations
+    ++ items_faults (names_in points program) program.items (initial_standing program)
 
+-- what is left of a program without a fault
 abbrev pub checked_program : List Point → text.PlainProgram → Checked
 checked_program points program = record {
   externals = externals_of points program.declarations;
   variables = variables_of program.declarations;
   timers = timers_of program.declarations;
-  items = items_left (names_in points program) program.items (start program);
+  items = items_left (names_in points program) program.items (initial_standing program);
 }
 
 -- It declares something or has an item; of another nothing is kept.
@@ -32,4 +34,5 @@ TakesMemory program = 0 < length program.declarations + length program.items
 
 -- the checked program, or the fault that is answered
 abbrev pub checked_of : List Point → text.PlainProgram → Result Checked CheckFault
-checked_of points program = judged (least_fault (faults_of points program)) (checked_program points program)
+checked_of points program =
+    judged (least_fault (faults_of points program)) (checked_program points program)

@@ -3,6 +3,7 @@ use Rattle.std.specs.Prelude.{ℕ, Option, Some, None}
 use Rattle.il_check.specs.declared.fault.CheckFault.{CheckFault}
 use Rattle.il_check.specs.declared.fault.CheckFault.TheVariants.{UnknownName, DuplicateName, TypeMismatch, UnsetResult, BackwardJump, UnknownLabel, Unreachable, ReadOnly, ZeroDivisor, TooMany, OutOfMemory}
 
+-- 70 to 79; want of memory has no number
 abbrev pub code_of : CheckFault → Option ℕ
 code_of (UnknownName line) = Some 70
 code_of (DuplicateName line) = Some 71
@@ -16,6 +17,7 @@ code_of (ZeroDivisor line) = Some 78
 code_of (TooMany line) = Some 79
 code_of OutOfMemory = None
 
+-- counted from 1; want of memory has line 0
 abbrev pub line_of : CheckFault → ℕ
 line_of (UnknownName line) = line
 line_of (DuplicateName line) = line

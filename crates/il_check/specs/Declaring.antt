@@ -1,12 +1,11 @@
 -- What the declarations of a program mean (IEC 61131-3:2003, 2.4.3), and their faults.
-use Rattle.std.specs.Prelude.{ℕ, ◌+◌, pos, Bool, true, false, not, ◌&&◌, nat_lt, nat_le, is_some, is_none, List, [], ◌∷◌, ◌++◌, length, find, filter_map, Option, None, Some, if◌then◌else◌}
+use Rattle.std.specs.Prelude.{ℕ, ◌+◌, Bool, true, false, not, ◌&&◌, nat_lt, nat_le, is_some, is_none, List, [], ◌∷◌, ◌++◌, length, find, filter_map, Option, None, Some, if◌then◌else◌}
 use Rattle.std.specs.Char.{to_ascii_uppercase}
 use Rattle.std.specs.List.{list_all}
 use Rattle.std.specs.Str.{bytes_eq}
 use Rattle.bay_base.specs.Names.{upper, same_name}
 use Rattle.bay_base.specs.Types.{same_type}
 use Rattle.bay_base.specs.declared.types.ElementaryType.{ElementaryType}
-use Rattle.bay_base.specs.declared.types.ElementaryType.TheVariants as elementary
 use Rattle.bay_config.specs.declared.bay.Point.{Point}
 use Rattle.il_text.specs.Listing as text
 use Rattle.il_text.specs.declared.program.DeclaredType.{DeclaredType}
@@ -16,9 +15,8 @@ use Rattle.il_text.specs.declared.program.Literal.TheVariants as literal
 use Rattle.il_text.specs.declared.program.Scope.{Scope}
 use Rattle.il_text.specs.declared.program.Scope.TheVariants.{Local, External}
 use Rattle.il_image.specs.declared.value.Value.{Value}
-use Rattle.il_image.specs.declared.value.Value.TheVariants as value
 use Rattle.il_image.specs.Images.{is_name_octet}
-use Rattle.il_image.specs.Values.{type_of}
+use Rattle.il_image.specs.Values.{default_value, type_of}
 use Rattle.il_check.specs.Faults.{fault_if}
 use Rattle.il_check.specs.Given.{Names, typed_value}
 use Rattle.il_check.specs.Rules.{number_in}
@@ -31,6 +29,7 @@ use Rattle.il_check.specs.declared.given.Meaning.TheVariants as meaning
 use Rattle.il_check.specs.declared.fault.CheckFault.{CheckFault}
 use Rattle.il_check.specs.declared.fault.CheckFault.TheVariants.{UnknownName, DuplicateName, TypeMismatch, TooMany}
 
+-- the declaration stands in a VAR_EXTERNAL block
 abbrev pub is_external : Scope → Bool
 is_external Local = false
 is_external External = true
@@ -43,6 +42,7 @@ may_stand octet = is_name_octet (to_ascii_uppercase octet)
 abbrev pub is_name : List ℕ → Bool
 is_name name = (nat_lt 0 (length name) && nat_le (length name) 64) && list_all may_stand name
 
+-- the first point with this name, letters in either case
 abbrev pub named_point : List Point → List ℕ → Option Point
 named_point points name = find (λ p. same_name p.name name) points
 
@@ -50,32 +50,26 @@ named_point points name = find (λ p. same_name p.name name) points
 abbrev pub point_of : List Point → List ℕ → Option Point
 point_of points name = if is_name name then named_point points name else None
 
+-- the value, if it is one of this type
 abbrev pub of_type : ElementaryType → Option Value → Option Value
 of_type kind None = None
 of_type kind (Some v) = if same_type (type_of v) kind then Some v else None
 
 -- the value of a type that a literal is, if it is one
-abbrev pub value_in : ElementaryType → Literal → Option Value
-value_in kind (literal.Truth b) = of_type kind (typed_value (literal.Truth b))
-value_in kind (literal.Number z) = number_in kind z
-value_in kind (literal.Int z) = of_type kind (typed_value (literal.Int z))
-value_in kind (literal.Dint z) = of_type kind (typed_value (literal.Dint z))
-value_in kind (literal.Lint z) = of_type kind (typed_value (literal.Lint z))
-value_in kind (literal.Time n) = of_type kind (typed_value (literal.Time n))
-
--- FALSE, 0, or T#0ms
-abbrev pub default_value : ElementaryType → Value
-default_value elementary.Bool = value.Truth false
-default_value elementary.Int = value.Short (pos 0)
-default_value elementary.Dint = value.Long (pos 0)
-default_value elementary.Lint = value.Wide (pos 0)
-default_value elementary.Time = value.Span 0
+abbrev pub literal_value : ElementaryType → Literal → Option Value
+literal_value kind (literal.Truth b) = of_type kind (typed_value (literal.Truth b))
+literal_value kind (literal.Number z) = number_in kind z
+literal_value kind (literal.Int z) = of_type kind (typed_value (literal.Int z))
+literal_value kind (literal.Dint z) = of_type kind (typed_value (literal.Dint z))
+literal_value kind (literal.Lint z) = of_type kind (typed_value (literal.Lint z))
+literal_value kind (literal.Time n) = of_type kind (typed_value (literal.Time n))
 
 -- the value that a variable of a type begins with, if the literal fits it
 abbrev pub initial_in : ElementaryType → Option Literal → Option Value
 initial_in kind None = Some (default_value kind)
-initial_in kind (Some given) = value_in kind given
+initial_in kind (Some given) = literal_value kind given
 
+-- the point has this type, if it is there
 abbrev pub is_kind_of : Option Point → ElementaryType → Bool
 is_kind_of None kind = true
 is_kind_of (Some p) kind = same_type p.kind kind
@@ -87,31 +81,38 @@ is_typed Local (Timer kind) point given = true
 is_typed External (Elementary kind) point given = is_kind_of point kind
 is_typed External (Timer kind) point given = is_none point
 
+-- the program may write the point, if it is there
 abbrev pub is_writable : Option Point → Bool
 is_writable None = false
 is_writable (Some p) = p.writable
 
+-- the external that a name with a type and a point is
 abbrev pub external_at : List ℕ → ElementaryType → Option Point → Option given.External
 external_at name kind None = None
-external_at name kind (Some p) = Some (record { name = upper name; kind = kind; writable = p.writable; source = p.source })
+external_at name kind (Some p) =
+    Some (record { name = upper name; kind = kind; writable = p.writable; source = p.source })
 
 -- what a declaration adds to the externals, the variables and the timers
 abbrev pub external_in : List Point → text.Declared → Scope → DeclaredType → Option given.External
 external_in points d External (Elementary kind) = external_at d.name kind (point_of points d.name)
 external_in points d scope kind = None
 
+-- the variable of a name with the value that it begins with
 abbrev pub variable_at : List ℕ → Option Value → Option Variable
 variable_at name None = None
 variable_at name (Some v) = Some (record { name = upper name; initial = v })
 
+-- a local name with an elementary type and a value that fits it
 abbrev pub variable_in : text.Declared → Scope → DeclaredType → Option Variable
 variable_in d Local (Elementary kind) = variable_at d.name (initial_in kind d.initial)
 variable_in d scope kind = None
 
+-- a name with the type of a timer
 abbrev pub timer_in : text.Declared → DeclaredType → Option own.Timer
 timer_in d (Timer kind) = Some (record { name = upper d.name; kind = kind })
 timer_in d (Elementary kind) = None
 
+-- all of these that declarations add, in their order
 abbrev pub externals_of : List Point → List text.Declared → List given.External
 externals_of points declared = filter_map (λ d. external_in points d d.scope d.kind) declared
 
@@ -127,6 +128,7 @@ pub record Counts : Type 0 where
   pub variables : ℕ
   pub timers : ℕ
 
+-- how many of each the declarations add
 abbrev pub counts_of : List Point → List text.Declared → Counts
 counts_of points declared = record {
   externals = length (externals_of points declared);
@@ -136,16 +138,21 @@ counts_of points declared = record {
 
 -- what a name means that is declared behind so many others
 abbrev pub meaning_at : Counts → Scope → DeclaredType → Option Point → Meaning
-meaning_at counts Local (Elementary kind) point = meaning.Variable (slot.Variable counts.variables) kind true
-meaning_at counts External (Elementary kind) point = meaning.Variable (slot.External counts.externals) kind (is_writable point)
+meaning_at counts Local (Elementary kind) point =
+    meaning.Variable (slot.Variable counts.variables) kind true
+meaning_at counts External (Elementary kind) point =
+    meaning.Variable (slot.External counts.externals) kind (is_writable point)
 meaning_at counts scope (Timer kind) point = meaning.Timer counts.timers
 
 -- what each declared name means, behind others
-abbrev pub meanings_from : List Point → List text.Declared → List text.Declared → List (List ℕ × Meaning)
+abbrev pub meanings_from : List Point → List text.Declared → List text.Declared
+    → List (List ℕ × Meaning)
 meanings_from points before [] = []
 meanings_from points before (d ∷ ds) =
-    (upper d.name, meaning_at (counts_of points before) d.scope d.kind (point_of points d.name)) ∷ meanings_from points (before ++ d ∷ []) ds
+    (upper d.name, meaning_at (counts_of points before) d.scope d.kind (point_of points d.name))
+    ∷ meanings_from points (before ++ d ∷ []) ds
 
+-- what each declared name means
 abbrev pub meanings_of : List Point → List text.Declared → List (List ℕ × Meaning)
 meanings_of points declared = meanings_from points [] declared
 
@@ -173,7 +180,8 @@ abbrev pub is_full : Counts → DeclaredType → Bool
 is_full counts (Elementary kind) = nat_le 512 (counts.externals + counts.variables)
 is_full counts (Timer kind) = nat_le 64 counts.timers
 
--- the faults of a declaration, of which it is known whether its name is declared before, and whether it is one too many
+-- the faults of a declaration, of which it is known whether its name is declared before, and
+-- whether it is one too many
 abbrev pub name_faults : Option Point → Bool → Bool → text.Declared → List CheckFault
 name_faults point is_known is_beyond d =
     fault_if (is_external d.scope && is_none point) (UnknownName d.line)
@@ -184,8 +192,13 @@ name_faults point is_known is_beyond d =
 -- the faults of a declaration behind others
 abbrev pub declaration_faults : List Point → List text.Declared → text.Declared → List CheckFault
 declaration_faults points before d =
-    name_faults (point_of points d.name) (is_some (looked_up (meanings_of points before) (upper d.name))) (is_full (counts_of points before) d.kind) d
+    name_faults (point_of points d.name)
+    (is_some (looked_up (meanings_of points before) (upper d.name)))
+    (is_full (counts_of points before) d.kind) d
 
-abbrev pub declarations_faults : List Point → List text.Declared → List text.Declared → List CheckFault
+-- the faults of declarations behind others
+abbrev pub declarations_faults : List Point → List text.Declared → List text.Declared
+    → List CheckFault
 declarations_faults points before [] = []
-declarations_faults points before (d ∷ ds) = declaration_faults points before d ++ declarations_faults points (before ++ d ∷ []) ds
+declarations_faults points before (d ∷ ds) =
+    declaration_faults points before d ++ declarations_faults points (before ++ d ∷ []) ds

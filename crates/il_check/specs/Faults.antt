@@ -1,4 +1,5 @@
--- The fault that is answered, of all that a program has: the least by its line, and of one line by its number.
+-- The fault that is answered, of all that a program has: the least by its line, and of one line by
+-- its number.
 use Rattle.std.specs.Prelude.{ℕ, ◌≡◌, Bool, false, ◌&&◌, ◌||◌, nat_lt, ◌==◌, List, [], ◌∷◌, Contains, Option, None, Some, unwrap_or, if◌then◌else◌}
 use Rattle.il_check.specs.Code.{code_of, line_of}
 use Rattle.il_check.specs.declared.fault.CheckFault.{CheckFault}
@@ -13,11 +14,14 @@ is_lower first second = nat_lt (unwrap_or first 0) (unwrap_or second 0)
 
 -- a fault comes before another: its line is less, or it has a lower number on the same line
 abbrev pub is_before : CheckFault → CheckFault → Bool
-is_before f g = nat_lt (line_of f) (line_of g) || (line_of f == line_of g && is_lower (code_of f) (code_of g))
+is_before f g =
+    nat_lt (line_of f) (line_of g) || (line_of f == line_of g && is_lower (code_of f) (code_of g))
 
+-- the one that comes first
 abbrev pub lesser : CheckFault → CheckFault → CheckFault
 lesser f g = if is_before g f then g else f
 
+-- the first of a fault and of others
 abbrev pub least_of : CheckFault → List CheckFault → CheckFault
 least_of f [] = f
 least_of f (g ∷ gs) = least_of (lesser f g) gs

@@ -47,6 +47,7 @@ known (Some v) = Known (record { operand = operand.Literal v; kind = type_of v; 
 abbrev pub number_given : ℤ → Given
 number_given z = if is_some (value_of elementary.Lint z) then Number z else Misused
 
+-- a literal as an operand
 abbrev pub literal_given : Literal → Given
 literal_given (literal.Truth b) = known (typed_value (literal.Truth b))
 literal_given (literal.Number z) = number_given z
@@ -58,7 +59,8 @@ literal_given (literal.Time n) = known (typed_value (literal.Time n))
 -- a name as a variable; a timer's is none
 abbrev pub variable_given : Option Meaning → Given
 variable_given None = Missing
-variable_given (Some (meaning.Variable slot kind writable)) = Known (record { operand = operand.Slot slot; kind = kind; writable = writable })
+variable_given (Some (meaning.Variable slot kind writable)) =
+    Known (record { operand = operand.Slot slot; kind = kind; writable = writable })
 variable_given (Some (meaning.Timer timer)) = Misused
 
 -- Q is a BOOL, and ET a TIME
@@ -70,16 +72,24 @@ output_type output.Et = elementary.Time
 abbrev pub output_given : Option Meaning → Output → Given
 output_given None gives = Missing
 output_given (Some (meaning.Variable slot kind writable)) gives = Misused
-output_given (Some (meaning.Timer timer)) gives = Known (record { operand = operand.Output timer gives; kind = output_type gives; writable = false })
+output_given (Some (meaning.Timer timer)) gives =
+    Known (record {
+      operand = operand.Output timer gives;
+      kind = output_type gives;
+      writable = false;
+    })
 
+-- a variable, or an output of a timer, by its name
 abbrev pub place_given : Names → text.Place → Given
 place_given names (text.named name) = variable_given (names.meaning name)
 place_given names (text.output timer gives) = output_given (names.meaning timer) gives
 
+-- an operand
 abbrev pub source_given : Names → text.Source → Given
 source_given names (text.constant value) = literal_given value
 source_given names (text.variable place) = place_given names place
 
+-- the number is 0
 abbrev pub is_zero : ℤ → Bool
 is_zero (pos n) = n == 0
 is_zero (negsuc n) = false
@@ -93,15 +103,18 @@ is_nonzero_literal (literal.Dint z) = not (is_zero z)
 is_nonzero_literal (literal.Lint z) = not (is_zero z)
 is_nonzero_literal (literal.Time n) = not (n == 0)
 
+-- the operand is a literal other than 0
 abbrev pub is_nonzero : text.Source → Bool
 is_nonzero (text.constant value) = is_nonzero_literal value
 is_nonzero (text.variable place) = false
 
+-- a name as that of a timer that is called
 abbrev pub called_of : Option Meaning → Called
 called_of None = called.Missing
 called_of (Some (meaning.Variable slot kind writable)) = called.Misused
 called_of (Some (meaning.Timer timer)) = called.Timer timer
 
+-- what a call gives to one input
 abbrev pub argument_given : Names → Input × text.Source → GivenArgument
 argument_given names a = record { input = a.0; given = source_given names a.1 }
 
@@ -109,15 +122,18 @@ argument_given names a = record { input = a.0; given = source_given names a.1 }
 abbrev pub arguments_given : Names → List (Input × text.Source) → GivenArguments
 arguments_given names [] = arguments.None
 arguments_given names (a ∷ []) = arguments.One (argument_given names a)
-arguments_given names (a ∷ b ∷ more) = arguments.Two (argument_given names a) (argument_given names b)
+arguments_given names (a ∷ b ∷ more) =
+    arguments.Two (argument_given names a) (argument_given names b)
 
 -- an instruction, with what its names mean
 abbrev pub resolved : Names → text.Action → Resolved
 resolved names (text.load negated source) = Load negated (source_given names source)
 resolved names (text.store kind place) = Store kind (place_given names place)
-resolved names (text.combine operator negated source) = Combine operator negated (source_given names source) (is_nonzero source)
+resolved names (text.combine operator negated source) =
+    Combine operator negated (source_given names source) (is_nonzero source)
 resolved names text.invert = Not
 resolved names (text.convert conversion) = Convert conversion
 resolved names (text.jump condition name) = Jump condition (names.label name)
 resolved names (text.leave condition) = Return condition
-resolved names (text.call timer arguments) = Call (called_of (names.meaning timer)) (arguments_given names arguments)
+resolved names (text.call timer arguments) =
+    Call (called_of (names.meaning timer)) (arguments_given names arguments)

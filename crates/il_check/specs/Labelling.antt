@@ -1,10 +1,11 @@
--- Well typed, in words of labels: each label has a type of the current result, or none, with which every instruction is right.
+-- Well typed, in words of labels: each label has a type of the current result, or none, with which
+-- every instruction is right.
 use Rattle.std.specs.Prelude.{◌≡◌, ℕ, ◌+◌, ◌-◌, ◌<◌, ◌==◌, ◌||◌, ◌⊎◌, Bool, true, false, is_some, List, [], ◌∷◌, Option, None, Some, option_map, if◌then◌else◌}
 use Rattle.bay_base.specs.declared.types.ElementaryType.{ElementaryType}
 use Rattle.il_text.specs.Listing as text
 use Rattle.il_text.specs.declared.program.Operator.{Operator}
 use Rattle.il_check.specs.Given.{Names, resolved}
-use Rattle.il_check.specs.Rules.{is_wrong, is_unset, type_after, joins_wrong, joins_unset, misses_name, jumps_back, misses_label, writes_fixed, may_divide_by_zero, divides, gives, goes_on, target_of}
+use Rattle.il_check.specs.Rules.{is_wrong, is_unset, type_after, combines_wrong, combines_unset, misses_name, jumps_back, misses_label, writes_fixed, may_divide_by_zero, divides, gives, goes_on, target_of}
 use Rattle.il_check.specs.WellTyped.{Standing, behind, is_first, type_behind, type_behind_all}
 use Rattle.il_check.specs.declared.given.Resolved.{Resolved}
 
@@ -28,24 +29,30 @@ pub record IsRight (passed : ℕ) (r : Resolved) (result : Option ElementaryType
   pub writable : writes_fixed r ≡ false
   pub nonzero : may_divide_by_zero r ≡ false
 
--- The operator of a parenthesis is right, which gives a result of this type, on a result of that type.
-pub record IsJoined (operator : Operator) (negated : Bool) (inner result : Option ElementaryType) : Type 0 where
+-- The operator of a parenthesis is right, which gives a result of this type, on a result of that
+-- type.
+pub record IsCombined (operator : Operator) (negated : Bool) (inner result : Option ElementaryType)
+    : Type 0 where
   pub nonzero : divides operator ≡ false
-  pub allowed : joins_wrong operator negated inner result ≡ false
-  pub set : joins_unset inner result ≡ false
+  pub allowed : combines_wrong operator negated inner result ≡ false
+  pub set : combines_unset inner result ≡ false
 
 abbrev mutual
-  -- An entry is right, in which so many parentheses may stand within one another. A parenthesis begins with a result that is
-  -- not set.
+  -- An entry is right, in which so many parentheses may stand within one another. A parenthesis
+  -- begins with a result that is not set.
   pub IsRightEntry : Names → ℕ → ℕ → text.Entry → Option ElementaryType → Type 0
   IsRightEntry names room passed (text.label line name) result = Unit {0}
-  IsRightEntry names room passed (text.action line a) result = IsRight passed (resolved names a) result
+  IsRightEntry names room passed (text.action line a) result =
+      IsRight passed (resolved names a) result
   IsRightEntry names room passed (text.block line operator negated items end) result =
-      (0 < room) × AreRightEntries names (room - 1) passed items None × IsJoined operator negated (type_behind_all names items None) result
+      (0 < room) × AreRightEntries names (room - 1) passed items None
+      × IsCombined operator negated (type_behind_all names items None) result
 
   pub AreRightEntries : Names → ℕ → ℕ → text.Entries → Option ElementaryType → Type 0
   AreRightEntries names room passed text.no_entries result = Unit {0}
-  AreRightEntries names room passed (text.entry e es) result = IsRightEntry names room passed e result × AreRightEntries names room passed es (type_behind names e result)
+  AreRightEntries names room passed (text.entry e es) result =
+      IsRightEntry names room passed e result
+      × AreRightEntries names room passed es (type_behind names e result)
 
 -- ---- the items
 
@@ -53,12 +60,14 @@ abbrev mutual
 abbrev pub Coming : Type 0
 Coming = Option (Option ElementaryType)
 
--- what is known before an item: how many labels stand above, which labels were jumped to, and what comes from above
+-- what is known before an item: how many labels stand above, which labels were jumped to, and what
+-- comes from above
 pub record Carried : Type 0 where
   pub passed : ℕ
   pub named : List ℕ
   pub now : Coming
 
+-- a record of these
 abbrev pub carried : ℕ → List ℕ → Coming → Carried
 carried passed named now = record { passed = passed; named = named; now = now }
 
@@ -71,6 +80,7 @@ abbrev pub Falls : Labelling → ℕ → Coming → Type 0
 Falls labels number None = Unit {0}
 Falls labels number (Some t) = Becomes t (labels number)
 
+-- A jump to this label brings its type, or the label is unset.
 abbrev pub Jumps : Labelling → Option ℕ → Option ElementaryType → Type 0
 Jumps labels None t = Unit {0}
 Jumps labels (Some number) t = Becomes t (labels number)
@@ -87,8 +97,10 @@ with_target (Some number) named = number ∷ named
 
 -- what comes behind a label, to which a way leads from above, or by a jump
 abbrev pub coming_behind_label : Labelling → Carried → Coming
-coming_behind_label labels c = if is_some c.now || is_named c.named c.passed then Some (labels c.passed) else None
+coming_behind_label labels c =
+    if is_some c.now || is_named c.named c.passed then Some (labels c.passed) else None
 
+-- behind a label
 abbrev pub behind_label : Labelling → Carried → Carried
 behind_label labels c = carried (c.passed + 1) c.named (coming_behind_label labels c)
 
@@ -96,8 +108,10 @@ behind_label labels c = carried (c.passed + 1) c.named (coming_behind_label labe
 abbrev pub coming_behind_action : Resolved → Option ElementaryType → Coming
 coming_behind_action r t = if goes_on r then Some (type_after r t) else None
 
+-- behind an instruction on a result of this type
 abbrev pub behind_action : Resolved → Option ElementaryType → Carried → Carried
-behind_action r t c = carried c.passed (with_target (target_of r) c.named) (coming_behind_action r t)
+behind_action r t c =
+    carried c.passed (with_target (target_of r) c.named) (coming_behind_action r t)
 
 -- behind a parenthesis whose operator works on a result of this type
 abbrev pub behind_block : Operator → Option ElementaryType → Carried → Carried
@@ -105,7 +119,8 @@ behind_block operator t c = carried c.passed c.named (Some (option_map (gives op
 
 -- A label is the first of its name and one of 256 at most, and what falls into it brings its type.
 abbrev pub LabelFlows : Names → Labelling → List ℕ → Carried → Type 0
-LabelFlows names labels name c = (is_first c.passed (names.label name) ≡ true) × (c.passed < 256) × Falls labels c.passed c.now
+LabelFlows names labels name c =
+    (is_first c.passed (names.label name) ≡ true) × (c.passed < 256) × Falls labels c.passed c.now
 
 -- An instruction is reached by a result of this type, is right on it, and brings it where it jumps.
 abbrev pub ActionFlows : Labelling → Resolved → Option ElementaryType → Carried → Type 0
@@ -115,15 +130,18 @@ ActionFlows labels r t c = (c.now ≡ Some t) × IsRight c.passed r t × Jumps l
 abbrev pub BlockFlows : Names → text.Entry → Option ElementaryType → Carried → Type 0
 BlockFlows names b t c = (c.now ≡ Some t) × IsRightEntry names 16 c.passed b t
 
--- Each instruction is reached, and right on the result that comes to it; and each way to a label brings the label's type, or
--- the label is unset.
+-- Each instruction is reached, and right on the result that comes to it; and each way to a label
+-- brings the label's type, or the label is unset.
 abbrev pub Flows : Names → Labelling → List text.Entry → Carried → Type 0
 Flows names labels [] c = Unit {0}
-Flows names labels (text.label line name ∷ es) c = LabelFlows names labels name c × Flows names labels es (behind_label labels c)
+Flows names labels (text.label line name ∷ es) c =
+    LabelFlows names labels name c × Flows names labels es (behind_label labels c)
 Flows names labels (text.action line a ∷ es) c =
-    (t : Option ElementaryType) × ActionFlows labels (resolved names a) t c × Flows names labels es (behind_action (resolved names a) t c)
+    (t : Option ElementaryType) × ActionFlows labels (resolved names a) t c
+    × Flows names labels es (behind_action (resolved names a) t c)
 Flows names labels (text.block line operator negated items end ∷ es) c =
-    (t : Option ElementaryType) × BlockFlows names (text.block line operator negated items end) t c × Flows names labels es (behind_block operator t c)
+    (t : Option ElementaryType) × BlockFlows names (text.block line operator negated items end) t c
+    × Flows names labels es (behind_block operator t c)
 
 -- With some labelling every instruction is right.
 abbrev pub IsWellTyped : Names → List text.Entry → Type 0
@@ -131,18 +149,23 @@ IsWellTyped names items = (labels : Labelling) × Flows names labels items begin
 
 -- ---- what comes behind items
 
+-- what comes of a result, if one comes
 abbrev pub with_result : (Option ElementaryType → Coming) → Coming → Coming
 with_result f None = None
 with_result f (Some t) = f t
 
+-- what comes behind these items, with this labelling
 abbrev pub coming_behind : Names → Labelling → List text.Entry → Carried → Coming
 coming_behind names labels [] c = c.now
-coming_behind names labels (text.label line name ∷ es) c = coming_behind names labels es (behind_label labels c)
+coming_behind names labels (text.label line name ∷ es) c =
+    coming_behind names labels es (behind_label labels c)
 coming_behind names labels (text.action line a ∷ es) c =
     coming_behind names labels es
-    (carried c.passed (with_target (target_of (resolved names a)) c.named) (with_result (coming_behind_action (resolved names a)) c.now))
+    (carried c.passed (with_target (target_of (resolved names a)) c.named)
+    (with_result (coming_behind_action (resolved names a)) c.now))
 coming_behind names labels (text.block line operator negated items end ∷ es) c =
-    coming_behind names labels es (carried c.passed c.named (with_result (λ t. Some (option_map (gives operator) t)) c.now))
+    coming_behind names labels es
+    (carried c.passed c.named (with_result (λ t. Some (option_map (gives operator) t)) c.now))
 
 -- what the checks know behind items
 abbrev pub behind_all : Names → List text.Entry → Standing → Standing

@@ -20,8 +20,8 @@ pub mod TypedProgram
 pub mod Typing
 pub mod WellTyped
 -- Inner ones, which private functions, invariants and proofs cite, and no public clause.
+pub mod DeclarationsView
 pub mod LabelsView
 pub mod NamesView
 pub mod PartsView
-pub mod Standing
 pub mod WalkView

@@ -6,9 +6,15 @@ use Rattle.bay_base.specs.Names.{upper}
 use Rattle.il_check.specs.Given as spec
 use Rattle.il_check.specs.declared.names.Names.{Names}
 
+-- names are looked up in upper case
 abbrev pub names_of : Names → spec.Names
-names_of n = record { meaning = λ name. get_by_text n.meanings (upper name); label = λ name. get_by_text n.labels (upper name) }
+names_of n =
+    record {
+      meaning = λ name. get_by_text n.meanings (upper name);
+      label = λ name. get_by_text n.labels (upper name);
+    }
 
 -- what names have after a name is given a value, which keeps the one that it has
 abbrev pub with_value : {A : Type 0} → (List ℕ → Option A) → List ℕ → A → List ℕ → Option A
-with_value values name value other = if bytes_eq name other && is_none (values name) then Some value else values other
+with_value values name value other =
+    if bytes_eq name other && is_none (values name) then Some value else values other

@@ -13,19 +13,26 @@ use Rattle.il_check.specs.declared.typed.Slot.TheVariants as slot
 use Rattle.il_check.specs.declared.typed.Timer.{Timer}
 use Rattle.il_check.specs.declared.typed.Variable.{Variable}
 
--- What is meant stands at its place among the externals, the variables or the timers, with this name in upper case.
+-- What is meant stands at its place among the externals, the variables or the timers, with this
+-- name in upper case.
 abbrev pub IsOwn : Checked → List ℕ → Meaning → Type 0
 IsOwn c name (meaning.Variable (slot.External n) kind writable) =
-    (e : External) × (slice_get c.externals n ≡ Some e) × (e.name ≡ name) × (e.kind ≡ kind) × (e.writable ≡ writable)
+    (e : External) × (slice_get c.externals n ≡ Some e) × (e.name ≡ name) × (e.kind ≡ kind)
+    × (e.writable ≡ writable)
 IsOwn c name (meaning.Variable (slot.Variable n) kind writable) =
-    (v : Variable) × (slice_get c.variables n ≡ Some v) × (v.name ≡ name) × (type_of v.initial ≡ kind) × (writable ≡ true)
+    (v : Variable) × (slice_get c.variables n ≡ Some v) × (v.name ≡ name)
+    × (type_of v.initial ≡ kind) × (writable ≡ true)
 IsOwn c name (meaning.Timer n) = (t : Timer) × (slice_get c.timers n ≡ Some t) × (t.name ≡ name)
 
--- What a name means is declared by that name; and the name of each external, variable and timer means it, at its place. What a label
--- means is the number of the label of that name.
+-- What a name means is declared by that name; and the name of each external, variable and timer
+-- means it, at its place. What a label means is the number of the label of that name.
 pub record MeanOwnPlaces (names : Names) (c : Checked) (items : List text.Entry) : Type 0 where
   pub own : (name : List ℕ) (m : Meaning) → names.meaning name ≡ Some m → IsOwn c (upper name) m
-  pub externals : (n : ℕ) (e : External) → slice_get c.externals n ≡ Some e → names.meaning e.name ≡ Some (meaning.Variable (slot.External n) e.kind e.writable)
-  pub variables : (n : ℕ) (v : Variable) → slice_get c.variables n ≡ Some v → names.meaning v.name ≡ Some (meaning.Variable (slot.Variable n) (type_of v.initial) true)
-  pub timers : (n : ℕ) (t : Timer) → slice_get c.timers n ≡ Some t → names.meaning t.name ≡ Some (meaning.Timer n)
-  pub labels : (name : List ℕ) (n : ℕ) → names.label name ≡ Some n → slice_get (labels_from 0 items) n ≡ Some (upper name, n)
+  pub externals : (n : ℕ) (e : External) → slice_get c.externals n ≡ Some e
+      → names.meaning e.name ≡ Some (meaning.Variable (slot.External n) e.kind e.writable)
+  pub variables : (n : ℕ) (v : Variable) → slice_get c.variables n ≡ Some v
+      → names.meaning v.name ≡ Some (meaning.Variable (slot.Variable n) (type_of v.initial) true)
+  pub timers : (n : ℕ) (t : Timer) → slice_get c.timers n ≡ Some t
+      → names.meaning t.name ≡ Some (meaning.Timer n)
+  pub labels : (name : List ℕ) (n : ℕ) → names.label name ≡ Some n
+      → slice_get (labels_from 0 items) n ≡ Some (upper name, n)

@@ -5,15 +5,17 @@ use Rattle.il_text.specs.declared.program.Operator.{Operator}
 use Rattle.il_check.specs.declared.typed.External.{External}
 use Rattle.il_check.specs.declared.typed.Variable.{Variable}
 use Rattle.il_check.specs.declared.typed.Timer.{Timer}
-use Rattle.il_check.specs.declared.typed.Operation.{Operation}
+use Rattle.il_check.specs.declared.typed.SimpleOperation.{SimpleOperation}
 use Rattle.il_check.specs.declared.typed.Transfer.{Transfer}
 
 mutual
-  -- an operation; an operator, the type of both sides, whether it is negated, and the entries in its parenthesis
+  -- an operation; an operator, the type of both sides, whether it is negated, and the entries in
+  -- its parenthesis
   pub data Entry : Type 0 where
-    operation : Operation → Entry
+    operation : SimpleOperation → Entry
     block : Operator → ElementaryType → Bool → Entries → Entry
 
+  -- the entries in a parenthesis, in their order
   pub data Entries : Type 0 where
     no_entries : Entries
     entry : Entry → Entries → Entries
@@ -24,12 +26,15 @@ pub data Item : Type 0 where
   transfer : Transfer → Item
   plain : Entry → Item
 
+-- externals, variables and timers in the order of their declarations, and the items in that of the
+-- text
 pub record Checked : Type 0 where
   pub externals : List External
   pub variables : List Variable
   pub timers : List Timer
   pub items : List Item
 
+-- a list of entries as such
 abbrev pub entries_of : List Entry → Entries
 entries_of [] = no_entries
 entries_of (e ∷ es) = entry e (entries_of es)

@@ -7,20 +7,24 @@ use Rattle.il_text.specs.Listing as text
 use Rattle.il_check.specs.Declaring.{counts_of, is_external, is_full, is_typed, names_in, point_of}
 use Rattle.il_check.specs.Labelling.{IsWellTyped}
 
--- A declaration is right behind others: an external's name is a point's; no name is declared twice; an external has its point's type,
--- a literal fits its variable, and a timer is no point; and there are not too many.
-pub record IsRightDeclaration (points : List Point) (before : List text.Declared) (d : text.Declared) : Type 0 where
+-- A declaration is right behind others: an external's name is a point's; no name is declared twice;
+-- an external has its point's type, a literal fits its variable, and a timer is no point; and there
+-- are not too many.
+pub record IsRightDeclaration (points : List Point) (before : List text.Declared)
+    (d : text.Declared) : Type 0 where
   pub known : is_external d.scope ≡ true → IsSome (point_of points d.name)
   pub own : list_any (λ e. same_name e.name d.name) before ≡ false
   pub typed : is_typed d.scope d.kind (point_of points d.name) d.initial ≡ true
   pub few : is_full (counts_of points before) d.kind ≡ false
 
+-- Each declaration is right behind those before it.
 abbrev pub AreRightDeclarations : List Point → List text.Declared → Type 0
 AreRightDeclarations points declared =
-    (before : List text.Declared) (d : text.Declared) (after : List text.Declared) → declared ≡ before ++ d ∷ after → IsRightDeclaration points before d
+    (before : List text.Declared) (d : text.Declared) (after : List text.Declared)
+    → declared ≡ before ++ d ∷ after → IsRightDeclaration points before d
 
--- Each declaration is right behind those before it; and there is a type of the current result, or none, for each label, with which each
--- instruction is reached and right.
+-- Each declaration is right behind those before it; and there is a type of the current result, or
+-- none, for each label, with which each instruction is reached and right.
 pub record IsRightProgram (points : List Point) (program : text.PlainProgram) : Type 0 where
   pub declarations : AreRightDeclarations points program.declarations
   pub instructions : IsWellTyped (names_in points program) program.items

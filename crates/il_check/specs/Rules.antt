@@ -1,4 +1,5 @@
--- What an instruction wants of the current result, and what it leaves (IEC 61131-3:2003, 3.2.2 and table 52).
+-- What an instruction wants of the current result, and what it leaves (IEC 61131-3:2003, 3.2.2 and
+-- table 52).
 use Rattle.std.specs.Prelude.{ℕ, ℤ, Bool, true, false, not, ◌&&◌, ◌||◌, is_some, is_none, nat_lt, Option, None, Some, option_map, if◌then◌else◌}
 use Rattle.bay_base.specs.declared.types.ElementaryType.{ElementaryType}
 use Rattle.bay_base.specs.declared.types.ElementaryType.TheVariants as elementary
@@ -42,6 +43,7 @@ operand_in kind Misused = None
 operand_in kind (Known source) = if same_type source.kind kind then Some source.operand else None
 operand_in kind (Number z) = option_map (λ v. operand.Literal v) (number_in kind z)
 
+-- the operand can be one of the type
 abbrev pub fits : ElementaryType → Given → Bool
 fits kind given = is_some (operand_in kind given)
 
@@ -58,9 +60,11 @@ load_type Misused = None
 load_type (Known source) = Some source.kind
 load_type (Number z) = Some (own_type z)
 
+-- the type is BOOL
 abbrev pub is_boolean : ElementaryType → Bool
 is_boolean kind = same_type elementary.Bool kind
 
+-- the type is INT, DINT or LINT
 abbrev pub is_number : ElementaryType → Bool
 is_number elementary.Bool = false
 is_number elementary.Time = false
@@ -100,6 +104,7 @@ gives Ne kind = elementary.Bool
 gives Le kind = elementary.Bool
 gives Lt kind = elementary.Bool
 
+-- the operator divides by its operand
 abbrev pub divides : Operator → Bool
 divides Div = true
 divides Mod = true
@@ -113,42 +118,51 @@ may_negate negated kind = not negated || is_boolean kind
 abbrev pub works : Operator → Bool → ElementaryType → Bool
 works operator negated kind = takes operator kind && may_negate negated kind
 
+-- a store writes the result as it is
 abbrev pub is_plain : StoreKind → Bool
 is_plain store.Plain = true
 is_plain store.Negated = false
 is_plain store.Set = false
 is_plain store.Reset = false
 
+-- a jump or a return looks at the result
 abbrev pub is_conditional : Condition → Bool
 is_conditional Always = false
 is_conditional IfTrue = true
 is_conditional IfFalse = true
 
+-- the type of what a conversion takes
 abbrev pub converted_from : Conversion → ElementaryType
 converted_from IntToDint = elementary.Int
 converted_from DintToLint = elementary.Dint
 
+-- the type of what a conversion gives
 abbrev pub converted_to : Conversion → ElementaryType
 converted_to IntToDint = elementary.Dint
 converted_to DintToLint = elementary.Lint
 
+-- the type of an input of a timer
 abbrev pub input_type : Input → ElementaryType
 input_type input.In = elementary.Bool
 input_type input.Pt = elementary.Time
 
+-- an argument has its input's type
 abbrev pub argument_fits : GivenArgument → Bool
 argument_fits a = fits (input_type a.input) a.given
 
+-- each argument has its input's type
 abbrev pub arguments_fit : GivenArguments → Bool
 arguments_fit arguments.None = true
 arguments_fit (arguments.One a) = argument_fits a
 arguments_fit (arguments.Two a b) = argument_fits a && argument_fits b
 
+-- what is called is a timer
 abbrev pub is_timer : Called → Bool
 is_timer called.Missing = false
 is_timer called.Misused = false
 is_timer (called.Timer timer) = true
 
+-- a value of this type, if there is one, may be loaded, negated or not
 abbrev pub may_load : Bool → Option ElementaryType → Bool
 may_load negated None = false
 may_load negated (Some kind) = may_negate negated kind
@@ -157,7 +171,8 @@ may_load negated (Some kind) = may_negate negated kind
 abbrev pub allows : Resolved → ElementaryType → Bool
 allows (Load negated given) kind = may_load negated (load_type given)
 allows (Store how target) kind = fits kind target && may_negate (not (is_plain how)) kind
-allows (Combine operator negated given is_nonzero) kind = works operator negated kind && fits kind given
+allows (Combine operator negated given is_nonzero) kind =
+    works operator negated kind && fits kind given
 allows Not kind = is_boolean kind
 allows (Convert conversion) kind = same_type kind (converted_from conversion)
 allows (Jump condition label) kind = may_negate (is_conditional condition) kind
@@ -177,13 +192,16 @@ uses_result (Call called arguments) = false
 
 -- some type passes the test
 abbrev pub any_type : (ElementaryType → Bool) → Bool
-any_type test = test elementary.Bool || test elementary.Int || test elementary.Dint || test elementary.Lint || test elementary.Time
+any_type test =
+    test elementary.Bool || test elementary.Int || test elementary.Dint || test elementary.Lint
+    || test elementary.Time
 
 -- no type that the result may have makes the instruction right
 abbrev pub is_wrong : Resolved → Option ElementaryType → Bool
 is_wrong r None = not (any_type (allows r))
 is_wrong r (Some kind) = not (allows r kind)
 
+-- the instruction uses a result that is not set
 abbrev pub is_unset : Resolved → Option ElementaryType → Bool
 is_unset r result = uses_result r && is_none result
 
@@ -204,30 +222,35 @@ may_be kind None = true
 may_be kind (Some inner) = same_type inner kind
 
 -- the operator of a parenthesis is right on a result of this type
-abbrev pub joins : Operator → Bool → Option ElementaryType → ElementaryType → Bool
-joins operator negated inner kind = works operator negated kind && may_be kind inner
+abbrev pub combines : Operator → Bool → Option ElementaryType → ElementaryType → Bool
+combines operator negated inner kind = works operator negated kind && may_be kind inner
 
-abbrev pub joins_wrong : Operator → Bool → Option ElementaryType → Option ElementaryType → Bool
-joins_wrong operator negated inner None = not (any_type (joins operator negated inner))
-joins_wrong operator negated inner (Some kind) = not (joins operator negated inner kind)
+-- no type that the result may have makes the operator of a parenthesis right
+abbrev pub combines_wrong : Operator → Bool → Option ElementaryType → Option ElementaryType → Bool
+combines_wrong operator negated inner None = not (any_type (combines operator negated inner))
+combines_wrong operator negated inner (Some kind) = not (combines operator negated inner kind)
 
-abbrev pub joins_unset : Option ElementaryType → Option ElementaryType → Bool
-joins_unset inner result = is_none inner || is_none result
+-- the result is not set behind the parenthesis, or before it
+abbrev pub combines_unset : Option ElementaryType → Option ElementaryType → Bool
+combines_unset inner result = is_none inner || is_none result
 
 -- a name is not declared
 abbrev pub is_missing : Given → Bool
 is_missing Missing = true
 is_missing other = false
 
+-- an argument is a name that is not declared
 abbrev pub misses_argument : GivenArguments → Bool
 misses_argument arguments.None = false
 misses_argument (arguments.One a) = is_missing a.given
 misses_argument (arguments.Two a b) = is_missing a.given || is_missing b.given
 
+-- what is called is a name that is not declared
 abbrev pub misses_timer : Called → Bool
 misses_timer called.Missing = true
 misses_timer other = false
 
+-- a name of the instruction is not declared
 abbrev pub misses_name : Resolved → Bool
 misses_name (Load negated given) = is_missing given
 misses_name (Store how target) = is_missing target
@@ -240,10 +263,12 @@ abbrev pub is_above : ℕ → Option ℕ → Bool
 is_above passed None = false
 is_above passed (Some label) = nat_lt label passed
 
+-- the instruction jumps to a label above
 abbrev pub jumps_back : ℕ → Resolved → Bool
 jumps_back passed (Jump condition label) = is_above passed label
 jumps_back passed other = false
 
+-- the instruction jumps to a label that is not there
 abbrev pub misses_label : Resolved → Bool
 misses_label (Jump condition label) = is_none label
 misses_label other = false
@@ -253,6 +278,7 @@ abbrev pub is_fixed : Given → Bool
 is_fixed (Known source) = not source.writable
 is_fixed other = false
 
+-- the instruction writes what may only be read
 abbrev pub writes_fixed : Resolved → Bool
 writes_fixed (Store how target) = is_fixed target
 writes_fixed other = false

@@ -1,5 +1,5 @@
--- What holds of each checked program: it is what the checks make of some program that has no fault, its names differ, and it
--- is well typed.
+-- What holds of each checked program: it is what the checks make of some program that has no fault,
+-- its names differ, and it is well typed.
 use Rattle.std.specs.Prelude.{◌≡◌, ℕ, ◌<◌, false, List, [], ◌++◌, length, map, slice_index_or, Ok}
 use Rattle.bay_base.specs.Names.{same_name}
 use Rattle.bay_config.specs.declared.bay.Point.{Point}
@@ -12,17 +12,21 @@ use Rattle.il_check.specs.TypedProgram.{IsTyped}
 abbrev pub slot_names : Checked → List (List ℕ)
 slot_names c = map (λ e. e.name) c.externals ++ map (λ v. v.name) c.variables
 
+-- the name of a slot
 abbrev pub name_at : List (List ℕ) → ℕ → List ℕ
 name_at names slot = slice_index_or names slot []
 
 -- no two names are the same
 abbrev pub AreApart : List (List ℕ) → Type 0
-AreApart names = (i j : ℕ) → i < j → j < length names → same_name (name_at names i) (name_at names j) ≡ false
+AreApart names =
+    (i j : ℕ) → i < j → j < length names → same_name (name_at names i) (name_at names j) ≡ false
 
 -- Some program has no fault with some points, and this is what is left of it.
 abbrev pub WasChecked : Checked → Type 0
-WasChecked c = (points : List Point) × (program : text.PlainProgram) × (checked_of points program ≡ Ok c)
+WasChecked c =
+    (points : List Point) × (program : text.PlainProgram) × (checked_of points program ≡ Ok c)
 
+-- A checked program comes from the checks, its names differ, and it is well typed.
 pub record IsSound (c : Checked) : Type 0 where
   pub checked : WasChecked c
   pub apart : AreApart (slot_names c)

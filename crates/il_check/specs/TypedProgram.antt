@@ -1,5 +1,5 @@
--- Which checked programs are well typed (IEC 61131-3:2003, 2.4.3 and 3.2), without a word of names: what stands where has its
--- type, what is written may be written, and each instruction is reached.
+-- Which checked programs are well typed (IEC 61131-3:2003, 2.4.3 and 3.2), without a word of names:
+-- what stands where has its type, what is written may be written, and each instruction is reached.
 use Rattle.std.specs.Prelude.{◌≡◌, ℕ, pos, suc, ◌+◌, ◌<◌, ◌≤◌, ◌&&◌, ◌||◌, ◌==◌, max, Bool, true, false, not, List, [], ◌∷◌, length, slice_get, Option, None, Some, option_map}
 use Rattle.std.specs.Ordering.{int_eq}
 use Rattle.bay_base.specs.declared.types.ElementaryType.{ElementaryType}
@@ -21,8 +21,8 @@ use Rattle.il_check.specs.declared.typed.TypedOperand.TheVariants as operand
 use Rattle.il_check.specs.declared.typed.TypedArgument.{TypedArgument}
 use Rattle.il_check.specs.declared.typed.TypedArguments.{TypedArguments}
 use Rattle.il_check.specs.declared.typed.TypedArguments.TheVariants as arguments
-use Rattle.il_check.specs.declared.typed.Operation.{Operation}
-use Rattle.il_check.specs.declared.typed.Operation.TheVariants as op
+use Rattle.il_check.specs.declared.typed.SimpleOperation.{SimpleOperation}
+use Rattle.il_check.specs.declared.typed.SimpleOperation.TheVariants as op
 use Rattle.il_check.specs.declared.typed.Transfer.{Transfer}
 use Rattle.il_check.specs.declared.typed.Transfer.TheVariants as go
 
@@ -33,18 +33,22 @@ abbrev pub slot_type : Checked → Slot → Option ElementaryType
 slot_type c (slot.External n) = option_map (λ e. e.kind) (slice_get c.externals n)
 slot_type c (slot.Variable n) = option_map (λ v. type_of v.initial) (slice_get c.variables n)
 
+-- the external, if it is there, may be written
 abbrev pub is_writable : Option External → Bool
 is_writable None = false
 is_writable (Some e) = e.writable
 
+-- what is in the slot may be written
 abbrev pub may_write : Checked → Slot → Bool
 may_write c (slot.External n) = is_writable (slice_get c.externals n)
 may_write c (slot.Variable n) = true
 
+-- The operand is there and has this type.
 abbrev pub IsOperand : Checked → TypedOperand → ElementaryType → Type 0
 IsOperand c (operand.Literal v) kind = IsValue v × (type_of v ≡ kind)
 IsOperand c (operand.Slot s) kind = slot_type c s ≡ Some kind
-IsOperand c (operand.Output timer gives_what) kind = (timer < length c.timers) × (output_type gives_what ≡ kind)
+IsOperand c (operand.Output timer gives_what) kind =
+    (timer < length c.timers) × (output_type gives_what ≡ kind)
 
 -- a literal other than 0
 abbrev pub is_divisor : TypedOperand → Bool
@@ -52,28 +56,37 @@ is_divisor (operand.Literal v) = not (int_eq (number_of v) (pos 0))
 is_divisor (operand.Slot s) = false
 is_divisor (operand.Output timer gives_what) = false
 
--- ---- operations, on a result of the first type, which leave one of the second; none is a result that is not set
+-- ---- operations, on a result of the first type, which leave one of the second; none is a result
+-- that is not set
 
-abbrev pub IsOperation : Checked → Operation → Option ElementaryType → Option ElementaryType → Type 0
+abbrev pub IsOperation : Checked → SimpleOperation → Option ElementaryType → Option ElementaryType
+    → Type 0
 IsOperation c (op.Load negated x) t u =
-    (kind : ElementaryType) × IsOperand c x kind × (may_negate negated kind ≡ true) × (u ≡ Some kind)
+    (kind : ElementaryType) × IsOperand c x kind × (may_negate negated kind ≡ true)
+    × (u ≡ Some kind)
 IsOperation c (op.Store how s) t u =
-    (kind : ElementaryType) × (slot_type c s ≡ Some kind) × (may_write c s ≡ true) × (may_negate (not (is_plain how)) kind ≡ true) × (t ≡ Some kind) × (u ≡ t)
+    (kind : ElementaryType) × (slot_type c s ≡ Some kind) × (may_write c s ≡ true)
+    × (may_negate (not (is_plain how)) kind ≡ true) × (t ≡ Some kind) × (u ≡ t)
 IsOperation c (op.Combine operator kind negated x) t u =
-    IsOperand c x kind × (works operator negated kind ≡ true) × (divides operator && not (is_divisor x) ≡ false) × (t ≡ Some kind) × (u ≡ Some (gives operator kind))
+    IsOperand c x kind × (works operator negated kind ≡ true)
+    × (divides operator && not (is_divisor x) ≡ false) × (t ≡ Some kind)
+    × (u ≡ Some (gives operator kind))
 IsOperation c op.Not t u = (t ≡ Some elementary.Bool) × (u ≡ t)
-IsOperation c (op.Convert conversion) t u = (t ≡ Some (converted_from conversion)) × (u ≡ Some (converted_to conversion))
+IsOperation c (op.Convert conversion) t u =
+    (t ≡ Some (converted_from conversion)) × (u ≡ Some (converted_to conversion))
 
 -- A parenthesis begins with a result that is not set, and its operator divides by no parenthesis.
 abbrev mutual
   pub IsEntry : Checked → Entry → Option ElementaryType → Option ElementaryType → Type 0
   IsEntry c (operation o) t u = IsOperation c o t u
   IsEntry c (block operator kind negated es) t u =
-      AreEntries c es None (Some kind) × (works operator negated kind ≡ true) × (divides operator ≡ false) × (t ≡ Some kind) × (u ≡ Some (gives operator kind))
+      AreEntries c es None (Some kind) × (works operator negated kind ≡ true)
+      × (divides operator ≡ false) × (t ≡ Some kind) × (u ≡ Some (gives operator kind))
 
   pub AreEntries : Checked → Entries → Option ElementaryType → Option ElementaryType → Type 0
   AreEntries c no_entries t u = u ≡ t
-  AreEntries c (entry e es) t u = (w : Option ElementaryType) × IsEntry c e t w × AreEntries c es w u
+  AreEntries c (entry e es) t u =
+      (w : Option ElementaryType) × IsEntry c e t w × AreEntries c es w u
 
 -- how deep parentheses stand within one another
 abbrev mutual
@@ -87,9 +100,11 @@ abbrev mutual
 
 -- ---- jumps, returns and calls
 
+-- The argument has its input's type.
 abbrev pub IsArgument : Checked → TypedArgument → Type 0
 IsArgument c a = IsOperand c a.operand (input_type a.input)
 
+-- Each argument is right.
 abbrev pub AreArguments : Checked → TypedArguments → Type 0
 AreArguments c arguments.None = Unit {0}
 AreArguments c (arguments.One a) = IsArgument c a
@@ -101,6 +116,7 @@ Decides Always t = Unit {0}
 Decides IfTrue t = t ≡ Some elementary.Bool
 Decides IfFalse t = t ≡ Some elementary.Bool
 
+-- one of the items is the label with this number
 abbrev pub has_label : List Item → ℕ → Bool
 has_label [] number = false
 has_label (label n ∷ is) number = (n == number) || has_label is number
@@ -109,10 +125,12 @@ has_label (plain e ∷ is) number = has_label is number
 
 -- A jump goes to a label below.
 abbrev pub IsTransfer : Checked → List Item → Transfer → Option ElementaryType → Type 0
-IsTransfer c below (go.Jump condition number) t = Decides condition t × (has_label below number ≡ true)
+IsTransfer c below (go.Jump condition number) t =
+    Decides condition t × (has_label below number ≡ true)
 IsTransfer c below (go.Return condition) t = Decides condition t
 IsTransfer c below (go.Call timer args) t = (timer < length c.timers) × AreArguments c args
 
+-- the label that a jump goes to
 abbrev pub target_of : Transfer → Option ℕ
 target_of (go.Jump condition number) = Some number
 target_of (go.Return condition) = None
@@ -124,6 +142,7 @@ coming_behind_condition Always t = None
 coming_behind_condition IfTrue t = Some t
 coming_behind_condition IfFalse t = Some t
 
+-- what comes behind a jump, a return or a call
 abbrev pub coming_behind_transfer : Transfer → Option ElementaryType → Coming
 coming_behind_transfer (go.Jump condition number) t = coming_behind_condition condition t
 coming_behind_transfer (go.Return condition) t = coming_behind_condition condition t
@@ -131,41 +150,55 @@ coming_behind_transfer (go.Call timer args) t = Some None
 
 -- ---- the items
 
+-- behind a jump, a return or a call on a result of this type
 abbrev pub behind_transfer : Transfer → Option ElementaryType → Carried → Carried
-behind_transfer x t k = carried k.passed (with_target (target_of x) k.named) (coming_behind_transfer x t)
+behind_transfer x t k =
+    carried k.passed (with_target (target_of x) k.named) (coming_behind_transfer x t)
 
 -- behind an operation or a parenthesis that leaves a result of this type
 abbrev pub behind_entry : Option ElementaryType → Carried → Carried
 behind_entry u k = carried k.passed k.named (Some u)
 
--- A label stands in the order of the numbers and is one of 256 at most, and what falls into it brings its type.
+-- A label stands in the order of the numbers and is one of 256 at most, and what falls into it
+-- brings its type.
 abbrev pub IsLabel : Labelling → ℕ → Carried → Type 0
 IsLabel labels n k = (n ≡ k.passed) × (k.passed < 256) × Falls labels k.passed k.now
 
--- A jump, return or call is reached by a result of this type, is right on it, and brings it where it jumps.
-abbrev pub TransferFlows : Checked → Labelling → List Item → Transfer → Option ElementaryType → Carried → Type 0
-TransferFlows c labels below x t k = (k.now ≡ Some t) × IsTransfer c below x t × Jumps labels (target_of x) t
+-- A jump, return or call is reached by a result of this type, is right on it, and brings it where
+-- it jumps.
+abbrev pub TransferFlows : Checked → Labelling → List Item → Transfer → Option ElementaryType
+    → Carried → Type 0
+TransferFlows c labels below x t k =
+    (k.now ≡ Some t) × IsTransfer c below x t × Jumps labels (target_of x) t
 
--- An operation or a parenthesis is reached by a result of the first type, and leaves one of the second.
-abbrev pub EntryFlows : Checked → Entry → Option ElementaryType → Option ElementaryType → Carried → Type 0
+-- An operation or a parenthesis is reached by a result of the first type, and leaves one of the
+-- second.
+abbrev pub EntryFlows : Checked → Entry → Option ElementaryType → Option ElementaryType → Carried
+    → Type 0
 EntryFlows c e t u k = (k.now ≡ Some t) × IsEntry c e t u × (entry_depth e ≤ 16)
 
 -- Each item is reached and right on what is known before it.
 abbrev pub AreItems : Checked → Labelling → List Item → Carried → Type 0
 AreItems c labels [] k = Unit {0}
-AreItems c labels (label n ∷ is) k = IsLabel labels n k × AreItems c labels is (behind_label labels k)
+AreItems c labels (label n ∷ is) k =
+    IsLabel labels n k × AreItems c labels is (behind_label labels k)
 AreItems c labels (transfer x ∷ is) k =
-    (t : Option ElementaryType) × TransferFlows c labels is x t k × AreItems c labels is (behind_transfer x t k)
+    (t : Option ElementaryType) × TransferFlows c labels is x t k
+    × AreItems c labels is (behind_transfer x t k)
 AreItems c labels (plain e ∷ is) k =
-    (t : Option ElementaryType) × (u : Option ElementaryType) × EntryFlows c e t u k × AreItems c labels is (behind_entry u k)
+    (t : Option ElementaryType) × (u : Option ElementaryType) × EntryFlows c e t u k
+    × AreItems c labels is (behind_entry u k)
 
+-- The name of an external is one that an image may have.
 abbrev pub HasName : External → Type 0
 HasName e = IsName e.name
 
+-- The value of a variable is one of its type.
 abbrev pub BeginsRight : Variable → Type 0
 BeginsRight v = IsValue v.initial
 
--- There are 512 slots and 64 timers at most, and with some labelling each item is reached and right.
+-- There are 512 slots and 64 timers at most, and with some labelling each item is reached and
+-- right.
 pub record IsTyped (c : Checked) : Type 0 where
   pub slots : length c.externals + length c.variables ≤ 512
   pub timers : length c.timers ≤ 64

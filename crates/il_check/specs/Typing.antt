@@ -8,8 +8,8 @@ use Rattle.il_check.specs.Program.{Entry, operation, block, Entries, Item, trans
 use Rattle.il_check.specs.Rules.{operand_in, load_type, input_type}
 use Rattle.il_check.specs.declared.typed.TypedOperand.{TypedOperand}
 use Rattle.il_check.specs.declared.typed.TypedOperand.TheVariants as operand
-use Rattle.il_check.specs.declared.typed.Operation.{Operation}
-use Rattle.il_check.specs.declared.typed.Operation.TheVariants as op
+use Rattle.il_check.specs.declared.typed.SimpleOperation.{SimpleOperation}
+use Rattle.il_check.specs.declared.typed.SimpleOperation.TheVariants as op
 use Rattle.il_check.specs.declared.typed.Transfer.{Transfer}
 use Rattle.il_check.specs.declared.typed.Transfer.TheVariants as go
 use Rattle.il_check.specs.declared.typed.Slot.{Slot}
@@ -26,11 +26,13 @@ use Rattle.il_check.specs.declared.given.GivenArguments.TheVariants as arguments
 use Rattle.il_check.specs.declared.given.Resolved.{Resolved}
 use Rattle.il_check.specs.declared.given.Resolved.TheVariants.{Load, Store, Combine, Not, Convert, Jump, Return, Call}
 
-abbrev pub loaded : Bool → Option TypedOperand → Option Operation
+-- a load of the operand, if there is one
+abbrev pub loaded : Bool → Option TypedOperand → Option SimpleOperation
 loaded negated None = None
 loaded negated (Some o) = Some (op.Load negated o)
 
-abbrev pub load_in : Bool → Given → Option ElementaryType → Option Operation
+-- a load of the operand as one of this type
+abbrev pub load_in : Bool → Given → Option ElementaryType → Option SimpleOperation
 load_in negated given None = None
 load_in negated given (Some kind) = loaded negated (operand_in kind given)
 
@@ -39,34 +41,45 @@ abbrev pub slot_in : TypedOperand → Option Slot
 slot_in (operand.Slot slot) = Some slot
 slot_in other = None
 
+-- the slot of a target that is a variable
 abbrev pub target_slot : Given → Option Slot
 target_slot (Known source) = slot_in source.operand
 target_slot other = None
 
-abbrev pub stored : StoreKind → Option Slot → Option Operation
+-- a store into the slot, if there is one
+abbrev pub stored : StoreKind → Option Slot → Option SimpleOperation
 stored kind None = None
 stored kind (Some slot) = Some (op.Store kind slot)
 
-abbrev pub combined : Operator → ElementaryType → Bool → Option TypedOperand → Option Operation
+-- an operator with its operand, if there is one
+abbrev pub combined : Operator → ElementaryType → Bool → Option TypedOperand
+    → Option SimpleOperation
 combined operator kind negated None = None
 combined operator kind negated (Some o) = Some (op.Combine operator kind negated o)
 
-abbrev pub combine_in : Operator → Bool → Given → Option ElementaryType → Option Operation
+-- an operator on a result of this type, with the operand as one of the type
+abbrev pub combine_in : Operator → Bool → Given → Option ElementaryType → Option SimpleOperation
 combine_in operator negated given None = None
-combine_in operator negated given (Some kind) = combined operator kind negated (operand_in kind given)
+combine_in operator negated given (Some kind) =
+    combined operator kind negated (operand_in kind given)
 
 -- the operation on a result of this type
-abbrev pub operation_in : Resolved → Option ElementaryType → Option Operation
+abbrev pub operation_in : Resolved → Option ElementaryType → Option SimpleOperation
 operation_in (Load negated given) result = load_in negated given (load_type given)
 operation_in (Store kind target) result = stored kind (target_slot target)
-operation_in (Combine operator negated given is_nonzero) result = combine_in operator negated given result
+operation_in (Combine operator negated given is_nonzero) result =
+    combine_in operator negated given result
 operation_in Not result = Some op.Not
 operation_in (Convert conversion) result = Some (op.Convert conversion)
 operation_in other result = None
 
+-- an argument as one of its input's type
 abbrev pub typed_argument : GivenArgument → Option TypedArgument
-typed_argument a = option_map (λ o. record { input = a.input; operand = o }) (operand_in (input_type a.input) a.given)
+typed_argument a =
+    option_map (λ o. record { input = a.input; operand = o })
+    (operand_in (input_type a.input) a.given)
 
+-- the arguments of a call, if each is right
 abbrev pub one_argument : Option TypedArgument → Option TypedArguments
 one_argument None = None
 one_argument (Some a) = Some (typed.One a)
@@ -75,36 +88,44 @@ abbrev pub two_arguments : Option TypedArgument → Option TypedArgument → Opt
 two_arguments (Some a) (Some b) = Some (typed.Two a b)
 two_arguments a b = None
 
+-- the arguments of a call, each as one of its input's type
 abbrev pub arguments_in : GivenArguments → Option TypedArguments
 arguments_in arguments.None = Some typed.None
 arguments_in (arguments.One a) = one_argument (typed_argument a)
 arguments_in (arguments.Two a b) = two_arguments (typed_argument a) (typed_argument b)
 
+-- a call of a timer, if its arguments are right
 abbrev pub call_with : ℕ → Option TypedArguments → Option Transfer
 call_with timer None = None
 call_with timer (Some as_typed) = Some (go.Call timer as_typed)
 
+-- a call, if a timer is called
 abbrev pub call_in : Called → Option TypedArguments → Option Transfer
 call_in (called.Timer timer) args = call_with timer args
 call_in other args = None
 
+-- a jump to a label, if it is there
 abbrev pub jump_in : Condition → Option ℕ → Option Transfer
 jump_in condition None = None
 jump_in condition (Some label) = Some (go.Jump condition label)
 
+-- the jump, return or call that an instruction is
 abbrev pub transfer_in : Resolved → Option Transfer
 transfer_in (Jump condition label) = jump_in condition label
 transfer_in (Return condition) = Some (go.Return condition)
 transfer_in (Call timer args) = call_in timer (arguments_in args)
 transfer_in other = None
 
+-- what is left of an instruction as an entry
 abbrev pub entry_in : Resolved → Option ElementaryType → Option Entry
 entry_in r result = option_map operation (operation_in r result)
 
+-- a jump, return or call, or else an entry, if there is one
 abbrev pub or_entry : Option Transfer → Option Entry → Option Item
 or_entry (Some t) e = Some (transfer t)
 or_entry None e = option_map plain e
 
+-- what is left of an instruction as an item
 abbrev pub item_in : Resolved → Option ElementaryType → Option Item
 item_in r result = or_entry (transfer_in r) (entry_in r result)
 

@@ -2,5 +2,6 @@
 use Rattle.il_check.specs.WellTyped.{Standing}
 use Rattle.il_check.specs.declared.walk.Walk.{Walk}
 
+-- what the walk over the items keeps
 abbrev pub standing_of : Walk → Standing
 standing_of w = record { now = w.reach; arrivals = w.arrivals.items; passed = w.passed }

@@ -1,5 +1,5 @@
--- What is wrong with the instructions of a program (IEC 61131-3:2003, 3.2), with the least types of the
--- current result that what stands before allows; and what is left of one without a fault.
+-- What is wrong with the instructions of a program (IEC 61131-3:2003, 3.2), with the least types of
+-- the current result that what stands before allows; and what is left of one without a fault.
 use Rattle.std.specs.Prelude.{ℕ, ◌+◌, ◌-◌, ◌==◌, Bool, true, false, not, ◌&&◌, nat_lt, nat_le, List, [], ◌∷◌, ◌++◌, slice_get, slice_set, Option, None, Some, option_map, if◌then◌else◌}
 use Rattle.std.specs.List.{cons_option}
 use Rattle.bay_base.specs.declared.types.ElementaryType.{ElementaryType}
@@ -9,14 +9,15 @@ use Rattle.il_text.specs.declared.program.Operator.{Operator}
 use Rattle.il_check.specs.Faults.{fault_if}
 use Rattle.il_check.specs.Given.{Names, resolved}
 use Rattle.il_check.specs.Program as plain
-use Rattle.il_check.specs.Rules.{is_wrong, is_unset, type_after, joins_wrong, joins_unset, misses_name, jumps_back, misses_label, writes_fixed, may_divide_by_zero, divides, gives, goes_on, target_of}
+use Rattle.il_check.specs.Rules.{is_wrong, is_unset, type_after, combines_wrong, combines_unset, misses_name, jumps_back, misses_label, writes_fixed, may_divide_by_zero, divides, gives, goes_on, target_of}
 use Rattle.il_check.specs.Typing.{entry_in, item_in, block_in}
 use Rattle.il_check.specs.declared.reach.Reach.{Reach}
 use Rattle.il_check.specs.declared.given.Resolved.{Resolved}
 use Rattle.il_check.specs.declared.fault.CheckFault.{CheckFault}
 use Rattle.il_check.specs.declared.fault.CheckFault.TheVariants.{UnknownName, DuplicateName, TypeMismatch, UnsetResult, BackwardJump, UnknownLabel, Unreachable, ReadOnly, ZeroDivisor, TooMany}
 
--- the faults of what names mean and of types: in an instruction that can't be reached no type is judged
+-- the faults of what names mean and of types: in an instruction that can't be reached no type is
+-- judged
 abbrev pub typing_faults : Bool → ℕ → ℕ → Resolved → Option ElementaryType → List CheckFault
 typing_faults is_reached passed line r result =
     fault_if (misses_name r) (UnknownName line)
@@ -24,6 +25,7 @@ typing_faults is_reached passed line r result =
     ++ (fault_if (is_reached && is_unset r result) (UnsetResult line)
     ++ fault_if (jumps_back passed r) (BackwardJump line)))
 
+-- the faults of where an instruction stands, and of what it jumps to, writes and divides by
 abbrev pub other_faults : Bool → ℕ → Resolved → List CheckFault
 other_faults is_reached line r =
     fault_if (misses_label r) (UnknownLabel line)
@@ -33,36 +35,43 @@ other_faults is_reached line r =
 
 -- the faults of an instruction behind so many labels
 abbrev pub instruction_faults : Bool → ℕ → ℕ → Resolved → Option ElementaryType → List CheckFault
-instruction_faults is_reached passed line r result = typing_faults is_reached passed line r result ++ other_faults is_reached line r
+instruction_faults is_reached passed line r result =
+    typing_faults is_reached passed line r result ++ other_faults is_reached line r
 
 -- the faults at an operator with a parenthesis: what it divides by is no literal
 abbrev pub opening_faults : Bool → ℕ → Operator → List CheckFault
 opening_faults is_reached line operator =
     fault_if (not is_reached) (Unreachable line) ++ fault_if (divides operator) (ZeroDivisor line)
 
--- the faults at its `)`, where the operator joins what the parenthesis gives to the result
-abbrev pub closing_faults : Bool → ℕ → Operator → Bool → Option ElementaryType → Option ElementaryType → List CheckFault
+-- the faults at its `)`, where the operator combines what the parenthesis gives with the result
+abbrev pub closing_faults : Bool → ℕ → Operator → Bool → Option ElementaryType
+    → Option ElementaryType → List CheckFault
 closing_faults is_reached line operator negated inner result =
-    fault_if (is_reached && joins_wrong operator negated inner result) (TypeMismatch line)
-    ++ (fault_if (is_reached && joins_unset inner result) (UnsetResult line)
+    fault_if (is_reached && combines_wrong operator negated inner result) (TypeMismatch line)
+    ++ (fault_if (is_reached && combines_unset inner result) (UnsetResult line)
     ++ fault_if (not is_reached) (Unreachable line))
 
 -- the type of the result behind an entry
 abbrev pub type_behind : Names → text.Entry → Option ElementaryType → Option ElementaryType
 type_behind names (text.label line name) result = result
 type_behind names (text.action line a) result = type_after (resolved names a) result
-type_behind names (text.block line operator negated items end) result = option_map (gives operator) result
+type_behind names (text.block line operator negated items end) result =
+    option_map (gives operator) result
 
+-- the type of the result behind entries
 abbrev pub type_behind_all : Names → text.Entries → Option ElementaryType → Option ElementaryType
 type_behind_all names text.no_entries result = result
-type_behind_all names (text.entry e es) result = type_behind_all names es (type_behind names e result)
+type_behind_all names (text.entry e es) result =
+    type_behind_all names es (type_behind names e result)
 
 abbrev mutual
-  -- The faults of an entry, in which so many parentheses may stand within one another. A parenthesis begins with a result
-  -- that is not set; of one too deep, what is in it and its end are not judged.
+  -- The faults of an entry, in which so many parentheses may stand within one another. A
+  -- parenthesis begins with a result that is not set; of one too deep, what is in it and its end
+  -- are not judged.
   pub entry_faults : Names → ℕ → Bool → ℕ → text.Entry → Option ElementaryType → List CheckFault
   entry_faults names room is_reached passed (text.label line name) result = []
-  entry_faults names room is_reached passed (text.action line a) result = instruction_faults is_reached passed line (resolved names a) result
+  entry_faults names room is_reached passed (text.action line a) result =
+      instruction_faults is_reached passed line (resolved names a) result
   entry_faults names room is_reached passed (text.block line operator negated items end) result =
       opening_faults is_reached line operator
       ++ (if room == 0 then TooMany line ∷ []
@@ -72,7 +81,8 @@ abbrev mutual
   pub entries_faults : Names → ℕ → Bool → ℕ → text.Entries → Option ElementaryType → List CheckFault
   entries_faults names room is_reached passed text.no_entries result = []
   entries_faults names room is_reached passed (text.entry e es) result =
-      entry_faults names room is_reached passed e result ++ entries_faults names room is_reached passed es (type_behind names e result)
+      entry_faults names room is_reached passed e result
+      ++ entries_faults names room is_reached passed es (type_behind names e result)
 
 abbrev mutual
   -- what is left of an entry; the grammar has no label, jump, return or call within a parenthesis
@@ -80,30 +90,37 @@ abbrev mutual
   entry_left names room (text.label line name) result = None
   entry_left names room (text.action line a) result = entry_in (resolved names a) result
   entry_left names room (text.block line operator negated items end) result =
-      block_in operator negated (if room == 0 then plain.no_entries else entries_left names (room - 1) items None) result
+      block_in operator negated
+      (if room == 0 then plain.no_entries else entries_left names (room - 1) items None) result
 
   pub entries_left : Names → ℕ → text.Entries → Option ElementaryType → plain.Entries
   entries_left names room text.no_entries result = plain.no_entries
-  entries_left names room (text.entry e es) result = plain.entry_before (entry_left names room e result) (entries_left names room es (type_behind names e result))
+  entries_left names room (text.entry e es) result =
+      plain.entry_before (entry_left names room e result)
+      (entries_left names room es (type_behind names e result))
 
+-- both results are set, to one type
 abbrev pub same_result : Option ElementaryType → Option ElementaryType → Bool
 same_result (Some a) (Some b) = same_type a b
 same_result a b = false
 
--- where two ways meet, the result is set where it has one type on both
-abbrev pub met_type : Option ElementaryType → Option ElementaryType → Option ElementaryType
-met_type a b = if same_result a b then a else None
+-- where two ways meet, the result is set if it has one type on both
+abbrev pub join_types : Option ElementaryType → Option ElementaryType → Option ElementaryType
+join_types a b = if same_result a b then a else None
 
-abbrev pub met : Reach → Reach → Reach
-met a b =
+-- the join of what two ways to a place bring
+abbrev pub join : Reach → Reach → Reach
+join a b =
     if not a.is_reached then b
-    else (if not b.is_reached then a else record { is_reached = true; kind = met_type a.kind b.kind })
+    else (if not b.is_reached then a
+    else record { is_reached = true; kind = join_types a.kind b.kind })
 
+-- no way leads to the place
 abbrev pub unreached : Reach
 unreached = record { is_reached = false; kind = None }
 
--- what is known before an item: of the current result; of the result at each label, from the jumps so far;
--- and how many labels stand before
+-- what is known before an item: of the current result; of the result at each label, from the jumps
+-- so far; and how many labels stand before
 pub record Standing : Type 0 where
   pub now : Reach
   pub arrivals : List Reach
@@ -114,9 +131,11 @@ abbrev pub arrival : Option Reach → Reach
 arrival None = unreached
 arrival (Some r) = r
 
+-- what jumps to labels bring, and the jump that is done now
 abbrev pub arrived : Option ℕ → Reach → List Reach → List Reach
 arrived None now arrivals = arrivals
-arrived (Some label) now arrivals = slice_set arrivals label (met (arrival (slice_get arrivals label)) now)
+arrived (Some label) now arrivals =
+    slice_set arrivals label (join (arrival (slice_get arrivals label)) now)
 
 -- behind an instruction
 abbrev pub moved : Resolved → Standing → Standing
@@ -129,7 +148,7 @@ moved r s = record {
 -- behind a label, what falls into it and what jumps to it meet
 abbrev pub behind_label : Standing → Standing
 behind_label s = record {
-  now = met s.now (arrival (slice_get s.arrivals s.passed));
+  now = join s.now (arrival (slice_get s.arrivals s.passed));
   arrivals = s.arrivals;
   passed = s.passed + 1;
 }
@@ -150,8 +169,10 @@ behind names (text.block line operator negated items end) s = behind_block opera
 
 -- before the first item the result is not set
 abbrev pub first : List Reach → Standing
-first arrivals = record { now = record { is_reached = true; kind = None }; arrivals = arrivals; passed = 0 }
+first arrivals =
+    record { now = record { is_reached = true; kind = None }; arrivals = arrivals; passed = 0 }
 
+-- the first label of a name, if there is one, is this, behind so many others
 abbrev pub is_first : ℕ → Option ℕ → Bool
 is_first passed None = true
 is_first passed (Some number) = not (nat_lt number passed)
@@ -159,15 +180,19 @@ is_first passed (Some number) = not (nat_lt number passed)
 -- the faults of a label behind so many others
 abbrev pub label_faults : ℕ → Option ℕ → ℕ → List CheckFault
 label_faults line number passed =
-    fault_if (not (is_first passed number)) (DuplicateName line) ++ fault_if (nat_le 256 passed) (TooMany line)
+    fault_if (not (is_first passed number)) (DuplicateName line)
+    ++ fault_if (nat_le 256 passed) (TooMany line)
 
 -- 16 parentheses at most stand within one another
 abbrev pub item_faults : Names → text.Entry → Standing → List CheckFault
 item_faults names (text.label line name) s = label_faults line (names.label name) s.passed
-item_faults names (text.action line a) s = instruction_faults s.now.is_reached s.passed line (resolved names a) s.now.kind
+item_faults names (text.action line a) s =
+    instruction_faults s.now.is_reached s.passed line (resolved names a) s.now.kind
 item_faults names (text.block line operator negated items end) s =
-    entry_faults names 16 s.now.is_reached s.passed (text.block line operator negated items end) s.now.kind
+    entry_faults names 16 s.now.is_reached s.passed (text.block line operator negated items end)
+    s.now.kind
 
+-- the faults of items behind what is known before them
 abbrev pub items_faults : Names → List text.Entry → Standing → List CheckFault
 items_faults names [] s = []
 items_faults names (e ∷ es) s = item_faults names e s ++ items_faults names es (behind names e s)
@@ -177,8 +202,11 @@ abbrev pub item_left : Names → text.Entry → Standing → Option plain.Item
 item_left names (text.label line name) s = Some (plain.label s.passed)
 item_left names (text.action line a) s = item_in (resolved names a) s.now.kind
 item_left names (text.block line operator negated items end) s =
-    option_map plain.plain (entry_left names 16 (text.block line operator negated items end) s.now.kind)
+    option_map plain.plain (entry_left names 16 (text.block line operator negated items end)
+    s.now.kind)
 
+-- what is left of items
 abbrev pub items_left : Names → List text.Entry → Standing → List plain.Item
 items_left names [] s = []
-items_left names (e ∷ es) s = cons_option (item_left names e s) (items_left names es (behind names e s))
+items_left names (e ∷ es) s =
+    cons_option (item_left names e s) (items_left names es (behind names e s))

@@ -7,7 +7,7 @@ ghost use Rattle.bay_base.specs.Names as names;
 ghost use Rattle.il_text.specs.Views.{declared_of};
 ghost use Rattle.il_check.specs.Faults.{noted, least_fault};
 ghost use Rattle.il_check.specs.NamesView.{with_value};
-ghost use Rattle.il_check.specs.Standing.{StandsFor, Takes, Adds, SameButExternals, SameButVariables, SameButTimers, external_named, variable_named, counts_in};
+ghost use Rattle.il_check.specs.DeclarationsView.{StandsFor, Takes, Adds, SameButExternals, SameButVariables, SameButTimers, external_named, variable_named, counts_in};
 ghost use Rattle.il_check.specs.Declaring as spec;
 
 use crate::fault::CheckFault;
@@ -19,10 +19,10 @@ use crate::rules::number_in;
 use crate::typed::{External, Slot, Timer, Variable};
 use bay_base::names::same_name;
 use bay_base::text::Text;
-use bay_base::types::ElementaryType;
+use bay_base::types::{ElementaryType, TimerKind};
 use bay_config::bay::Point;
 use il_image::value::Value;
-use il_text::program::{Declaration, DeclaredType, Literal, Scope, TimerKind};
+use il_text::program::{Declaration, DeclaredType, Literal, Scope};
 use std::alloc::{AllocError, Global};
 use std::collections::BTreeMap;
 
@@ -53,6 +53,7 @@ fn may_stand(octet: u8) -> bool
     matches!(octet.to_ascii_uppercase(), b'A'..=b'Z' | b'0'..=b'9' | b'_')
 }
 
+/// Whether each of the octets may stand in a name.
 fn all_may_stand(octets: &[u8]) -> bool
     ensures { result ≡ list_all spec.may_stand octets.now }
 {
@@ -67,6 +68,7 @@ fn is_name(name: &str) -> bool
     0 < octets.len() && octets.len() <= MAX_NAME && all_may_stand(octets)
 }
 
+/// The first point with this name, letters in either case.
 fn named_point<'a>(points: &'a [Point], name: &str) -> Option<&'a Point>
     ensures { option_copied result ≡ spec.named_point points.now name.now }
 {
@@ -86,6 +88,7 @@ fn point_of<'a>(points: &'a [Point], name: &str) -> Option<&'a Point>
     }
 }
 
+/// Whether a declaration stands in a VAR_EXTERNAL block.
 fn is_external(scope: Scope) -> bool
     ensures { result ≡ spec.is_external scope }
 {
@@ -95,6 +98,7 @@ fn is_external(scope: Scope) -> bool
     }
 }
 
+/// The value, if it is one of this type.
 fn of_type(kind: ElementaryType, value: Option<Value>) -> Option<Value>
     ensures { result ≡ spec.of_type kind value }
 {
@@ -105,24 +109,12 @@ fn of_type(kind: ElementaryType, value: Option<Value>) -> Option<Value>
 }
 
 /// The value of a type that a literal is, if it is one.
-fn value_in(kind: ElementaryType, literal: Literal) -> Option<Value>
-    ensures { result ≡ spec.value_in kind literal }
+fn literal_value(kind: ElementaryType, literal: Literal) -> Option<Value>
+    ensures { result ≡ spec.literal_value kind literal }
 {
     match literal {
         Literal::Number(number) => number_in(kind, number),
         _ => of_type(kind, typed_value(literal)),
-    }
-}
-
-fn default_value(kind: ElementaryType) -> Value
-    ensures { result ≡ spec.default_value kind }
-{
-    match kind {
-        ElementaryType::Bool => Value::Truth(false),
-        ElementaryType::Int => Value::Short(0),
-        ElementaryType::Dint => Value::Long(0),
-        ElementaryType::Lint => Value::Wide(0),
-        ElementaryType::Time => Value::Span(0),
     }
 }
 
@@ -131,11 +123,12 @@ fn initial_in(kind: ElementaryType, literal: Option<Literal>) -> Option<Value>
     ensures { result ≡ spec.initial_in kind literal }
 {
     match literal {
-        Some(literal) => value_in(kind, literal),
-        None => Some(default_value(kind)),
+        Some(literal) => literal_value(kind, literal),
+        None => Some(Value::default_of(kind)),
     }
 }
 
+/// Whether the point has this type; where there is none, nothing is wrong with its type.
 fn is_kind_of(point: Option<&Point>, kind: ElementaryType) -> bool
     ensures { result ≡ spec.is_kind_of (option_copied point.entry) kind }
 {
@@ -147,7 +140,8 @@ fn is_kind_of(point: Option<&Point>, kind: ElementaryType) -> bool
 
 /// Whether an external has its point's type, and a variable's literal fits it.
 fn is_typed(declaration: Declaration<'_>, point: Option<&Point>) -> bool
-    ensures { result ≡ spec.is_typed declaration.entry.scope declaration.entry.kind (option_copied point.entry) declaration.entry.initial }
+    ensures { result ≡ spec.is_typed declaration.entry.scope declaration.entry.kind
+        (option_copied point.entry) declaration.entry.initial }
 {
     match (declaration.scope, declaration.kind) {
         (Scope::Local, DeclaredType::Elementary(kind)) => {
@@ -159,6 +153,7 @@ fn is_typed(declaration: Declaration<'_>, point: Option<&Point>) -> bool
     }
 }
 
+/// Whether the program may write the point, if it is there.
 fn is_writable(point: Option<&Point>) -> bool
     ensures { result ≡ spec.is_writable (option_copied point.entry) }
 {
@@ -168,8 +163,8 @@ fn is_writable(point: Option<&Point>) -> bool
     }
 }
 
-/// The fault that is answered after a declaration, of which it is known whether its name is declared before,
-/// and whether there is room for one more.
+/// The fault that is answered after a declaration, of which it is known whether its name is
+/// declared before, and whether there is room for one more.
 fn declaration_fault(
     found: Option<CheckFault>,
     point: Option<&Point>,
@@ -177,7 +172,9 @@ fn declaration_fault(
     is_full: bool,
     declaration: Declaration<'_>,
 ) -> Option<CheckFault>
-    ensures { result ≡ noted found (spec.name_faults (option_copied point.entry) is_known is_full (declared_of declaration.entry)) }
+    ensures { result ≡ noted found
+        (spec.name_faults (option_copied point.entry) is_known is_full
+        (declared_of declaration.entry)) }
 {
     let line = declaration.line;
     let is_missing = is_external(declaration.scope) && point.is_none();
@@ -189,6 +186,7 @@ fn declaration_fault(
 }
 
 impl Declarations {
+    /// Nothing is declared.
     fn new(alloc: Global) -> Self
         ensures nothing { (points : List Point) → StandsFor points [] result }
         ensures no_fault { result.found ≡ None }
@@ -217,7 +215,8 @@ impl Declarations {
 
     /// What a name means that is declared next.
     fn next_meaning(&self, scope: Scope, kind: DeclaredType, point: Option<&Point>) -> Meaning
-        ensures { result ≡ spec.meaning_at (counts_in self.now) scope kind (option_copied point.entry) }
+        ensures { result ≡ spec.meaning_at (counts_in self.now) scope kind
+            (option_copied point.entry) }
     {
         match (scope, kind) {
             (Scope::Local, DeclaredType::Elementary(kind)) => Meaning::Variable {
@@ -242,7 +241,8 @@ impl Declarations {
         point: Option<&Point>,
     ) -> Result<(), AllocError>
         ensures externals { OnOk result (self.new.externals.items
-            ≡ self.old.externals.items ++ option_to_list (external_named name kind (option_copied point.entry))) }
+            ≡ self.old.externals.items
+            ++ option_to_list (external_named name kind (option_copied point.entry))) }
         ensures others { OnOk result (SameButExternals self.old self.new) }
     {
         if let Some(point) = point {
@@ -258,7 +258,9 @@ impl Declarations {
 
     /// Adds a variable, if its initial value is right.
     fn add_variable(&mut self, name: Text, initial: Option<Value>) -> Result<(), AllocError>
-        ensures variables { OnOk result (self.new.variables.items ≡ self.old.variables.items ++ option_to_list (variable_named name initial)) }
+        ensures variables { OnOk result
+            (self.new.variables.items
+            ≡ self.old.variables.items ++ option_to_list (variable_named name initial)) }
         ensures others { OnOk result (SameButVariables self.old self.new) }
     {
         if let Some(initial) = initial {
@@ -267,8 +269,11 @@ impl Declarations {
         Ok(())
     }
 
+    /// Adds a timer.
     fn add_timer(&mut self, name: Text, kind: TimerKind) -> Result<(), AllocError>
-        ensures timers { OnOk result (self.new.timers.items ≡ self.old.timers.items ++ record { name = name; kind = kind } ∷ []) }
+        ensures timers { OnOk result
+            (self.new.timers.items
+            ≡ self.old.timers.items ++ record { name = name; kind = kind } ∷ []) }
         ensures others { OnOk result (SameButTimers self.old self.new) }
     {
         self.timers.push(Timer { name, kind })?;
@@ -282,7 +287,8 @@ impl Declarations {
         declaration: Declaration<'_>,
         point: Option<&Point>,
     ) -> Result<(), AllocError>
-        ensures { OnOk result (Adds name (declared_of declaration.entry) (option_copied point.entry) self.old self.new) }
+        ensures { OnOk result (Adds name (declared_of declaration.entry) (option_copied point.entry)
+            self.old self.new) }
     {
         match declaration.kind {
             DeclaredType::Timer(kind) => self.add_timer(name, kind),
@@ -316,7 +322,9 @@ pub(crate) fn declare_all(
     declarations: &[Declaration<'_>],
 ) -> Result<Declarations, AllocError>
     ensures stands { IfOk result (λ d. StandsFor points.now (map declared_of declarations.now) d) }
-    ensures found { IfOk result (λ d. d.found ≡ least_fault (spec.declarations_faults points.now [] (map declared_of declarations.now))) }
+    ensures found { IfOk result
+        (λ d. d.found ≡ least_fault
+        (spec.declarations_faults points.now [] (map declared_of declarations.now))) }
     ensures memory { IfErr result (λ e. 0 < length declarations.now) }
 {
     let mut declared = Declarations::new(alloc);

@@ -36,8 +36,8 @@ pub enum CheckFault {
     /// A divisor is not a literal, or is 0.
     #[error("the divisor is not a literal other than 0")]
     ZeroDivisor { line: usize },
-    /// More than 512 variables, 64 timers or 256 labels are declared, or more than 16 parentheses stand within
-    /// one another.
+    /// More than 512 variables, 64 timers or 256 labels are declared, or more than 16 parentheses
+    /// stand within one another.
     #[error("too many names are declared, or parentheses are too deep")]
     TooMany { line: usize },
     /// There is not enough memory for the program.
@@ -46,9 +46,9 @@ pub enum CheckFault {
 }
 
 impl CheckFault {
-    /// The fault's number: 70 unknown name, 71 duplicate name, 72 type mismatch, 73 unset result, 74 backward
-    /// jump, 75 unknown label, 76 unreachable, 77 read-only, 78 zero divisor, 79 too many; want of memory has
-    /// none.
+    /// The fault's number: 70 unknown name, 71 duplicate name, 72 type mismatch, 73 unset result,
+    /// 74 backward jump, 75 unknown label, 76 unreachable, 77 read-only, 78 zero divisor, 79 too
+    /// many; want of memory has none.
     pub fn code(self) -> Option<u8>
         ensures { result ≡ code_of self }
     {

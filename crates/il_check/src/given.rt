@@ -20,7 +20,7 @@ pub enum Meaning {
 
 /// An operand that has a type, and whether the program may write it.
 #[derive(Clone, Copy)]
-pub struct Source {
+pub struct KnownOperand {
     pub operand: TypedOperand,
     pub kind: ElementaryType,
     pub writable: bool,
@@ -34,7 +34,7 @@ pub enum Given {
     /// A timer's name as a variable, or a variable's name as a timer.
     Misused,
     /// An operand of a type.
-    Known(Source),
+    Known(KnownOperand),
     /// A number without a type.
     Number(i64),
 }

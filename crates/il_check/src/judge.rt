@@ -7,7 +7,7 @@ use crate::fault::CheckFault;
 use crate::given::Resolved;
 use crate::note::note_if;
 use crate::rules::{
-    divides, is_unset, is_wrong, joins_wrong, jumps_back, may_divide_by_zero, misses_label,
+    combines_wrong, divides, is_unset, is_wrong, jumps_back, may_divide_by_zero, misses_label,
     misses_name, writes_fixed,
 };
 use bay_base::types::ElementaryType;
@@ -26,27 +26,29 @@ fn is_first(passed: usize, number: Option<usize>) -> bool
 /// The most labels that a program may have.
 const MAX_LABELS: usize = 256;
 
-/// Where an instruction stands: whether it can be reached, behind how many labels, and how many parentheses
-/// may yet stand around it within one another.
+/// Where an instruction stands: whether it can be reached, behind how many labels, and how many
+/// parentheses may yet stand around it within one another.
 #[derive(Clone, Copy)]
-pub(crate) struct Place {
+pub(crate) struct Context {
     pub(crate) is_reached: bool,
     pub(crate) passed: usize,
     pub(crate) room: usize,
 }
 
+/// The fault that is answered after what an instruction names and what types it works on.
 fn note_typing(
     found: Option<CheckFault>,
-    place: Place,
+    context: Context,
     line: usize,
     resolved: Resolved,
     kind: Option<ElementaryType>,
 ) -> Option<CheckFault>
-    ensures { result ≡ noted found (spec.typing_faults place.is_reached place.passed line resolved kind) }
+    ensures { result ≡ noted found
+        (spec.typing_faults context.is_reached context.passed line resolved kind) }
 {
-    let is_wrong = place.is_reached && is_wrong(resolved, kind);
-    let is_unset = place.is_reached && is_unset(resolved, kind);
-    let is_back = jumps_back(place.passed, resolved);
+    let is_wrong = context.is_reached && is_wrong(resolved, kind);
+    let is_unset = context.is_reached && is_unset(resolved, kind);
+    let is_back = jumps_back(context.passed, resolved);
     let found = note_if(
         found,
         misses_name(resolved),
@@ -57,6 +59,8 @@ fn note_typing(
     note_if(found, is_back, CheckFault::BackwardJump { line })
 }
 
+/// The fault that is answered after where an instruction stands, and what it jumps to, writes and
+/// divides by.
 fn note_others(
     found: Option<CheckFault>,
     is_reached: bool,
@@ -80,15 +84,16 @@ fn note_others(
 /// The fault that is answered after an instruction.
 pub(crate) fn note_instruction(
     found: Option<CheckFault>,
-    place: Place,
+    context: Context,
     line: usize,
     resolved: Resolved,
     kind: Option<ElementaryType>,
 ) -> Option<CheckFault>
-    ensures { result ≡ noted found (spec.instruction_faults place.is_reached place.passed line resolved kind) }
+    ensures { result ≡ noted found
+        (spec.instruction_faults context.is_reached context.passed line resolved kind) }
 {
-    let found = note_typing(found, place, line, resolved, kind);
-    note_others(found, place.is_reached, line, resolved)
+    let found = note_typing(found, context, line, resolved, kind);
+    note_others(found, context.is_reached, line, resolved)
 }
 
 /// The fault that is answered after an operator with a parenthesis.
@@ -121,21 +126,23 @@ pub(crate) fn note_closing(
     closing: Closing,
     kind: Option<ElementaryType>,
 ) -> Option<CheckFault>
-    ensures { result ≡ noted found (spec.closing_faults is_reached line closing.operator closing.negated closing.inner kind) }
+    ensures { result ≡ noted found
+        (spec.closing_faults is_reached line closing.operator closing.negated closing.inner kind) }
 {
     let Closing {
         operator,
         negated,
         inner,
     } = closing;
-    let is_wrong = is_reached && joins_wrong(operator, negated, inner, kind);
+    let is_wrong = is_reached && combines_wrong(operator, negated, inner, kind);
     let is_unset = is_reached && (inner.is_none() || kind.is_none());
     let found = note_if(found, is_wrong, CheckFault::TypeMismatch { line });
     let found = note_if(found, is_unset, CheckFault::UnsetResult { line });
     note_if(found, !is_reached, CheckFault::Unreachable { line })
 }
 
-/// The fault that is answered after a label behind so many others, of which the first of its name is given.
+/// The fault that is answered after a label behind so many others, of which the first of its name
+/// is given.
 #[tactic(auto, using(crate::proofs::NotedLemmas::note_rules))]
 pub(crate) fn note_label(
     found: Option<CheckFault>,

@@ -11,8 +11,8 @@ use il_text::program::Item;
 use std::alloc::{AllocError, Global};
 use std::collections::BTreeMap;
 
-/// The number of the first label of each name, in upper case, and for each label what jumps bring so far:
-/// nothing.
+/// The number of the first label of each name, in upper case, and for each label what jumps bring
+/// so far: nothing.
 #[derive(Drop)]
 pub(crate) struct Labels {
     pub(crate) numbers: BTreeMap<String, usize>,
@@ -20,8 +20,10 @@ pub(crate) struct Labels {
 }
 
 impl Labels {
+    /// Adds a label of this name, which has the next number.
     fn add(&mut self, alloc: Global, name: &str) -> Result<(), AllocError>
-        ensures { OnOk result (AddsLabels ((names.upper name.now, vec_len self.old.arrivals) ∷ []) self.old self.new) }
+        ensures { OnOk result (AddsLabels ((names.upper name.now, vec_len self.old.arrivals) ∷ [])
+            self.old self.new) }
     {
         let number = self.arrivals.len();
         let name = upper_case(alloc, name)?;
@@ -33,7 +35,8 @@ impl Labels {
     /// The label that an item is, if it is one. A label within a parenthesis is none.
     #[tactic(auto, using(crate::proofs::EntryLemmas::entry_rules))]
     fn add_item(&mut self, alloc: Global, item: &Item<'_>) -> Result<(), AllocError>
-        ensures { OnOk result (AddsLabels (label_in (vec_len self.old.arrivals) (entry_of item.now)) self.old self.new) }
+        ensures { OnOk result (AddsLabels (label_in (vec_len self.old.arrivals) (entry_of item.now))
+            self.old self.new) }
     {
         match item {
             Item::Label { name, .. } => self.add(alloc, name),

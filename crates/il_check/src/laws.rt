@@ -3,7 +3,7 @@ ghost use Rattle.std.specs.Prelude.{◌≡◌, ◌↔◌, ◌++◌, [], List, Ok
 ghost use Rattle.bay_base.specs.declared.types.ElementaryType.{ElementaryType};
 ghost use Rattle.bay_config.specs.declared.bay.Point.{Point};
 ghost use Rattle.il_text.specs.Listing as text;
-ghost use Rattle.il_check.specs.Checking.{checked_of, start};
+ghost use Rattle.il_check.specs.Checking.{checked_of, initial_standing};
 ghost use Rattle.il_check.specs.Declaring.{names_in};
 ghost use Rattle.il_check.specs.Faults.{IsLeast, least_fault};
 ghost use Rattle.il_check.specs.Labelling.{Becomes, Flows, IsWellTyped, Labelling, beginning, behind_all, coming_behind};
@@ -13,35 +13,45 @@ ghost use Rattle.il_check.specs.RightProgram.{IsRightProgram};
 ghost use Rattle.il_check.specs.WellTyped.{items_faults};
 ghost use Rattle.il_check.specs.declared.fault.CheckFault.{CheckFault};
 
-/// The items of a program have no fault exactly where some labelling makes every instruction right: a type of the current
-/// result for each label, or none, such that each instruction is reached and right on what comes to it, and each way to a
-/// label brings its type or the label is unset.
+/// The items of a program have no fault exactly where some labelling makes every instruction right:
+/// a type of the current result for each label, or none, such that each instruction is reached and
+/// right on what comes to it, and each way to a label brings its type or the label is unset.
 pub fn some_labelling()
     ensures { (points : List Point) (program : text.PlainProgram) →
-        (items_faults (names_in points program) program.items (start program) ≡ []) ↔ IsWellTyped (names_in points program) program.items }
+        (items_faults (names_in points program) program.items (initial_standing program) ≡ [])
+        ↔ IsWellTyped (names_in points program) program.items }
 {}
 
-/// The checks find the least types: with whatever labelling the items of a front of a program are right, the type of the current
-/// result behind them is the one that the checks have there, or it is unset.
+/// The checks find the least types: with whatever labelling the items of a front of a program are
+/// right, the type of the current result behind them is the one that the checks have there, or it
+/// is unset.
 pub fn least_types()
-    ensures { (points : List Point) (program : text.PlainProgram) (front more : List text.Entry) (labels : Labelling) (t : Option ElementaryType) →
-        program.items ≡ front ++ more → Flows (names_in points program) labels front beginning → coming_behind (names_in points program) labels front beginning ≡ Some t →
-        Becomes (behind_all (names_in points program) front (start program)).now.kind t }
+    ensures { (points : List Point) (program : text.PlainProgram) (front more : List text.Entry)
+        (labels : Labelling) (t : Option ElementaryType) →
+        program.items ≡ front ++ more → Flows (names_in points program) labels front beginning
+        → coming_behind (names_in points program) labels front beginning ≡ Some t →
+        Becomes (behind_all (names_in points program) front (initial_standing program)).now.kind t }
 {}
 
-/// A program passes the checks exactly where its declarations are right and some labelling makes every instruction right.
+/// A program passes the checks exactly where its declarations are right and some labelling makes
+/// every instruction right.
 pub fn right_programs_pass()
-    ensures { (points : List Point) (program : text.PlainProgram) → ((c : Checked) × (checked_of points program ≡ Ok c)) ↔ IsRightProgram points program }
+    ensures { (points : List Point) (program : text.PlainProgram)
+        → ((c : Checked) × (checked_of points program ≡ Ok c)) ↔ IsRightProgram points program }
 {}
 
-/// The fault that is answered is one of those that were found, and none of them stands on a line before it, or on its line with a
-/// lower number.
+/// The fault that is answered is one of those that were found, and none of them stands on a line
+/// before it, or on its line with a lower number.
 pub fn answered_fault_is_least()
-    ensures { (faults : List CheckFault) (fault : CheckFault) → least_fault faults ≡ Some fault → IsLeast fault faults }
+    ensures { (faults : List CheckFault) (fault : CheckFault) → least_fault faults ≡ Some fault
+        → IsLeast fault faults }
 {}
 
-/// A name means its own place: what the name of the n-th external means is the n-th external, and so of variables and timers; what a name
-/// means is declared by that name; and what it means as a label is the number of the label of that name.
+/// A name means its own place: what the name of the n-th external means is the n-th external, and
+/// so of variables and timers; what a name means is declared by that name; and what it means as a
+/// label is the number of the label of that name.
 pub fn a_name_means_its_own_place()
-    ensures { (points : List Point) (program : text.PlainProgram) (c : Checked) → checked_of points program ≡ Ok c → MeanOwnPlaces (names_in points program) c program.items }
+    ensures { (points : List Point) (program : text.PlainProgram) (c : Checked)
+        → checked_of points program ≡ Ok c
+        → MeanOwnPlaces (names_in points program) c program.items }
 {}

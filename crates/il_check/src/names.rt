@@ -40,8 +40,11 @@ pub(crate) fn add_meaning(
     name: String,
     meaning: Meaning,
 ) -> Result<bool, AllocError>
-    ensures known { IfOk result (λ known. known ≡ is_some (get_by_text meanings.old (string_bytes name))) }
-    ensures meanings { OnOk result ((other : List ℕ) → get_by_text meanings.new other ≡ with_value (λ q. get_by_text meanings.old q) (string_bytes name) meaning other) }
+    ensures known { IfOk result
+        (λ known. known ≡ is_some (get_by_text meanings.old (string_bytes name))) }
+    ensures meanings { OnOk result
+        ((other : List ℕ) → get_by_text meanings.new other
+        ≡ with_value (λ q. get_by_text meanings.old q) (string_bytes name) meaning other) }
 {
     if meanings.contains_key(name.as_str()) {
         return Ok(true);
@@ -56,7 +59,9 @@ pub(crate) fn add_label(
     name: String,
     number: usize,
 ) -> Result<(), AllocError>
-    ensures { OnOk result ((other : List ℕ) → get_by_text labels.new other ≡ with_value (λ q. get_by_text labels.old q) (string_bytes name) number other) }
+    ensures { OnOk result ((other : List ℕ)
+        → get_by_text labels.new other
+        ≡ with_value (λ q. get_by_text labels.old q) (string_bytes name) number other) }
 {
     if labels.contains_key(name.as_str()) {
         return Ok(());

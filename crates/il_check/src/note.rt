@@ -5,7 +5,8 @@ ghost use Rattle.il_check.specs.Faults.{fault_if, noted};
 
 use crate::fault::CheckFault;
 
-/// Whether of two numbers the first is the lower. Want of memory, which has none and is noted by no one, would come first.
+/// Whether of two numbers the first is the lower. Want of memory, which has none and is noted by no
+/// one, would come first.
 fn is_lower(first: Option<u8>, second: Option<u8>) -> bool
     ensures { result ≡ spec.is_lower first second }
 {
@@ -20,6 +21,7 @@ fn is_before(first: CheckFault, second: CheckFault) -> bool
     first.line() < second.line() || (is_same && is_lower(first.code(), second.code()))
 }
 
+/// The one of two faults that comes first.
 fn lesser(first: CheckFault, second: CheckFault) -> CheckFault
     ensures { result ≡ spec.lesser first second }
 {

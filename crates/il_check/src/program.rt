@@ -6,8 +6,9 @@ ghost use Rattle.il_check.specs.Sound.{IsSound};
 use crate::typed::{External, Timer, TypedItem, Variable};
 use std::marker::Model;
 
-/// A checked program: its externals, variables and timers, each in the order of their declarations, and its
-/// items. Each name is resolved, and each literal has the type that its instruction works on.
+/// A checked program: its externals, variables and timers, each in the order of their declarations,
+/// and its items. Each name is resolved, and each literal has the type that its instruction works
+/// on.
 #[derive(Drop)]
 pub struct Typed {
     externals: Vec<External>,
@@ -27,9 +28,20 @@ impl Model for Typed {
 
     ghost coded = { Prim.hlevel (codes, entry.the_row.coded) };
 
-    ghost view = { λ t. record { externals = t.externals.items; variables = t.variables.items; timers = t.timers.items; items = t.items.items } };
+    ghost view = { λ t. record {
+      externals = t.externals.items;
+      variables = t.variables.items;
+      timers = t.timers.items;
+      items = t.items.items;
+    } };
 
-    ghost invariant = { λ t. IsSound (checked_view (record { externals = t.externals.items; variables = t.variables.items; timers = t.timers.items; items = t.items.items })) };
+    ghost invariant = { λ t. IsSound (checked_view
+        (record {
+          externals = t.externals.items;
+          variables = t.variables.items;
+          timers = t.timers.items;
+          items = t.items.items;
+        })) };
 }
 
 /// What a checked program is made of.
@@ -84,8 +96,8 @@ impl Typed {
         self.timers.as_slice()
     }
 
-    /// The items, in the order of the text. The program is what the checks make of one without a fault, and it
-    /// is well typed.
+    /// The items, in the order of the text. The program is what the checks make of one without a
+    /// fault, and it is well typed.
     pub fn items(&self) -> &[TypedItem]
         ensures value { result.now ≡ self.now.items }
         ensures sound { IsSound (checked_view self.now) }

@@ -21,6 +21,7 @@ pub(crate) fn unreached() -> Reach
     }
 }
 
+/// Whether both results are set, to one type.
 fn same_result(first: Option<ElementaryType>, second: Option<ElementaryType>) -> bool
     ensures { result ≡ spec.same_result first second }
 {
@@ -30,8 +31,12 @@ fn same_result(first: Option<ElementaryType>, second: Option<ElementaryType>) ->
     }
 }
 
-fn met_type(first: Option<ElementaryType>, second: Option<ElementaryType>) -> Option<ElementaryType>
-    ensures { result ≡ spec.met_type first second }
+/// The type of a result that has the first type on one way and the second on the other.
+fn join_types(
+    first: Option<ElementaryType>,
+    second: Option<ElementaryType>,
+) -> Option<ElementaryType>
+    ensures { result ≡ spec.join_types first second }
 {
     if same_result(first, second) {
         first
@@ -40,9 +45,9 @@ fn met_type(first: Option<ElementaryType>, second: Option<ElementaryType>) -> Op
     }
 }
 
-/// Where two ways meet.
-pub(crate) fn met(first: Reach, second: Reach) -> Reach
-    ensures { result ≡ spec.met first second }
+/// The join of what two ways to a place bring.
+pub(crate) fn join(first: Reach, second: Reach) -> Reach
+    ensures { result ≡ spec.join first second }
 {
     if !first.is_reached {
         second
@@ -51,7 +56,7 @@ pub(crate) fn met(first: Reach, second: Reach) -> Reach
     } else {
         Reach {
             is_reached: true,
-            kind: met_type(first.kind, second.kind),
+            kind: join_types(first.kind, second.kind),
         }
     }
 }

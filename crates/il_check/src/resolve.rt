@@ -6,12 +6,14 @@ ghost use Rattle.il_text.specs.Listing as text;
 ghost use Rattle.il_check.specs.Given as spec;
 ghost use Rattle.il_check.specs.NamesView.{names_of};
 
-use crate::given::{Called, Given, GivenArgument, GivenArguments, Meaning, Resolved, Source};
+use crate::given::{Called, Given, GivenArgument, GivenArguments, KnownOperand, Meaning, Resolved};
 use crate::names::Names;
 use crate::typed::TypedOperand;
 use bay_base::types::ElementaryType;
 use il_image::value::Value;
-use il_text::program::{Argument, Arguments, Instruction, Literal, Operand, Output, Variable};
+use il_text::program::{
+    Argument, Arguments, Instruction, Literal, Operand, Output, SymbolicVariable,
+};
 use std::alloc::AllocError;
 
 /// The value of a literal that has a type, if its number is one of the type's. A TIME is at most
@@ -29,11 +31,13 @@ pub(crate) fn typed_value(literal: Literal) -> Option<Value>
     }
 }
 
+/// A literal's value as an operand, which may only be read; a number that is none of its type's is
+/// misused.
 fn known(value: Option<Value>) -> Given
     ensures { result ≡ spec.known value }
 {
     match value {
-        Some(value) => Given::Known(Source {
+        Some(value) => Given::Known(KnownOperand {
             operand: TypedOperand::Literal(value),
             kind: value.type_of(),
             writable: false,
@@ -42,6 +46,7 @@ fn known(value: Option<Value>) -> Given
     }
 }
 
+/// A number without a type, which is one of LINT at least.
 fn number_given(number: i64) -> Given
     ensures { result ≡ spec.number_given number }
 {
@@ -52,6 +57,7 @@ fn number_given(number: i64) -> Given
     }
 }
 
+/// A literal as an operand.
 fn literal_given(literal: Literal) -> Given
     ensures { result ≡ spec.literal_given literal }
 {
@@ -61,6 +67,7 @@ fn literal_given(literal: Literal) -> Given
     }
 }
 
+/// What a name means as a variable.
 fn variable_given(meaning: Option<Meaning>) -> Given
     ensures { result ≡ spec.variable_given meaning }
 {
@@ -72,7 +79,7 @@ fn variable_given(meaning: Option<Meaning>) -> Given
                 kind,
                 writable,
             },
-        ) => Given::Known(Source {
+        ) => Given::Known(KnownOperand {
             operand: TypedOperand::Slot(slot),
             kind,
             writable,
@@ -81,6 +88,7 @@ fn variable_given(meaning: Option<Meaning>) -> Given
     }
 }
 
+/// The type of an output of a timer.
 fn output_type(output: Output) -> ElementaryType
     ensures { result ≡ spec.output_type output }
 {
@@ -90,13 +98,14 @@ fn output_type(output: Output) -> ElementaryType
     }
 }
 
+/// What a name means as the timer of an output.
 fn output_given(meaning: Option<Meaning>, output: Output) -> Given
     ensures { result ≡ spec.output_given meaning output }
 {
     match meaning {
         None => Given::Missing,
         Some(Meaning::Variable { .. }) => Given::Misused,
-        Some(Meaning::Timer(timer)) => Given::Known(Source {
+        Some(Meaning::Timer(timer)) => Given::Known(KnownOperand {
             operand: TypedOperand::Output { timer, output },
             kind: output_type(output),
             writable: false,
@@ -104,6 +113,7 @@ fn output_given(meaning: Option<Meaning>, output: Output) -> Given
     }
 }
 
+/// Whether a literal is other than 0 and FALSE.
 fn is_nonzero_literal(literal: Literal) -> bool
     ensures { result ≡ spec.is_nonzero_literal literal }
 {
@@ -127,6 +137,7 @@ fn is_nonzero(operand: Operand<'_>) -> bool
     }
 }
 
+/// What a name means as a timer that is called.
 fn called_of(meaning: Option<Meaning>) -> Called
     ensures { result ≡ spec.called_of meaning }
 {
@@ -138,32 +149,42 @@ fn called_of(meaning: Option<Meaning>) -> Called
 }
 
 impl Names {
-    fn place(&self, buffer: &mut String, variable: Variable<'_>) -> Result<Given, AllocError>
-        ensures { IfOk result (λ given. given ≡ spec.place_given (names_of self.now) (place_of variable.entry)) }
+    /// What a symbolic variable means: a variable, or an output of a timer.
+    fn variable(
+        &self,
+        buffer: &mut String,
+        variable: SymbolicVariable<'_>,
+    ) -> Result<Given, AllocError>
+        ensures { IfOk result (λ given. given
+            ≡ spec.place_given (names_of self.now) (place_of variable.entry)) }
     {
         match variable {
-            Variable::Name(name) => Ok(variable_given(self.meaning(buffer, name)?)),
-            Variable::Output { timer, output } => {
+            SymbolicVariable::Name(name) => Ok(variable_given(self.meaning(buffer, name)?)),
+            SymbolicVariable::Output { timer, output } => {
                 Ok(output_given(self.meaning(buffer, timer)?, output))
             }
         }
     }
 
+    /// What an operand means.
     fn operand(&self, buffer: &mut String, operand: Operand<'_>) -> Result<Given, AllocError>
-        ensures { IfOk result (λ given. given ≡ spec.source_given (names_of self.now) (source_of operand.entry)) }
+        ensures { IfOk result (λ given. given
+            ≡ spec.source_given (names_of self.now) (source_of operand.entry)) }
     {
         match operand {
             Operand::Literal(literal) => Ok(literal_given(literal)),
-            Operand::Variable(variable) => self.place(buffer, variable),
+            Operand::Variable(variable) => self.variable(buffer, variable),
         }
     }
 
+    /// What a call gives to one input.
     fn argument(
         &self,
         buffer: &mut String,
         argument: Argument<'_>,
     ) -> Result<GivenArgument, AllocError>
-        ensures { IfOk result (λ given. given ≡ spec.argument_given (names_of self.now) (argument_of argument.entry)) }
+        ensures { IfOk result (λ given. given
+            ≡ spec.argument_given (names_of self.now) (argument_of argument.entry)) }
     {
         Ok(GivenArgument {
             input: argument.input,
@@ -171,12 +192,14 @@ impl Names {
         })
     }
 
+    /// What a call gives to its inputs.
     fn arguments(
         &self,
         buffer: &mut String,
         arguments: Arguments<'_>,
     ) -> Result<GivenArguments, AllocError>
-        ensures { IfOk result (λ given. given ≡ spec.arguments_given (names_of self.now) (arguments_of arguments.entry)) }
+        ensures { IfOk result (λ given. given
+            ≡ spec.arguments_given (names_of self.now) (arguments_of arguments.entry)) }
     {
         match arguments {
             Arguments::None => Ok(GivenArguments::None),
@@ -189,26 +212,31 @@ impl Names {
         }
     }
 
+    /// A call with what its names mean.
     fn call(
         &self,
         buffer: &mut String,
         timer: &str,
         arguments: Arguments<'_>,
     ) -> Result<Resolved, AllocError>
-        ensures { IfOk result (λ r. r ≡ spec.resolved (names_of self.now) (text.call timer.now (arguments_of arguments.entry))) }
+        ensures { IfOk result (λ r. r
+            ≡ spec.resolved (names_of self.now)
+            (text.call timer.now (arguments_of arguments.entry))) }
     {
         let called = called_of(self.meaning(buffer, timer)?);
         let arguments = self.arguments(buffer, arguments)?;
         Ok(Resolved::Call { called, arguments })
     }
 
-    /// An instruction with what its names mean. No memory is taken for a name of at most 64 characters.
+    /// An instruction with what its names mean. No memory is taken for a name of at most 64
+    /// characters.
     pub(crate) fn resolve(
         &self,
         buffer: &mut String,
         instruction: Instruction<'_>,
     ) -> Result<Resolved, AllocError>
-        ensures { IfOk result (λ r. r ≡ spec.resolved (names_of self.now) (action_of instruction.entry)) }
+        ensures { IfOk result (λ r. r
+            ≡ spec.resolved (names_of self.now) (action_of instruction.entry)) }
     {
         match instruction {
             Instruction::Load { negated, operand } => {
@@ -216,7 +244,7 @@ impl Names {
                 Ok(Resolved::Load { negated, given })
             }
             Instruction::Store { kind, target } => {
-                let target = self.place(buffer, target)?;
+                let target = self.variable(buffer, target)?;
                 Ok(Resolved::Store { kind, target })
             }
             Instruction::Combine {

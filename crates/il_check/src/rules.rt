@@ -1,4 +1,5 @@
-// What instructions want of the current result, and what they leave (IEC 61131-3:2003, 3.2.2 and table 52).
+// What instructions want of the current result, and what they leave (IEC 61131-3:2003, 3.2.2 and
+// table 52).
 ghost use Rattle.std.specs.Prelude.{◌≡◌, option_map};
 ghost use Rattle.il_check.specs.Rules as spec;
 
@@ -38,6 +39,7 @@ pub(crate) fn operand_in(kind: ElementaryType, given: Given) -> Option<TypedOper
     }
 }
 
+/// Whether the operand can be one of the type.
 fn fits(kind: ElementaryType, given: Given) -> bool
     ensures { result ≡ spec.fits kind given }
 {
@@ -68,12 +70,14 @@ pub(crate) fn load_type(given: Given) -> Option<ElementaryType>
     }
 }
 
+/// Whether this is BOOL, the only type that is negated and that decides.
 fn is_boolean(kind: ElementaryType) -> bool
     ensures { result ≡ spec.is_boolean kind }
 {
     ElementaryType::Bool.is(kind)
 }
 
+/// Whether this is INT, DINT or LINT.
 fn is_number(kind: ElementaryType) -> bool
     ensures { result ≡ spec.is_number kind }
 {
@@ -128,6 +132,7 @@ pub(crate) fn given_type(
     }
 }
 
+/// Whether the operator divides by its operand.
 pub(crate) fn divides(operator: Operator) -> bool
     ensures { result ≡ spec.divides operator }
 {
@@ -137,18 +142,21 @@ pub(crate) fn divides(operator: Operator) -> bool
     }
 }
 
+/// Whether an operand of the type may be negated, if it is: only a BOOL may.
 fn may_negate(negated: bool, kind: ElementaryType) -> bool
     ensures { result ≡ spec.may_negate negated kind }
 {
     !negated || is_boolean(kind)
 }
 
+/// Whether the operator, which may negate its operand, works on the type.
 fn works(operator: Operator, negated: bool, kind: ElementaryType) -> bool
     ensures { result ≡ spec.works operator negated kind }
 {
     takes(operator, kind) && may_negate(negated, kind)
 }
 
+/// Whether a store writes the result as it is.
 fn is_plain(kind: StoreKind) -> bool
     ensures { result ≡ spec.is_plain kind }
 {
@@ -158,6 +166,7 @@ fn is_plain(kind: StoreKind) -> bool
     }
 }
 
+/// Whether a jump or a return looks at the result.
 fn is_conditional(condition: Condition) -> bool
     ensures { result ≡ spec.is_conditional condition }
 {
@@ -167,6 +176,7 @@ fn is_conditional(condition: Condition) -> bool
     }
 }
 
+/// The type of what a conversion takes.
 fn converted_from(conversion: Conversion) -> ElementaryType
     ensures { result ≡ spec.converted_from conversion }
 {
@@ -176,6 +186,7 @@ fn converted_from(conversion: Conversion) -> ElementaryType
     }
 }
 
+/// The type of what a conversion gives.
 fn converted_to(conversion: Conversion) -> ElementaryType
     ensures { result ≡ spec.converted_to conversion }
 {
@@ -185,6 +196,7 @@ fn converted_to(conversion: Conversion) -> ElementaryType
     }
 }
 
+/// The type of an input of a timer.
 pub(crate) fn input_type(input: Input) -> ElementaryType
     ensures { result ≡ spec.input_type input }
 {
@@ -194,12 +206,14 @@ pub(crate) fn input_type(input: Input) -> ElementaryType
     }
 }
 
+/// Whether an argument has its input's type.
 fn argument_fits(argument: GivenArgument) -> bool
     ensures { result ≡ spec.argument_fits argument }
 {
     fits(input_type(argument.input), argument.given)
 }
 
+/// Whether each argument has its input's type.
 fn arguments_fit(arguments: GivenArguments) -> bool
     ensures { result ≡ spec.arguments_fit arguments }
 {
@@ -210,6 +224,7 @@ fn arguments_fit(arguments: GivenArguments) -> bool
     }
 }
 
+/// Whether what is called is a timer.
 fn is_timer(called: Called) -> bool
     ensures { result ≡ spec.is_timer called }
 {
@@ -219,6 +234,7 @@ fn is_timer(called: Called) -> bool
     }
 }
 
+/// Whether a value of this type may be loaded, negated or not; where there is none, nothing may.
 fn may_load(negated: bool, kind: Option<ElementaryType>) -> bool
     ensures { result ≡ spec.may_load negated kind }
 {
@@ -252,6 +268,7 @@ fn allows(resolved: Resolved, kind: ElementaryType) -> bool
     }
 }
 
+/// Whether the instruction looks at the current result.
 fn uses_result(resolved: Resolved) -> bool
     ensures { result ≡ spec.uses_result resolved }
 {
@@ -311,38 +328,39 @@ fn may_be(kind: ElementaryType, inner: Option<ElementaryType>) -> bool
 }
 
 /// Whether the operator of a parenthesis is right on a result of this type.
-fn joins(
+fn combines(
     operator: Operator,
     negated: bool,
     inner: Option<ElementaryType>,
     kind: ElementaryType,
 ) -> bool
-    ensures { result ≡ spec.joins operator negated inner kind }
+    ensures { result ≡ spec.combines operator negated inner kind }
 {
     works(operator, negated, kind) && may_be(kind, inner)
 }
 
 /// Whether no type that the result may have makes the operator of a parenthesis right.
-pub(crate) fn joins_wrong(
+pub(crate) fn combines_wrong(
     operator: Operator,
     negated: bool,
     inner: Option<ElementaryType>,
     kind: Option<ElementaryType>,
 ) -> bool
-    ensures { result ≡ spec.joins_wrong operator negated inner kind }
+    ensures { result ≡ spec.combines_wrong operator negated inner kind }
 {
     match kind {
-        Some(kind) => !joins(operator, negated, inner, kind),
+        Some(kind) => !combines(operator, negated, inner, kind),
         None => {
-            !(joins(operator, negated, inner, ElementaryType::Bool)
-                || joins(operator, negated, inner, ElementaryType::Int)
-                || joins(operator, negated, inner, ElementaryType::Dint)
-                || joins(operator, negated, inner, ElementaryType::Lint)
-                || joins(operator, negated, inner, ElementaryType::Time))
+            !(combines(operator, negated, inner, ElementaryType::Bool)
+                || combines(operator, negated, inner, ElementaryType::Int)
+                || combines(operator, negated, inner, ElementaryType::Dint)
+                || combines(operator, negated, inner, ElementaryType::Lint)
+                || combines(operator, negated, inner, ElementaryType::Time))
         }
     }
 }
 
+/// Whether the operand is a name that is not declared.
 fn is_missing(given: Given) -> bool
     ensures { result ≡ spec.is_missing given }
 {
@@ -352,6 +370,7 @@ fn is_missing(given: Given) -> bool
     }
 }
 
+/// Whether an argument is a name that is not declared.
 fn misses_argument(arguments: GivenArguments) -> bool
     ensures { result ≡ spec.misses_argument arguments }
 {
@@ -362,6 +381,7 @@ fn misses_argument(arguments: GivenArguments) -> bool
     }
 }
 
+/// Whether what is called is a name that is not declared.
 fn misses_timer(called: Called) -> bool
     ensures { result ≡ spec.misses_timer called }
 {
@@ -406,6 +426,7 @@ pub(crate) fn misses_label(resolved: Resolved) -> bool
     }
 }
 
+/// Whether the target may only be read.
 fn is_fixed(given: Given) -> bool
     ensures { result ≡ spec.is_fixed given }
 {

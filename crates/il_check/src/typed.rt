@@ -2,12 +2,13 @@
 ghost use Rattle.std.specs.Prelude.{◌≡◌};
 
 use bay_base::text::Text;
-use bay_base::types::ElementaryType;
+use bay_base::types::{ElementaryType, TimerKind};
 use bay_config::bay::Source;
 use il_image::value::Value;
-use il_text::program::{Condition, Conversion, Input, Operator, Output, StoreKind, TimerKind};
+use il_text::program::{Condition, Conversion, Input, Operator, Output, StoreKind};
 
-/// A variable that is given to the program (IEC 61131-3:2003, 2.4.3, VAR_EXTERNAL): a point of the bay.
+/// A variable that is given to the program (IEC 61131-3:2003, 2.4.3, VAR_EXTERNAL): a point of the
+/// bay.
 #[derive(Drop)]
 pub struct External {
     /// Its name, in upper case.
@@ -36,7 +37,8 @@ pub struct Timer {
     pub kind: TimerKind,
 }
 
-/// Where a value lives: the external, or the variable, at this place in the order of the declarations.
+/// Where a value lives: the external, or the variable, at this place in the order of the
+/// declarations.
 #[derive(Clone, Copy, PartialEq, Eq)]
 pub enum Slot {
     External(usize),
@@ -54,7 +56,7 @@ pub enum TypedOperand {
 
 /// An instruction that may stand in a parenthesis (IEC 61131-3:2003, table 52).
 #[derive(Clone, Copy, PartialEq, Eq)]
-pub enum Operation {
+pub enum SimpleOperation {
     /// `LD`, `LDN`
     Load {
         negated: bool,
@@ -78,11 +80,11 @@ pub enum Operation {
     Convert(Conversion),
 }
 
-/// An operation, or a parenthesis: an operator on the result and what its entries give, which are both of
-/// this type.
+/// An operation, or a parenthesis: an operator on the result and what its entries give, which are
+/// both of this type.
 #[derive(Drop)]
 pub enum TypedEntry {
-    Operation(Operation),
+    Operation(SimpleOperation),
     Block {
         operator: Operator,
         kind: ElementaryType,

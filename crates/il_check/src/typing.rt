@@ -4,15 +4,16 @@ ghost use Rattle.il_check.specs.Typing as spec;
 
 use crate::given::{Called, Given, GivenArgument, GivenArguments, Resolved};
 use crate::rules::{input_type, load_type, operand_in};
-use crate::typed::{Operation, Slot, Transfer, TypedArgument, TypedArguments, TypedOperand};
+use crate::typed::{SimpleOperation, Slot, Transfer, TypedArgument, TypedArguments, TypedOperand};
 use bay_base::types::ElementaryType;
 use il_text::program::{Operator, StoreKind};
 
-fn load_in(negated: bool, given: Given, kind: Option<ElementaryType>) -> Option<Operation>
+/// A load of the operand as one of this type.
+fn load_in(negated: bool, given: Given, kind: Option<ElementaryType>) -> Option<SimpleOperation>
     ensures { result ≡ spec.load_in negated given kind }
 {
     let operand = operand_in(kind?, given)?;
-    Some(Operation::Load { negated, operand })
+    Some(SimpleOperation::Load { negated, operand })
 }
 
 /// The slot of a target that is a variable.
@@ -28,24 +29,26 @@ fn target_slot(target: Given) -> Option<Slot>
     }
 }
 
-fn stored(kind: StoreKind, slot: Option<Slot>) -> Option<Operation>
+/// A store into the slot, if there is one.
+fn stored(kind: StoreKind, slot: Option<Slot>) -> Option<SimpleOperation>
     ensures { result ≡ spec.stored kind slot }
 {
     let slot = slot?;
-    Some(Operation::Store { kind, slot })
+    Some(SimpleOperation::Store { kind, slot })
 }
 
+/// An operator on a result of this type, with the operand as one of the type.
 fn combine_in(
     operator: Operator,
     negated: bool,
     given: Given,
     kind: Option<ElementaryType>,
-) -> Option<Operation>
+) -> Option<SimpleOperation>
     ensures { result ≡ spec.combine_in operator negated given kind }
 {
     let kind = kind?;
     let operand = operand_in(kind, given)?;
-    Some(Operation::Combine {
+    Some(SimpleOperation::Combine {
         operator,
         kind,
         negated,
@@ -54,7 +57,10 @@ fn combine_in(
 }
 
 /// The operation on a result of this type.
-pub(crate) fn operation_in(resolved: Resolved, kind: Option<ElementaryType>) -> Option<Operation>
+pub(crate) fn operation_in(
+    resolved: Resolved,
+    kind: Option<ElementaryType>,
+) -> Option<SimpleOperation>
     ensures { result ≡ spec.operation_in resolved kind }
 {
     match resolved {
@@ -66,12 +72,13 @@ pub(crate) fn operation_in(resolved: Resolved, kind: Option<ElementaryType>) -> 
             given,
             ..
         } => combine_in(operator, negated, given, kind),
-        Resolved::Not => Some(Operation::Not),
-        Resolved::Convert(conversion) => Some(Operation::Convert(conversion)),
+        Resolved::Not => Some(SimpleOperation::Not),
+        Resolved::Convert(conversion) => Some(SimpleOperation::Convert(conversion)),
         Resolved::Jump { .. } | Resolved::Return(_) | Resolved::Call { .. } => None,
     }
 }
 
+/// An argument as one of its input's type.
 fn typed_argument(argument: GivenArgument) -> Option<TypedArgument>
     ensures { result ≡ spec.typed_argument argument }
 {
@@ -84,6 +91,7 @@ fn typed_argument(argument: GivenArgument) -> Option<TypedArgument>
     }
 }
 
+/// The arguments, if each has its input's type.
 fn arguments_in(arguments: GivenArguments) -> Option<TypedArguments>
     ensures { result ≡ spec.arguments_in arguments }
 {
@@ -99,6 +107,7 @@ fn arguments_in(arguments: GivenArguments) -> Option<TypedArguments>
     }
 }
 
+/// A call, if a timer is called and its arguments are right.
 fn call_in(called: Called, arguments: Option<TypedArguments>) -> Option<Transfer>
     ensures { result ≡ spec.call_in called arguments }
 {

@@ -9,16 +9,15 @@ ghost use Rattle.il_check.specs.ProgramViews.{entry_view, item_view};
 ghost use Rattle.il_check.specs.Program as plain;
 ghost use Rattle.il_check.specs.Given.{resolved};
 ghost use Rattle.il_check.specs.Typing as typing;
-ghost use Rattle.il_check.specs.Rules as spec_rules;
 ghost use Rattle.il_check.specs.WalkView.{standing_of};
 ghost use Rattle.il_check.specs.WellTyped as spec;
 
 use crate::fault::CheckFault;
 use crate::given::Resolved;
-use crate::judge::{Closing, Place, note_closing, note_instruction, note_label, note_opening};
+use crate::judge::{Closing, Context, note_closing, note_instruction, note_label, note_opening};
 use crate::names::Names;
 use crate::note::note_if;
-use crate::reach::{Reach, met, unreached};
+use crate::reach::{Reach, join, unreached};
 use crate::rules::{given_type, goes_on, target_of, type_after};
 use crate::typed::{TypedEntry, TypedItem};
 use crate::typing::{operation_in, transfer_in};
@@ -29,8 +28,8 @@ use std::alloc::{AllocError, Global};
 /// The most parentheses that may stand within one another.
 const MAX_DEPTH: usize = 16;
 
-/// What is kept from item to item: the fault that is answered, if there is one so far, and a buffer for
-/// names that are looked up.
+/// What is kept from item to item: the fault that is answered, if there is one so far, and a buffer
+/// for names that are looked up.
 #[derive(Drop)]
 pub(crate) struct Judge {
     pub(crate) alloc: Global,
@@ -40,11 +39,18 @@ pub(crate) struct Judge {
 
 /// The operator of a parenthesis, and the lines of both of its ends.
 #[derive(Clone, Copy)]
-struct Frame {
+struct Parenthesis {
     line: usize,
     operator: Operator,
     negated: bool,
     end: usize,
+}
+
+/// What is left of one entry, if something is, and the type of the result behind it.
+#[derive(Drop)]
+struct EntryLeft {
+    entry: Option<TypedEntry>,
+    kind: Option<ElementaryType>,
 }
 
 /// What is left of entries, and the type of the result behind them.
@@ -59,84 +65,106 @@ impl Judge {
     fn instruction(
         &mut self,
         names: &Names,
-        place: Place,
+        context: Context,
         line: usize,
         instruction: Instruction<'_>,
         kind: Option<ElementaryType>,
     ) -> Result<Resolved, AllocError>
-        ensures resolved { IfOk result (λ r. r ≡ resolved (names_of names.now) (action_of instruction.entry)) }
+        ensures resolved { IfOk result
+            (λ r. r ≡ resolved (names_of names.now) (action_of instruction.entry)) }
         ensures found { OnOk result (self.new.found
-            ≡ noted self.old.found (spec.instruction_faults place.is_reached place.passed line (resolved (names_of names.now) (action_of instruction.entry)) kind)) }
+            ≡ noted self.old.found
+            (spec.instruction_faults context.is_reached context.passed line
+            (resolved (names_of names.now) (action_of instruction.entry)) kind)) }
     {
         let resolved = names.resolve(&mut self.buffer, instruction)?;
-        self.found = note_instruction(self.found, place, line, resolved, kind);
+        self.found = note_instruction(self.found, context, line, resolved, kind);
         Ok(resolved)
     }
 
-    /// An instruction in a parenthesis.
+    /// An instruction in a parenthesis, on a result of this type, if that is set.
     fn operate(
         &mut self,
         names: &Names,
-        place: Place,
+        context: Context,
         line: usize,
         instruction: Instruction<'_>,
-        passed: &mut Passed,
-    ) -> Result<(), AllocError>
-        ensures kind { OnOk result (passed.new.kind ≡ spec.type_behind (names_of names.now) (text.action line (action_of instruction.entry)) passed.old.kind) }
-        ensures left { OnOk result (map entry_view passed.new.entries.items
-            ≡ map entry_view passed.old.entries.items
-            ++ option_to_list (spec.entry_left (names_of names.now) place.room (text.action line (action_of instruction.entry)) passed.old.kind)) }
+        kind: Option<ElementaryType>,
+    ) -> Result<EntryLeft, AllocError>
+        ensures kind { IfOk result
+            (λ l. l.kind ≡ spec.type_behind (names_of names.now)
+            (text.action line (action_of instruction.entry)) kind) }
+        ensures left { IfOk result
+            (λ l. option_map entry_view l.entry
+            ≡ spec.entry_left (names_of names.now) context.room
+            (text.action line (action_of instruction.entry)) kind) }
         ensures found { OnOk result (self.new.found
-            ≡ noted self.old.found (spec.entry_faults (names_of names.now) place.room place.is_reached place.passed
-            (text.action line (action_of instruction.entry)) passed.old.kind)) }
+            ≡ noted self.old.found
+            (spec.entry_faults (names_of names.now) context.room context.is_reached context.passed
+            (text.action line (action_of instruction.entry)) kind)) }
     {
-        let resolved = self.instruction(names, place, line, instruction, passed.kind)?;
-        passed.add_operation(resolved)
+        let resolved = self.instruction(names, context, line, instruction, kind)?;
+        Ok(EntryLeft {
+            entry: entry_in(resolved, kind),
+            kind: type_after(resolved, kind),
+        })
     }
 
-    /// The entries of a parenthesis, or of what is before its end.
+    /// The entries of a parenthesis.
     #[cycle(entries)]
     fn entries(
         &mut self,
         names: &Names,
-        place: Place,
+        context: Context,
         items: &[Item<'_>],
     ) -> Result<Passed, AllocError>
-        ensures kind { IfOk result (λ p. p.kind ≡ spec.type_behind_all (names_of names.now) (text.entries_of (map entry_of items.now)) None) }
-        ensures left { IfOk result (λ p. plain.entries_of (map entry_view p.entries.items) ≡ spec.entries_left (names_of names.now) place.room (text.entries_of (map entry_of items.now)) None) }
+        ensures kind { IfOk result
+            (λ p. p.kind ≡ spec.type_behind_all (names_of names.now)
+            (text.entries_of (map entry_of items.now)) None) }
+        ensures left { IfOk result
+            (λ p. plain.entries_of (map entry_view p.entries.items)
+            ≡ spec.entries_left (names_of names.now) context.room
+            (text.entries_of (map entry_of items.now)) None) }
         ensures found { OnOk result (self.new.found
-            ≡ noted self.old.found (spec.entries_faults (names_of names.now) place.room place.is_reached place.passed (text.entries_of (map entry_of items.now)) None)) }
+            ≡ noted self.old.found
+            (spec.entries_faults (names_of names.now) context.room context.is_reached context.passed
+            (text.entries_of (map entry_of items.now)) None)) }
     {
         let mut passed = Passed {
             entries: Vec::new(self.alloc),
             kind: None,
         };
         for item in items {
-            self.entry(names, place, item, &mut passed)?;
+            let left = self.entry(names, context, item, passed.kind)?;
+            passed.add(left)?;
         }
         Ok(passed)
     }
 
-    /// One entry more.
+    /// One entry, on a result of this type, if that is set.
     #[cycle(entries)]
     #[tactic(auto, using(crate::proofs::EntryLemmas::entry_rules))]
     fn entry(
         &mut self,
         names: &Names,
-        place: Place,
+        context: Context,
         item: &Item<'_>,
-        passed: &mut Passed,
-    ) -> Result<(), AllocError>
-        ensures kind { OnOk result (passed.new.kind ≡ spec.type_behind (names_of names.now) (entry_of item.now) passed.old.kind) }
-        ensures left { OnOk result (map entry_view passed.new.entries.items
-            ≡ map entry_view passed.old.entries.items ++ option_to_list (spec.entry_left (names_of names.now) place.room (entry_of item.now) passed.old.kind)) }
+        kind: Option<ElementaryType>,
+    ) -> Result<EntryLeft, AllocError>
+        ensures kind { IfOk result
+            (λ l. l.kind ≡ spec.type_behind (names_of names.now) (entry_of item.now) kind) }
+        ensures left { IfOk result
+            (λ l. option_map entry_view l.entry
+            ≡ spec.entry_left (names_of names.now) context.room (entry_of item.now) kind) }
         ensures found { OnOk result (self.new.found
-            ≡ noted self.old.found (spec.entry_faults (names_of names.now) place.room place.is_reached place.passed (entry_of item.now) passed.old.kind)) }
+            ≡ noted self.old.found
+            (spec.entry_faults (names_of names.now) context.room context.is_reached context.passed
+            (entry_of item.now) kind)) }
     {
         match item {
-            Item::Label { .. } => Ok(()),
+            Item::Label { .. } => Ok(EntryLeft { entry: None, kind }),
             Item::Instruction { line, instruction } => {
-                self.operate(names, place, *line, *instruction, passed)
+                self.operate(names, context, *line, *instruction, kind)
             }
             Item::Block {
                 line,
@@ -145,50 +173,57 @@ impl Judge {
                 items,
                 end,
             } => {
-                let frame = Frame {
+                let parenthesis = Parenthesis {
                     line: *line,
                     operator: *operator,
                     negated: *negated,
                     end: *end,
                 };
-                let block = self.block(names, place, frame, items.as_slice(), passed.kind)?;
-                passed.add_block(frame.operator, block)
+                let entry = self.block(names, context, parenthesis, items.as_slice(), kind)?;
+                Ok(EntryLeft {
+                    entry,
+                    kind: given_type(*operator, kind),
+                })
             }
         }
     }
 
-    /// A parenthesis: what is left of it on a result of this type, if that is set. One that is too deep isn't
-    /// looked into.
+    /// A parenthesis: what is left of it on a result of this type, if that is set. One that is too
+    /// deep isn't looked into.
     #[cycle(entries)]
     fn block(
         &mut self,
         names: &Names,
-        place: Place,
-        frame: Frame,
+        context: Context,
+        parenthesis: Parenthesis,
         items: &[Item<'_>],
         kind: Option<ElementaryType>,
     ) -> Result<Option<TypedEntry>, AllocError>
         ensures left { IfOk result (λ b. option_map entry_view b
-            ≡ spec.entry_left (names_of names.now) place.room (text.block frame.line frame.operator frame.negated (text.entries_of (map entry_of items.now)) frame.end) kind) }
+            ≡ spec.entry_left (names_of names.now) context.room
+            (text.block parenthesis.line parenthesis.operator parenthesis.negated
+            (text.entries_of (map entry_of items.now)) parenthesis.end) kind) }
         ensures found { OnOk result (self.new.found
-            ≡ noted self.old.found (spec.entry_faults (names_of names.now) place.room place.is_reached place.passed
-            (text.block frame.line frame.operator frame.negated (text.entries_of (map entry_of items.now)) frame.end) kind)) }
+            ≡ noted self.old.found
+            (spec.entry_faults (names_of names.now) context.room context.is_reached context.passed
+            (text.block parenthesis.line parenthesis.operator parenthesis.negated
+            (text.entries_of (map entry_of items.now)) parenthesis.end) kind)) }
     {
-        let Frame {
+        let Parenthesis {
             line,
             operator,
             negated,
             end,
-        } = frame;
-        self.found = note_opening(self.found, place.is_reached, line, operator);
-        if place.room == 0 {
+        } = parenthesis;
+        self.found = note_opening(self.found, context.is_reached, line, operator);
+        if context.room == 0 {
             self.found = note_if(self.found, true, CheckFault::TooMany { line });
             return Ok(block_of(operator, negated, Vec::new(self.alloc), kind));
         }
-        let within = Place {
-            is_reached: place.is_reached,
-            passed: place.passed,
-            room: place.room - 1,
+        let within = Context {
+            is_reached: context.is_reached,
+            passed: context.passed,
+            room: context.room - 1,
         };
         let inner = self.entries(names, within, items)?;
         let closing = Closing {
@@ -196,7 +231,7 @@ impl Judge {
             negated,
             inner: inner.kind,
         };
-        self.found = note_closing(self.found, place.is_reached, end, closing, kind);
+        self.found = note_closing(self.found, context.is_reached, end, closing, kind);
         Ok(block_of(operator, negated, inner.entries, kind))
     }
 }
@@ -209,7 +244,8 @@ fn block_of(
     entries: Vec<TypedEntry>,
     kind: Option<ElementaryType>,
 ) -> Option<TypedEntry>
-    ensures { option_map entry_view result ≡ typing.block_in operator negated (plain.entries_of (map entry_view entries.items)) kind }
+    ensures { option_map entry_view result
+        ≡ typing.block_in operator negated (plain.entries_of (map entry_view entries.items)) kind }
 {
     match kind {
         Some(kind) => Some(TypedEntry::Block {
@@ -247,38 +283,19 @@ fn item_in(resolved: Resolved, kind: Option<ElementaryType>) -> Option<TypedItem
 }
 
 impl Passed {
-    /// One entry more, if there is one.
+    /// One entry more, of which something may be left.
     #[tactic(auto, using(crate::proofs::ViewLemmas::view_rules))]
-    fn add(&mut self, entry: Option<TypedEntry>) -> Result<(), AllocError>
-        ensures kind { self.new.kind ≡ self.old.kind }
+    fn add(&mut self, left: EntryLeft) -> Result<(), AllocError>
+        ensures kind { OnOk result (self.new.kind ≡ left.kind) }
         ensures left { OnOk result (map entry_view self.new.entries.items
-            ≡ map entry_view self.old.entries.items ++ option_to_list (option_map entry_view entry)) }
+            ≡ map entry_view self.old.entries.items
+            ++ option_to_list (option_map entry_view left.entry)) }
     {
+        let EntryLeft { entry, kind } = left;
         if let Some(entry) = entry {
             self.entries.push(entry)?;
         }
-        Ok(())
-    }
-
-    /// One instruction more.
-    fn add_operation(&mut self, resolved: Resolved) -> Result<(), AllocError>
-        ensures kind { OnOk result (self.new.kind ≡ spec_rules.type_after resolved self.old.kind) }
-        ensures left { OnOk result (map entry_view self.new.entries.items
-            ≡ map entry_view self.old.entries.items ++ option_to_list (typing.entry_in resolved self.old.kind)) }
-    {
-        self.add(entry_in(resolved, self.kind))?;
-        self.kind = type_after(resolved, self.kind);
-        Ok(())
-    }
-
-    /// One parenthesis more, if something is left of it.
-    fn add_block(&mut self, operator: Operator, block: Option<TypedEntry>) -> Result<(), AllocError>
-        ensures kind { OnOk result (self.new.kind ≡ option_map (spec_rules.gives operator) self.old.kind) }
-        ensures left { OnOk result (map entry_view self.new.entries.items
-            ≡ map entry_view self.old.entries.items ++ option_to_list (option_map entry_view block)) }
-    {
-        self.add(block)?;
-        self.kind = given_type(operator, self.kind);
+        self.kind = kind;
         Ok(())
     }
 }
@@ -293,10 +310,12 @@ pub(crate) struct Walk {
 }
 
 impl Walk {
-    fn place(&self) -> Place
-        ensures { result ≡ record { is_reached = self.now.reach.is_reached; passed = self.now.passed; room = 16 } }
+    /// Where the next item stands: in no parenthesis.
+    fn context(&self) -> Context
+        ensures { result ≡ record
+            { is_reached = self.now.reach.is_reached; passed = self.now.passed; room = 16 } }
     {
-        Place {
+        Context {
             is_reached: self.reach.is_reached,
             passed: self.passed,
             room: MAX_DEPTH,
@@ -315,13 +334,14 @@ impl Walk {
 
     /// Notes what a jump brings to its label.
     fn arrive(&mut self, label: Option<usize>)
-        ensures arrivals { self.new.arrivals.items ≡ spec.arrived label self.old.reach self.old.arrivals.items }
+        ensures arrivals { self.new.arrivals.items
+            ≡ spec.arrived label self.old.reach self.old.arrivals.items }
         ensures reach { self.new.reach ≡ self.old.reach }
         ensures passed { self.new.passed ≡ self.old.passed }
         ensures items { self.new.items ≡ self.old.items }
     {
         if let Some(label) = label {
-            let reach = met(self.arrival(label), self.reach);
+            let reach = join(self.arrival(label), self.reach);
             if label < self.arrivals.len() {
                 self.arrivals[label] = reach;
             }
@@ -346,7 +366,7 @@ impl Walk {
         ensures standing { standing_of self.new ≡ spec.behind_label (standing_of self.old) }
         ensures items { self.new.items ≡ self.old.items }
     {
-        self.reach = met(self.reach, self.arrival(self.passed));
+        self.reach = join(self.reach, self.arrival(self.passed));
         self.passed += 1;
     }
 
@@ -376,7 +396,8 @@ impl Walk {
     /// What is left of an instruction.
     fn add_instruction(&mut self, resolved: Resolved) -> Result<(), AllocError>
         ensures items { OnOk result (map item_view self.new.items.items
-            ≡ map item_view self.old.items.items ++ option_to_list (typing.item_in resolved self.old.reach.kind)) }
+            ≡ map item_view self.old.items.items
+            ++ option_to_list (typing.item_in resolved self.old.reach.kind)) }
         ensures standing { OnOk result (standing_of self.new ≡ standing_of self.old) }
     {
         self.add(item_in(resolved, self.reach.kind))
@@ -385,25 +406,35 @@ impl Walk {
     /// A label, by its number.
     fn add_label(&mut self) -> Result<(), AllocError>
         requires { self.old.passed < usize.MAX }
-        ensures items { OnOk result (map item_view self.new.items.items ≡ map item_view self.old.items.items ++ plain.label self.old.passed ∷ []) }
-        ensures standing { OnOk result (standing_of self.new ≡ spec.behind_label (standing_of self.old)) }
+        ensures items { OnOk result
+            (map item_view self.new.items.items
+            ≡ map item_view self.old.items.items ++ plain.label self.old.passed ∷ []) }
+        ensures standing { OnOk result
+            (standing_of self.new ≡ spec.behind_label (standing_of self.old)) }
     {
         self.items.push(TypedItem::Label(self.passed))?;
         self.enter_label();
         Ok(())
     }
 
-    /// A parenthesis, if something is left of it.
+    /// A parenthesis, of which something may be left.
     #[tactic(auto, using(crate::proofs::ViewLemmas::view_rules))]
-    fn add_block(&mut self, operator: Operator, block: Option<TypedEntry>) -> Result<(), AllocError>
+    fn add_block(&mut self, left: EntryLeft) -> Result<(), AllocError>
         ensures items { OnOk result (map item_view self.new.items.items
-            ≡ map item_view self.old.items.items ++ option_to_list (option_map (λ e. plain.plain (entry_view e)) block)) }
-        ensures standing { OnOk result (standing_of self.new ≡ spec.behind_block operator (standing_of self.old)) }
+            ≡ map item_view self.old.items.items
+            ++ option_to_list (option_map (λ e. plain.plain (entry_view e)) left.entry)) }
+        ensures standing { OnOk result (standing_of self.new
+            ≡ record {
+              now = record { is_reached = self.old.reach.is_reached; kind = left.kind };
+              arrivals = self.old.arrivals.items;
+              passed = self.old.passed;
+            }) }
     {
-        if let Some(entry) = block {
+        let EntryLeft { entry, kind } = left;
+        if let Some(entry) = entry {
             self.items.push(TypedItem::Entry(entry))?;
         }
-        self.reach.kind = given_type(operator, self.reach.kind);
+        self.reach.kind = kind;
         Ok(())
     }
 }
@@ -418,9 +449,16 @@ impl Judge {
         walk: &mut Walk,
     ) -> Result<(), AllocError>
         requires { walk.old.passed < usize.MAX }
-        ensures standing { OnOk result (standing_of walk.new ≡ spec.behind (names_of names.now) (text.label line name.now) (standing_of walk.old)) }
-        ensures items { OnOk result (map item_view walk.new.items.items ≡ map item_view walk.old.items.items ++ plain.label walk.old.passed ∷ []) }
-        ensures found { OnOk result (self.new.found ≡ noted self.old.found (spec.item_faults (names_of names.now) (text.label line name.now) (standing_of walk.old))) }
+        ensures standing { OnOk result
+            (standing_of walk.new ≡ spec.behind (names_of names.now) (text.label line name.now)
+            (standing_of walk.old)) }
+        ensures items { OnOk result
+            (map item_view walk.new.items.items
+            ≡ map item_view walk.old.items.items ++ plain.label walk.old.passed ∷ []) }
+        ensures found { OnOk result
+            (self.new.found ≡ noted self.old.found
+            (spec.item_faults (names_of names.now) (text.label line name.now)
+            (standing_of walk.old))) }
     {
         let number = names.label(&mut self.buffer, name)?;
         self.found = note_label(self.found, line, number, walk.passed);
@@ -435,68 +473,70 @@ impl Judge {
         instruction: Instruction<'_>,
         walk: &mut Walk,
     ) -> Result<(), AllocError>
-        ensures standing { OnOk result (standing_of walk.new ≡ spec.behind (names_of names.now) (text.action line (action_of instruction.entry)) (standing_of walk.old)) }
+        ensures standing { OnOk result
+            (standing_of walk.new ≡ spec.behind (names_of names.now)
+            (text.action line (action_of instruction.entry)) (standing_of walk.old)) }
         ensures items { OnOk result (map item_view walk.new.items.items
-            ≡ map item_view walk.old.items.items ++ option_to_list (spec.item_left (names_of names.now) (text.action line (action_of instruction.entry)) (standing_of walk.old))) }
+            ≡ map item_view walk.old.items.items
+            ++ option_to_list (spec.item_left (names_of names.now)
+            (text.action line (action_of instruction.entry)) (standing_of walk.old))) }
         ensures found { OnOk result (self.new.found
-            ≡ noted self.old.found (spec.item_faults (names_of names.now) (text.action line (action_of instruction.entry)) (standing_of walk.old))) }
+            ≡ noted self.old.found
+            (spec.item_faults (names_of names.now)
+            (text.action line (action_of instruction.entry)) (standing_of walk.old))) }
     {
-        let resolved = self.instruction(names, walk.place(), line, instruction, walk.reach.kind)?;
+        let resolved = self.instruction(names, walk.context(), line, instruction, walk.reach.kind)?;
         walk.add_instruction(resolved)?;
         walk.follow(resolved);
         Ok(())
     }
 
     /// A parenthesis that stands in no other.
-    fn enclose(
-        &mut self,
-        names: &Names,
-        frame: Frame,
-        items: &[Item<'_>],
-        walk: &mut Walk,
-    ) -> Result<(), AllocError>
-        ensures standing { OnOk result (standing_of walk.new ≡ spec.behind_block frame.operator (standing_of walk.old)) }
+    fn enclose(&mut self, names: &Names, item: &Item<'_>, walk: &mut Walk) -> Result<(), AllocError>
+        ensures standing { OnOk result (standing_of walk.new
+            ≡ record {
+              now = record {
+                is_reached = walk.old.reach.is_reached;
+                kind = spec.type_behind (names_of names.now) (entry_of item.now)
+                    walk.old.reach.kind;
+              };
+              arrivals = walk.old.arrivals.items;
+              passed = walk.old.passed;
+            }) }
         ensures items { OnOk result (map item_view walk.new.items.items
             ≡ map item_view walk.old.items.items
-            ++ option_to_list (spec.item_left (names_of names.now)
-            (text.block frame.line frame.operator frame.negated (text.entries_of (map entry_of items.now)) frame.end) (standing_of walk.old))) }
+            ++ option_to_list (option_map plain.plain
+            (spec.entry_left (names_of names.now) 16 (entry_of item.now) walk.old.reach.kind))) }
         ensures found { OnOk result (self.new.found
-            ≡ noted self.old.found (spec.item_faults (names_of names.now)
-            (text.block frame.line frame.operator frame.negated (text.entries_of (map entry_of items.now)) frame.end) (standing_of walk.old))) }
+            ≡ noted self.old.found
+            (spec.entry_faults (names_of names.now) 16 walk.old.reach.is_reached walk.old.passed
+            (entry_of item.now) walk.old.reach.kind)) }
     {
-        let block = self.block(names, walk.place(), frame, items, walk.reach.kind)?;
-        walk.add_block(frame.operator, block)
+        let left = self.entry(names, walk.context(), item, walk.reach.kind)?;
+        walk.add_block(left)
     }
 
     /// One item more.
     #[tactic(auto, using(crate::proofs::EntryLemmas::entry_rules))]
     fn item(&mut self, names: &Names, item: &Item<'_>, walk: &mut Walk) -> Result<(), AllocError>
         requires { walk.old.passed < usize.MAX }
-        ensures standing { OnOk result (standing_of walk.new ≡ spec.behind (names_of names.now) (entry_of item.now) (standing_of walk.old)) }
+        ensures standing { OnOk result
+            (standing_of walk.new ≡ spec.behind (names_of names.now) (entry_of item.now)
+            (standing_of walk.old)) }
         ensures items { OnOk result (map item_view walk.new.items.items
-            ≡ map item_view walk.old.items.items ++ option_to_list (spec.item_left (names_of names.now) (entry_of item.now) (standing_of walk.old))) }
-        ensures found { OnOk result (self.new.found ≡ noted self.old.found (spec.item_faults (names_of names.now) (entry_of item.now) (standing_of walk.old))) }
+            ≡ map item_view walk.old.items.items
+            ++ option_to_list (spec.item_left (names_of names.now) (entry_of item.now)
+            (standing_of walk.old))) }
+        ensures found { OnOk result
+            (self.new.found ≡ noted self.old.found
+            (spec.item_faults (names_of names.now) (entry_of item.now) (standing_of walk.old))) }
     {
         match item {
             Item::Label { line, name } => self.label(names, *line, name, walk),
             Item::Instruction { line, instruction } => {
                 self.act(names, *line, *instruction, walk)
             }
-            Item::Block {
-                line,
-                operator,
-                negated,
-                items,
-                end,
-            } => {
-                let frame = Frame {
-                    line: *line,
-                    operator: *operator,
-                    negated: *negated,
-                    end: *end,
-                };
-                self.enclose(names, frame, items.as_slice(), walk)
-            }
+            Item::Block { .. } => self.enclose(names, item, walk),
         }
     }
 
@@ -508,9 +548,13 @@ impl Judge {
         arrivals: Vec<Reach>,
     ) -> Result<Vec<TypedItem>, AllocError>
         ensures left { IfOk result (λ left. self.new.found ≡ None
-            → map item_view left.items ≡ spec.items_left (names_of names.now) (map entry_of items.now) (spec.first arrivals.items)) }
+            → map item_view left.items
+            ≡ spec.items_left (names_of names.now) (map entry_of items.now)
+            (spec.first arrivals.items)) }
         ensures found { OnOk result (self.new.found
-            ≡ noted self.old.found (spec.items_faults (names_of names.now) (map entry_of items.now) (spec.first arrivals.items))) }
+            ≡ noted self.old.found
+            (spec.items_faults (names_of names.now) (map entry_of items.now)
+            (spec.first arrivals.items))) }
         ensures memory { IfErr result (λ e. 0 < length items.now) }
     {
         let mut walk = Walk {

@@ -8,7 +8,7 @@ use Rattle.il_image.specs.Values.{type_of}
 use Rattle.il_image.specs.declared.instr.Instr.{Instr}
 use Rattle.il_image.specs.declared.instr.Instr.TheVariants.{Timer}
 use Rattle.il_image.specs.declared.opcode.TimerUse.TheVariants.{Run}
-use Rattle.il_image.specs.declared.timer.Timer.{Timer as TimerState}
+use Rattle.il_image.specs.declared.timer.TimerState.{TimerState}
 use Rattle.il_image.specs.declared.value.Value.{Value}
 use Rattle.il_image.specs.declared.value.Value.TheVariants.{Truth, Short, Long, Wide, Span}
 use Rattle.il_check.specs.Program.{Checked}
@@ -44,13 +44,16 @@ takes Pt (Wide z) t e = absurd cc
 
 module _ (c : Checked) (now : ℕ) (n : ℕ) (below : n < length c.timers) where
   -- what code leaves of a memory, with the same cells
-  record Leaves (code : List Instr) (cells : List Value) (m : Memory) (meant : Option Memory) : Type 0 where
+  record Leaves (code : List Instr) (cells : List Value) (m : Memory) (meant : Option Memory)
+      : Type 0 where
     after : Memory
     is : meant ≡ Some after
     typed : HasTypes c after
     does : DoesAll now code (holding cells m) (holding cells after)
 
-  argument_does : (a : TypedArgument) (cells : List Value) (m : Memory) → IsArgument c a → HasTypes c m → length cells < 32 → Leaves (argument_code (length c.externals) n a) cells m (with_argument n a m)
+  argument_does : (a : TypedArgument) (cells : List Value) (m : Memory) → IsArgument c a
+      → HasTypes c m → length cells < 32
+      → Leaves (argument_code (length c.externals) n a) cells m (with_argument n a m)
   argument_does a cells m ok ty lt =
       let f = operand_does c now a.operand (rules.input_type a.input) m cells ty ok lt in
       let t = timer_there c m n ty below in
@@ -59,11 +62,23 @@ module _ (c : Checked) (now : ℕ) (n : ℕ) (below : n < length c.timers) where
         after = record m { timers = slice_set m.timers n g.new };
         is = bound _ f.value _ _ f.is (bound _ t.0 _ _ t.1 (bound _ g.new _ _ g.is refl));
         typed = timer_changed c m n t.0 g.new ty t.1 g.kind;
-        does = (_, f.does, (_, gave now (flat m) m.timers n a.input f.value t.0 g.new cells t.1 g.is, refl));
+        does = (
+          _,
+          f.does,
+          (
+            _,
+            gave now (flat m) m.timers n a.input f.value t.0 g.new cells t.1
+                g.is,
+            refl,
+          ),
+        );
       }
 
-  arguments_do : (args : TypedArguments) (cells : List Value) (m : Memory) → AreArguments c args → HasTypes c m → length cells < 32 → Leaves (arguments_code (length c.externals) n args) cells m (with_arguments n args m)
-  arguments_do arguments.None cells m ok ty lt = record { after = m; is = refl; typed = ty; does = refl }
+  arguments_do : (args : TypedArguments) (cells : List Value) (m : Memory) → AreArguments c args
+      → HasTypes c m → length cells < 32
+      → Leaves (arguments_code (length c.externals) n args) cells m (with_arguments n args m)
+  arguments_do arguments.None cells m ok ty lt =
+      record { after = m; is = refl; typed = ty; does = refl }
   arguments_do (arguments.One a) cells m ok ty lt = argument_does a cells m ok ty lt
   arguments_do (arguments.Two a b) cells m ok ty lt =
       let f = argument_does a cells m ok.0 ty lt in
@@ -72,7 +87,8 @@ module _ (c : Checked) (now : ℕ) (n : ℕ) (below : n < length c.timers) where
         after = g.after;
         is = bound _ f.after _ _ f.is g.is;
         typed = g.typed;
-        does = both now (argument_code (length c.externals) n a) (argument_code (length c.externals) n b) _ _ _ f.does g.does;
+        does = both now (argument_code (length c.externals) n a)
+            (argument_code (length c.externals) n b) _ _ _ f.does g.does;
       }
 
   -- a call, after which the result is not set
@@ -80,15 +96,20 @@ module _ (c : Checked) (now : ℕ) (n : ℕ) (below : n < length c.timers) where
     pub after : Memory
     pub is : run_timer now n args s ≡ Some (record { result = None; memory = after })
     pub typed : HasTypes c after
-    pub does : DoesAll now (arguments_code (length c.externals) n args ++ Timer Run n ∷ []) (holding cells s.memory) (holding cells after)
+    pub does : DoesAll now (arguments_code (length c.externals) n args ++ Timer Run n ∷ [])
+        (holding cells s.memory) (holding cells after)
 
-  pub call_does : (args : TypedArguments) (cells : List Value) (s : State) → AreArguments c args → HasTypes c s.memory → length cells < 32 → Calls args cells s
+  pub call_does : (args : TypedArguments) (cells : List Value) (s : State) → AreArguments c args
+      → HasTypes c s.memory → length cells < 32 → Calls args cells s
   call_does args cells s ok ty lt =
       let f = arguments_do args cells s.memory ok ty lt in
       let t = timer_there c f.after n f.typed below in
       record {
         after = record f.after { timers = slice_set f.after.timers n (called t.0 now) };
-        is = bound _ f.after _ _ f.is (bound _ (record f.after { timers = slice_set f.after.timers n (called t.0 now) }) _ _ (bound _ t.0 _ _ t.1 refl) refl);
+        is = bound _ f.after _ _ f.is
+            (bound _ (record f.after { timers = slice_set f.after.timers n (called t.0 now) }) _ _
+            (bound _ t.0 _ _ t.1 refl) refl);
         typed = timer_changed c f.after n t.0 (called t.0 now) f.typed t.1 refl;
-        does = both now (arguments_code (length c.externals) n args) (Timer Run n ∷ []) _ _ _ f.does (alone now _ _ _ (ran now (flat f.after) f.after.timers n t.0 cells t.1));
+        does = both now (arguments_code (length c.externals) n args) (Timer Run n ∷ []) _ _ _ f.does
+            (alone now _ _ _ (ran now (flat f.after) f.after.timers n t.0 cells t.1));
       }

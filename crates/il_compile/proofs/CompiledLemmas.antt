@@ -3,12 +3,12 @@ use Rattle.std.proofs.Common.{◌≡◌, ℕ, ◌+◌, ◌*◌, ◌<◌, ◌≤�
 use Rattle.std.proofs.lemmas.Bool.{le-leb, leb-true}
 use Rattle.std.proofs.lemmas.List.{length-map}
 use Rattle.il_image.specs.Images.{Each, HasName, Image, IsImage, IsValue, all_spelled}
-use Rattle.il_image.specs.Machine.{start}
+use Rattle.il_image.specs.Machine.{initial_state}
 use Rattle.il_image.specs.Tables.{HasTable}
 use Rattle.il_image.proofs.BegunLemmas.{closed_by, first_place, loose_is_run}
 use Rattle.il_image.specs.declared.instr.Instr.TheVariants.{Halt}
 use Rattle.il_image.specs.declared.image.ImagePoint.{ImagePoint}
-use Rattle.il_image.specs.declared.timer.TimerKind.{TimerKind}
+use Rattle.bay_base.specs.declared.types.TimerKind.{TimerKind}
 use Rattle.il_image.specs.declared.value.Value.{Value}
 use Rattle.il_check.specs.Program.{Checked}
 use Rattle.il_check.specs.TypedProgram as typed
@@ -18,7 +18,6 @@ use Rattle.il_check.specs.declared.typed.Variable.{Variable}
 use Rattle.il_compile.specs.Behind.{IsSettled}
 use Rattle.il_compile.specs.Code.{items_code, octets, program_code, unset}
 use Rattle.il_compile.specs.Compiled.{compiled_of, image_of, image_size, point_of, points_octets}
-use Rattle.il_compile.specs.Senses.{timer_of}
 use Rattle.il_compile.specs.declared.behind.Behind.{Behind}
 use Rattle.il_compile.specs.declared.fault.CompileFault.TheVariants.{CodeTooLong}
 use Rattle.il_compile.specs.Correct.{DoesTheText, Follows}
@@ -33,12 +32,14 @@ names_are : (es : List External) → Each typed.HasName es → Each HasName (map
 names_are [] h = tt
 names_are (e ∷ es) h = (h.0, names_are es h.1)
 
-values_are : (vs : List Variable) → Each typed.BeginsRight vs → Each IsValue (map (λ v. v.initial) vs)
+values_are : (vs : List Variable) → Each typed.BeginsRight vs
+    → Each IsValue (map (λ v. v.initial) vs)
 values_are [] h = tt
 values_are (v ∷ vs) h = (h.0, values_are vs h.1)
 
 -- the code is 3 octets longer than that of the items
-code_size : (c : Checked) → octets (program_code c) ≡ 3 + octets (items_code (length c.externals) c.items)
+code_size : (c : Checked)
+    → octets (program_code c) ≡ 3 + octets (items_code (length c.externals) c.items)
 code_size c =
     let n = length c.externals in
     let b = octets_both (items_code n c.items) (Halt ∷ []) in
@@ -53,21 +54,29 @@ is_image c ok short =
     record {
       points = (let l = length-map c.externals point_of in omega arith);
       variables = (let l = length-map c.variables (λ v. v.initial) in omega arith);
-      timers = (let l = length-map c.timers (λ t. timer_of t.kind) in omega arith);
+      timers = (let l = length-map c.timers (λ t. t.kind) in omega arith);
       size = omega arith;
       names = names_are c.externals ok.names;
       values = values_are c.variables ok.initial;
-      code = record { instrs = program_code c; are = program_are c ok (omega arith); spelled = refl };
+      code = record {
+        instrs = program_code c;
+        are = program_are c ok (omega arith);
+        spelled = refl;
+      };
     }
 
 not_below : (a b : ℕ) → a < b → nat_le b a ≡ false
-not_below a b h = elim (nat_le b a) as (λ x. nat_le b a ≡ x → nat_le b a ≡ false) [ true ↦ (λ e. absurd (no_more a b h e)) | false ↦ (λ e. e) ] refl
+not_below a b h =
+    elim (nat_le b a) as (λ x. nat_le b a ≡ x → nat_le b a ≡ false)
+    [ true ↦ (λ e. absurd (no_more a b h e)) | false ↦ (λ e. e) ] refl
   where
     no_more : (a b : ℕ) → a < b → nat_le b a ≡ true → ⊥
     no_more a b h e = let l = leb-true b a e in omega arith
 
 -- what the sizes say
-pub too_long : (c : Checked) (head size : ℕ) (b : Behind) → IsSettled (length c.externals) c.items b → head ≡ 13 + points_octets c.externals + 9 * length c.variables + length c.timers → size ≡ head + 3 + b.octets → 65_535 < size
+pub too_long : (c : Checked) (head size : ℕ) (b : Behind) → IsSettled (length c.externals) c.items b
+    → head ≡ 13 + points_octets c.externals + 9 * length c.variables + length c.timers
+    → size ≡ head + 3 + b.octets → 65_535 < size
     → compiled_of c ≡ Err CodeTooLong
 too_long c head size b settled h e lt =
     let s = size_is c in
@@ -76,7 +85,10 @@ too_long c head size b settled h e lt =
     let over : 65_535 < image_size c = omega arith in
     ap (λ x. if x then Ok (image_of c) else Err CodeTooLong) (not_below 65_535 (image_size c) over)
 
-pub short_enough : (c : Checked) (head size : ℕ) (b : Behind) → IsSettled (length c.externals) c.items b → head ≡ 13 + points_octets c.externals + 9 * length c.variables + length c.timers → size ≡ head + 3 + b.octets → size ≤ 65_535
+pub short_enough : (c : Checked) (head size : ℕ) (b : Behind)
+    → IsSettled (length c.externals) c.items b
+    → head ≡ 13 + points_octets c.externals + 9 * length c.variables + length c.timers
+    → size ≡ head + 3 + b.octets → size ≤ 65_535
     → image_size c ≤ 65_535
 short_enough c head size b settled h e le =
     let s = size_is c in
@@ -85,9 +97,12 @@ short_enough c head size b settled h e le =
     omega arith
 
 pub given : (c : Checked) → image_size c ≤ 65_535 → compiled_of c ≡ Ok (image_of c)
-given c le = ap (λ x. if x then Ok (image_of c) else Err CodeTooLong) (le-leb (image_size c) 65_535 le)
+given c le =
+    ap (λ x. if x then Ok (image_of c) else Err CodeTooLong) (le-leb (image_size c) 65_535 le)
 
-pub same_code : (c : Checked) (b : Behind) (code : List ℕ) → IsSettled (length c.externals) c.items b → image_size c ≤ 65_535 → code ≡ all_spelled (unset ∷ reverse b.instrs.items ++ Halt ∷ []) → code ≡ (image_of c).code
+pub same_code : (c : Checked) (b : Behind) (code : List ℕ)
+    → IsSettled (length c.externals) c.items b → image_size c ≤ 65_535
+    → code ≡ all_spelled (unset ∷ reverse b.instrs.items ++ Halt ∷ []) → code ≡ (image_of c).code
 same_code c b code settled le e =
     let s = size_is c in
     let k = code_size c in
@@ -96,33 +111,47 @@ same_code c b code settled le e =
 
 -- an image of these parts
 abbrev pub parts : List ImagePoint → List Value → List TimerKind → List ℕ → Image
-parts points variables timers code = record { points = points; variables = variables; timers = timers; code = code }
+parts points variables timers code =
+    record { points = points; variables = variables; timers = timers; code = code }
 
-pub same_image : (c : Checked) (points : List ImagePoint) (variables : List Value) (timers : List TimerKind) (code : List ℕ) → points ≡ (image_of c).points → variables ≡ (image_of c).variables
-    → timers ≡ (image_of c).timers → code ≡ (image_of c).code → parts points variables timers code ≡ image_of c
+pub same_image : (c : Checked) (points : List ImagePoint) (variables : List Value)
+    (timers : List TimerKind) (code : List ℕ) → points ≡ (image_of c).points
+    → variables ≡ (image_of c).variables
+    → timers ≡ (image_of c).timers → code ≡ (image_of c).code
+    → parts points variables timers code ≡ image_of c
 same_image c points variables timers code p v t k =
-    ap (λ x. parts x variables timers code) p ∙ ap (λ x. parts (image_of c).points x timers code) v ∙ ap (λ x. parts (image_of c).points (image_of c).variables x code) t ∙ ap (parts (image_of c).points (image_of c).variables (image_of c).timers) k
+    ap (λ x. parts x variables timers code) p ∙ ap (λ x. parts (image_of c).points x timers code) v
+    ∙ ap (λ x. parts (image_of c).points (image_of c).variables x code) t
+    ∙ ap (parts (image_of c).points (image_of c).variables (image_of c).timers) k
 
 -- a program that is compiled is short enough, and its image does what it means
-was_short : (c : Checked) (i : Image) (b : Bool) → nat_le (image_size c) 65_535 ≡ b → (if b then Ok (image_of c) else Err CodeTooLong) ≡ Ok i → (image_size c ≤ 65_535) × (i ≡ image_of c)
-was_short c i true e f = (leb-true (image_size c) 65_535 e, (let same : image_of c ≡ i = cc in sym same))
+was_short : (c : Checked) (i : Image) (b : Bool) → nat_le (image_size c) 65_535 ≡ b
+    → (if b then Ok (image_of c) else Err CodeTooLong) ≡ Ok i
+    → (image_size c ≤ 65_535) × (i ≡ image_of c)
+was_short c i true e f =
+    (leb-true (image_size c) 65_535 e, (let same : image_of c ≡ i = cc in sym same))
 was_short c i false e f = absurd cc
 
 -- the code has a table, so that it goes on at instructions alone
-followed : (c : Checked) → HasTable (image_of c) → (now : ℕ) (m : Memory) → Finds c (image_of c).code now m → Follows c (image_of c).code now m
+followed : (c : Checked) → HasTable (image_of c) → (now : ℕ) (m : Memory)
+    → Finds c (image_of c).code now m → Follows c (image_of c).code now m
 followed c table now m f = record {
   means = f.means;
   steps = f.steps;
-  halts = sym (loose_is_run (image_of c).code now (closed_by (image_of c) table.0 table.1) (length (image_of c).code) (start (m.externals ++ m.variables) m.timers) 0 (first_place (image_of c) table.0 table.1)) ∙ f.halts;
+  halts = sym (loose_is_run (image_of c).code now (closed_by (image_of c) table.0 table.1)
+      (length (image_of c).code) (initial_state (m.externals ++ m.variables) m.timers) 0
+      (first_place (image_of c) table.0 table.1)) ∙ f.halts;
 }
 
-pub does_the_text : (c : Checked) (i : Image) → IsTyped c → compiled_of c ≡ Ok i → DoesTheText c i.code
+pub does_the_text : (c : Checked) (i : Image) → IsTyped c → compiled_of c ≡ Ok i
+    → DoesTheText c i.code
 does_the_text c i ok e =
     let w = was_short c i (nat_le (image_size c) 65_535) refl e in
     let s = size_is c in
     let le = w.0 in
     let are = program_are c ok (omega arith) in
-    λ now m typed. subst (λ (x : Image). Follows c x.code now m) (sym w.1) (followed c (has_table c ok are) now m (follows c ok are now m typed))
+    λ now m typed. subst (λ (x : Image). Follows c x.code now m) (sym w.1)
+    (followed c (has_table c ok are) now m (follows c ok are now m typed))
 
 pub is_tabled : (c : Checked) (i : Image) → IsTyped c → compiled_of c ≡ Ok i → HasTable i
 is_tabled c i ok e =

@@ -11,7 +11,9 @@ use Rattle.il_compile.specs.Code.{octets}
 
 pub spelled_both : (a b : List Instr) → all_spelled (a ++ b) ≡ all_spelled a ++ all_spelled b
 spelled_both [] b = refl
-spelled_both (i ∷ a) b = ap (λ l. spelling i ++ l) (spelled_both a b) ∙ sym (append_assoc (spelling i) (all_spelled a) (all_spelled b))
+spelled_both (i ∷ a) b =
+    ap (λ l. spelling i ++ l) (spelled_both a b)
+    ∙ sym (append_assoc (spelling i) (all_spelled a) (all_spelled b))
 
 pub octets_both : (a b : List Instr) → octets (a ++ b) ≡ octets a + octets b
 octets_both a b = ap length (spelled_both a b) ∙ length-append (all_spelled a) (all_spelled b)
@@ -41,28 +43,46 @@ module _ (code : List ℕ) where
   pub front : (p : ℕ) (a b : List Instr) → Stands code p (a ++ b) → Stands code p a
   front p a b h = record {
     rest = all_spelled b ++ h.rest;
-    is = h.is ∙ ap (λ l. l ++ h.rest) (spelled_both a b) ∙ append_assoc (all_spelled a) (all_spelled b) h.rest;
+    is = h.is ∙ ap (λ l. l ++ h.rest) (spelled_both a b)
+        ∙ append_assoc (all_spelled a) (all_spelled b) h.rest;
     are = each_front IsInstr a b h.are;
   }
 
   pub back : (p : ℕ) (a b : List Instr) → Stands code p (a ++ b) → Stands code (p + octets a) b
   back p a b h = record {
     rest = h.rest;
-    is = sym (drop-drop (octets a) p code) ∙ ap (drop (octets a)) (h.is ∙ ap (λ l. l ++ h.rest) (spelled_both a b) ∙ append_assoc (all_spelled a) (all_spelled b) h.rest) ∙ drop-append_seam (all_spelled a) (all_spelled b ++ h.rest);
+    is = sym (drop-drop (octets a) p code)
+        ∙ ap (drop (octets a)) (h.is ∙ ap (λ l. l ++ h.rest) (spelled_both a b)
+        ∙ append_assoc (all_spelled a) (all_spelled b) h.rest)
+        ∙ drop-append_seam (all_spelled a) (all_spelled b ++ h.rest);
     are = each_back IsInstr a b h.are;
   }
 
   -- the instruction at a place, and the place behind it
-  pub found : (p : ℕ) (i : Instr) (is : List Instr) → Stands code p (i ∷ is) → instr_at code p ≡ Some (i, p + length (spelling i))
+  pub found : (p : ℕ) (i : Instr) (is : List Instr) → Stands code p (i ∷ is)
+      → instr_at code p ≡ Some (i, p + length (spelling i))
   found p i is h =
-      let whole : drop p code ≡ spelling i ++ (all_spelled is ++ h.rest) = h.is ∙ append_assoc (spelling i) (all_spelled is) h.rest in
-      let behind : drop (p + length (spelling i)) code ≡ all_spelled is ++ h.rest = sym (drop-drop (length (spelling i)) p code) ∙ ap (drop (length (spelling i))) whole ∙ drop-append_seam (spelling i) (all_spelled is ++ h.rest) in
-      let size : length code - p ≡ length (spelling i) + length (all_spelled is ++ h.rest) = sym (length-drop p code) ∙ ap length whole ∙ length-append (spelling i) (all_spelled is ++ h.rest) in
-      stood code p i (p + length (spelling i)) (record { is_instr = h.are.0; spelled = whole ∙ ap (λ l. spelling i ++ l) (sym behind); size = refl; within = (let some = some_octet i in omega arith) })
+      let whole : drop p code ≡ spelling i ++ (all_spelled is ++ h.rest) =
+      h.is ∙ append_assoc (spelling i) (all_spelled is) h.rest in
+      let behind : drop (p + length (spelling i)) code ≡ all_spelled is ++ h.rest =
+      sym (drop-drop (length (spelling i)) p code) ∙ ap (drop (length (spelling i))) whole
+      ∙ drop-append_seam (spelling i) (all_spelled is ++ h.rest) in
+      let size : length code - p ≡ length (spelling i) + length (all_spelled is ++ h.rest) =
+      sym (length-drop p code) ∙ ap length whole
+      ∙ length-append (spelling i) (all_spelled is ++ h.rest) in
+      stood code p i (p + length (spelling i))
+      (record {
+        is_instr = h.are.0;
+        spelled = whole ∙ ap (λ l. spelling i ++ l) (sym behind);
+        size = refl;
+        within = (let some = some_octet i in omega arith);
+      })
 
   -- what stands in code ends within it
-  pub within : (p : ℕ) (i : Instr) (is : List Instr) → Stands code p (i ∷ is) → p + octets (i ∷ is) ≤ length code
+  pub within : (p : ℕ) (i : Instr) (is : List Instr) → Stands code p (i ∷ is)
+      → p + octets (i ∷ is) ≤ length code
   within p i is h =
-      let size : length code - p ≡ octets (i ∷ is) + length h.rest = sym (length-drop p code) ∙ ap length h.is ∙ length-append (all_spelled (i ∷ is)) h.rest in
+      let size : length code - p ≡ octets (i ∷ is) + length h.rest =
+      sym (length-drop p code) ∙ ap length h.is ∙ length-append (all_spelled (i ∷ is)) h.rest in
       let some = some_octet i in
       omega (arith, octets_more i is)

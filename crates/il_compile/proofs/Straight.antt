@@ -4,7 +4,7 @@ use Rattle.std.specs.Prelude.{slice_get, slice_set, nat_lt, if◌then◌else◌,
 use Rattle.std.specs.Ordering.{int_eq}
 use Rattle.std.proofs.lemmas.Bool.{lt-ltb}
 use Rattle.bay_base.specs.Types.{same_type}
-use Rattle.il_image.specs.Machine.{State, Goes, Traps, WrongKind, ZeroDivisor, act, goes, is_comparable, divides, value_in}
+use Rattle.il_image.specs.Machine.{State, Goes, Traps, WrongKind, ZeroDivisor, act, goes, is_comparable, divides, value_of_width}
 use Rattle.il_image.specs.Arithmetic.{computed, compared, connected, widened}
 use Rattle.il_image.specs.Timers.{called}
 use Rattle.il_image.specs.Values.{number_of, type_of}
@@ -17,7 +17,7 @@ use Rattle.il_image.specs.declared.opcode.SlotUse.TheVariants.{Load, Store, SetI
 use Rattle.il_image.specs.declared.opcode.TimerUse.TheVariants.{Run, LoadOutput, LoadElapsed}
 use Rattle.il_image.specs.declared.opcode.Widening.{Widening}
 use Rattle.il_image.specs.declared.opcode.Widening.TheVariants.{IntToDint, DintToLint}
-use Rattle.il_image.specs.declared.timer.Timer.{Timer as TimerState}
+use Rattle.il_image.specs.declared.timer.TimerState.{TimerState}
 use Rattle.il_image.specs.declared.value.Value.{Value}
 use Rattle.il_image.specs.declared.value.Value.TheVariants.{Truth, Short, Long, Wide, Span}
 use Rattle.il_text.specs.declared.program.Input.{Input}
@@ -46,7 +46,8 @@ abbrev pub DoesAll : ℕ → List Instr → Core → Core → Type 0
 DoesAll now [] a b = a ≡ b
 DoesAll now (i ∷ is) a c = (b : Core) × Does now i a b × DoesAll now is b c
 
-pub both : (now : ℕ) (is js : List Instr) (a b c : Core) → DoesAll now is a b → DoesAll now js b c → DoesAll now (is ++ js) a c
+pub both : (now : ℕ) (is js : List Instr) (a b c : Core) → DoesAll now is a b → DoesAll now js b c
+    → DoesAll now (is ++ js) a c
 both now [] js a b c e g = subst (λ x. DoesAll now js x c) (sym e) g
 both now (i ∷ is) js a b c f g = (f.0, f.1, both now is js f.0 b c f.2 g)
 
@@ -56,19 +57,25 @@ alone now i a b d = (b, d, refl)
 -- ---- cells
 
 module _ (now : ℕ) (slots : List Value) (timers : List TimerState) where
-  pub pushed : (v : Value) (cells : List Value) → length cells < 32 → Does now (Push v) (core cells slots timers) (core (v ∷ cells) slots timers)
+  pub pushed : (v : Value) (cells : List Value) → length cells < 32
+      → Does now (Push v) (core cells slots timers) (core (v ∷ cells) slots timers)
   unfolding act
-  pushed v cells lt p next = let e : nat_lt (length cells) 32 ≡ true = lt-ltb (length cells) 32 lt in rw e refl
+  pushed v cells lt p next = let e : nat_lt (length cells) 32 ≡ true =
+      lt-ltb (length cells) 32 lt in rw e refl
 
-  pub dropped : (v : Value) (cells : List Value) → Does now Drop (core (v ∷ cells) slots timers) (core cells slots timers)
+  pub dropped : (v : Value) (cells : List Value)
+      → Does now Drop (core (v ∷ cells) slots timers) (core cells slots timers)
   unfolding act
   dropped v cells p next = refl
 
-  pub inverted : (b : Bool) (cells : List Value) → Does now Not (core (Truth b ∷ cells) slots timers) (core (Truth (not b) ∷ cells) slots timers)
+  pub inverted : (b : Bool) (cells : List Value)
+      → Does now Not (core (Truth b ∷ cells) slots timers)
+      (core (Truth (not b) ∷ cells) slots timers)
   unfolding act
   inverted b cells p next = refl
 
-  pub wider : (w : Widening) (v x : Value) (cells : List Value) → widened w v ≡ Some x → Does now (Widen w) (core (v ∷ cells) slots timers) (core (x ∷ cells) slots timers)
+  pub wider : (w : Widening) (v x : Value) (cells : List Value) → widened w v ≡ Some x
+      → Does now (Widen w) (core (v ∷ cells) slots timers) (core (x ∷ cells) slots timers)
   unfolding act
   wider IntToDint (Short z) x cells e p next = let same : Long z ≡ x = cc in rw same refl
   wider DintToLint (Long z) x cells e p next = let same : Wide z ≡ x = cc in rw same refl
@@ -81,16 +88,21 @@ module _ (now : ℕ) (slots : List Value) (timers : List TimerState) where
   wider DintToLint (Wide z) x cells e p next = absurd cc
   wider DintToLint (Span n) x cells e p next = absurd cc
 
-  computed_by : (o : Operation) (w : Width) (a b : ℤ) (c : Value) (cells : List Value) (p next : ℕ) (s : State) (zero : Bool) → zero ≡ (divides o && int_eq b (pos 0))
-      → (if zero then None else Some (value_in w (computed o w a b))) ≡ Some c
-      → (if zero then Traps ZeroDivisor else goes next (value_in w (computed o w a b) ∷ cells) s) ≡ goes next (c ∷ cells) s
+  computed_by : (o : Operation) (w : Width) (a b : ℤ) (c : Value) (cells : List Value) (p next : ℕ)
+      (s : State) (zero : Bool) → zero ≡ (divides o && int_eq b (pos 0))
+      → (if zero then None else Some (value_of_width w (computed o w a b))) ≡ Some c
+      → (if zero then Traps ZeroDivisor
+      else goes next (value_of_width w (computed o w a b) ∷ cells) s) ≡ goes next (c ∷ cells) s
   computed_by o w a b c cells p next s true z e = absurd cc
-  computed_by o w a b c cells p next s false z e = let same : value_in w (computed o w a b) ≡ c = cc in rw same refl
+  computed_by o w a b c cells p next s false z e =
+      let same : value_of_width w (computed o w a b) ≡ c = cc in rw same refl
 
   pub joined : (sense : Sense) (a b c : Value) (cells : List Value) → combined sense a b ≡ Some c
-      → Does now (sense_instr sense (type_of a)) (core (b ∷ a ∷ cells) slots timers) (core (c ∷ cells) slots timers)
+      → Does now (sense_instr sense (type_of a)) (core (b ∷ a ∷ cells) slots timers)
+      (core (c ∷ cells) slots timers)
   unfolding act
-  joined (connects x) (Truth a) (Truth b) c cells e p next = let same : Truth (connected x a b) ≡ c = cc in rw same refl
+  joined (connects x) (Truth a) (Truth b) c cells e p next =
+      let same : Truth (connected x a b) ≡ c = cc in rw same refl
   joined (connects x) (Truth a) (Short b) c cells e p next = absurd cc
   joined (connects x) (Truth a) (Long b) c cells e p next = absurd cc
   joined (connects x) (Truth a) (Wide b) c cells e p next = absurd cc
@@ -99,9 +111,15 @@ module _ (now : ℕ) (slots : List Value) (timers : List TimerState) where
   joined (connects x) (Long a) b c cells e p next = absurd cc
   joined (connects x) (Wide a) b c cells e p next = absurd cc
   joined (connects x) (Span a) b c cells e p next = absurd cc
-  joined (computes o) (Short a) (Short b) c cells e p next = computed_by o width.Int a b c cells p next (at p (core (Short b ∷ Short a ∷ cells) slots timers)) (divides o && int_eq b (pos 0)) refl e
-  joined (computes o) (Long a) (Long b) c cells e p next = computed_by o width.Dint a b c cells p next (at p (core (Long b ∷ Long a ∷ cells) slots timers)) (divides o && int_eq b (pos 0)) refl e
-  joined (computes o) (Wide a) (Wide b) c cells e p next = computed_by o width.Lint a b c cells p next (at p (core (Wide b ∷ Wide a ∷ cells) slots timers)) (divides o && int_eq b (pos 0)) refl e
+  joined (computes o) (Short a) (Short b) c cells e p next =
+      computed_by o width.Int a b c cells p next
+      (at p (core (Short b ∷ Short a ∷ cells) slots timers)) (divides o && int_eq b (pos 0)) refl e
+  joined (computes o) (Long a) (Long b) c cells e p next =
+      computed_by o width.Dint a b c cells p next
+      (at p (core (Long b ∷ Long a ∷ cells) slots timers)) (divides o && int_eq b (pos 0)) refl e
+  joined (computes o) (Wide a) (Wide b) c cells e p next =
+      computed_by o width.Lint a b c cells p next
+      (at p (core (Wide b ∷ Wide a ∷ cells) slots timers)) (divides o && int_eq b (pos 0)) refl e
   joined (computes o) (Short a) (Truth b) c cells e p next = absurd cc
   joined (computes o) (Short a) (Long b) c cells e p next = absurd cc
   joined (computes o) (Short a) (Wide b) c cells e p next = absurd cc
@@ -118,56 +136,79 @@ module _ (now : ℕ) (slots : List Value) (timers : List TimerState) where
   joined (computes o) (Span a) b c cells e p next = absurd cc
   joined (compares x) a b c cells e p next = compared_by (is_comparable x a b) e
     where
-      compared_by : (fits : Bool) → (if fits then Some (Truth (compared x (number_of a) (number_of b))) else None) ≡ Some c
-          → (if fits then goes next (Truth (compared x (number_of a) (number_of b)) ∷ cells) (at p (core (b ∷ a ∷ cells) slots timers)) else Traps WrongKind) ≡ Goes (at next (core (c ∷ cells) slots timers))
-      compared_by true f = let same : Truth (compared x (number_of a) (number_of b)) ≡ c = cc in rw same refl
+      compared_by : (fits : Bool)
+          → (if fits then Some (Truth (compared x (number_of a) (number_of b))) else None) ≡ Some c
+          → (if fits then goes next (Truth (compared x (number_of a) (number_of b)) ∷ cells)
+          (at p (core (b ∷ a ∷ cells) slots timers)) else Traps WrongKind)
+          ≡ Goes (at next (core (c ∷ cells) slots timers))
+      compared_by true f = let same : Truth (compared x (number_of a) (number_of b)) ≡ c =
+          cc in rw same refl
       compared_by false f = absurd cc
 
   -- ---- slots
 
-  pub fetched : (n : ℕ) (v : Value) (cells : List Value) → slice_get slots n ≡ Some v → length cells < 32 → Does now (Slot Load n) (core cells slots timers) (core (v ∷ cells) slots timers)
+  pub fetched : (n : ℕ) (v : Value) (cells : List Value) → slice_get slots n ≡ Some v
+      → length cells < 32 → Does now (Slot Load n) (core cells slots timers)
+      (core (v ∷ cells) slots timers)
   unfolding act
-  fetched n v cells is lt p next = let e : nat_lt (length cells) 32 ≡ true = lt-ltb (length cells) 32 lt in rw (is, e) refl
+  fetched n v cells is lt p next = let e : nat_lt (length cells) 32 ≡ true =
+      lt-ltb (length cells) 32 lt in rw (is, e) refl
 
-  pub kept : (n : ℕ) (v old : Value) (cells : List Value) → slice_get slots n ≡ Some old → same_type (type_of v) (type_of old) ≡ true
-      → Does now (Slot Store n) (core (v ∷ cells) slots timers) (core (v ∷ cells) (slice_set slots n v) timers)
+  pub kept : (n : ℕ) (v old : Value) (cells : List Value) → slice_get slots n ≡ Some old
+      → same_type (type_of v) (type_of old) ≡ true
+      → Does now (Slot Store n) (core (v ∷ cells) slots timers)
+      (core (v ∷ cells) (slice_set slots n v) timers)
   unfolding act
   kept n v old cells is same p next = rw (is, same) refl
 
   pub set_if : (n : ℕ) (b old : Bool) (cells : List Value) → slice_get slots n ≡ Some (Truth old)
-      → Does now (Slot SetIf n) (core (Truth b ∷ cells) slots timers) (core (Truth b ∷ cells) (slice_set slots n (Truth (b || old))) timers)
+      → Does now (Slot SetIf n) (core (Truth b ∷ cells) slots timers)
+      (core (Truth b ∷ cells) (slice_set slots n (Truth (b || old))) timers)
   unfolding act
   set_if n b old cells is p next = rw is refl
 
   pub reset_if : (n : ℕ) (b old : Bool) (cells : List Value) → slice_get slots n ≡ Some (Truth old)
-      → Does now (Slot ResetIf n) (core (Truth b ∷ cells) slots timers) (core (Truth b ∷ cells) (slice_set slots n (Truth (not b && old))) timers)
+      → Does now (Slot ResetIf n) (core (Truth b ∷ cells) slots timers)
+      (core (Truth b ∷ cells) (slice_set slots n (Truth (not b && old))) timers)
   unfolding act
   reset_if n b old cells is p next = rw is refl
 
   -- ---- timers
 
-  pub gave : (n : ℕ) (i : Input) (v : Value) (t u : TimerState) (cells : List Value) → slice_get timers n ≡ Some t → given i v t ≡ Some u
-      → Does now (Timer (input_use i) n) (core (v ∷ cells) slots timers) (core cells slots (slice_set timers n u))
+  pub gave : (n : ℕ) (i : Input) (v : Value) (t u : TimerState) (cells : List Value)
+      → slice_get timers n ≡ Some t → given i v t ≡ Some u
+      → Does now (Timer (input_use i) n) (core (v ∷ cells) slots timers)
+      (core cells slots (slice_set timers n u))
   unfolding act
-  gave n In (Truth b) t u cells is e p next = let same : record t { input = b } ≡ u = cc in rw (is, same) refl
+  gave n In (Truth b) t u cells is e p next = let same : record t { input = b } ≡ u =
+      cc in rw (is, same) refl
   gave n In (Short z) t u cells is e p next = absurd cc
   gave n In (Long z) t u cells is e p next = absurd cc
   gave n In (Wide z) t u cells is e p next = absurd cc
   gave n In (Span z) t u cells is e p next = absurd cc
-  gave n Pt (Span z) t u cells is e p next = let same : record t { preset = z } ≡ u = cc in rw (is, same) refl
+  gave n Pt (Span z) t u cells is e p next = let same : record t { preset = z } ≡ u =
+      cc in rw (is, same) refl
   gave n Pt (Truth b) t u cells is e p next = absurd cc
   gave n Pt (Short z) t u cells is e p next = absurd cc
   gave n Pt (Long z) t u cells is e p next = absurd cc
   gave n Pt (Wide z) t u cells is e p next = absurd cc
 
-  pub ran : (n : ℕ) (t : TimerState) (cells : List Value) → slice_get timers n ≡ Some t → Does now (Timer Run n) (core cells slots timers) (core cells slots (slice_set timers n (called t now)))
+  pub ran : (n : ℕ) (t : TimerState) (cells : List Value) → slice_get timers n ≡ Some t
+      → Does now (Timer Run n) (core cells slots timers)
+      (core cells slots (slice_set timers n (called t now)))
   unfolding act
   ran n t cells is p next = rw is refl
 
-  pub output_fetched : (n : ℕ) (t : TimerState) (cells : List Value) → slice_get timers n ≡ Some t → length cells < 32 → Does now (Timer LoadOutput n) (core cells slots timers) (core (Truth t.output ∷ cells) slots timers)
+  pub output_fetched : (n : ℕ) (t : TimerState) (cells : List Value) → slice_get timers n ≡ Some t
+      → length cells < 32 → Does now (Timer LoadOutput n) (core cells slots timers)
+      (core (Truth t.output ∷ cells) slots timers)
   unfolding act
-  output_fetched n t cells is lt p next = let e : nat_lt (length cells) 32 ≡ true = lt-ltb (length cells) 32 lt in rw (is, e) refl
+  output_fetched n t cells is lt p next = let e : nat_lt (length cells) 32 ≡ true =
+      lt-ltb (length cells) 32 lt in rw (is, e) refl
 
-  pub elapsed_fetched : (n : ℕ) (t : TimerState) (cells : List Value) → slice_get timers n ≡ Some t → length cells < 32 → Does now (Timer LoadElapsed n) (core cells slots timers) (core (Span t.elapsed ∷ cells) slots timers)
+  pub elapsed_fetched : (n : ℕ) (t : TimerState) (cells : List Value) → slice_get timers n ≡ Some t
+      → length cells < 32 → Does now (Timer LoadElapsed n) (core cells slots timers)
+      (core (Span t.elapsed ∷ cells) slots timers)
   unfolding act
-  elapsed_fetched n t cells is lt p next = let e : nat_lt (length cells) 32 ≡ true = lt-ltb (length cells) 32 lt in rw (is, e) refl
+  elapsed_fetched n t cells is lt p next = let e : nat_lt (length cells) 32 ≡ true =
+      lt-ltb (length cells) 32 lt in rw (is, e) refl

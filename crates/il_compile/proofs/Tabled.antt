@@ -6,7 +6,7 @@ use Rattle.il_image.specs.Spelling.{IsInstr, spelling}
 use Rattle.il_image.specs.Tables.{Enters, HasTable, IsPlace, LeadsTo}
 use Rattle.il_image.specs.declared.instr.Instr.{Instr}
 use Rattle.il_image.specs.declared.instr.Instr.TheVariants.{Halt}
-use Rattle.il_image.specs.declared.kind.Kind.TheVariants.{Any, Plain}
+use Rattle.il_image.specs.declared.kind.CellKind.TheVariants.{Any, Plain}
 use Rattle.il_image.specs.declared.value.Value.TheVariants.{Truth}
 use Rattle.il_image.proofs.KindLemmas.{within_any}
 use Rattle.bay_base.specs.declared.types.ElementaryType.TheVariants as elementary
@@ -25,14 +25,16 @@ each_both : {A : Type 0} (P : A → Type 0) (a b : List A) → Each P a → Each
 each_both P [] b h k = k
 each_both P (x ∷ a) b h k = (h.0, each_both P a b h.1 k)
 
-each_at : {A : Type 0} (P : A → Type 0) (a : List A) (x : A) (b : List A) → Each P (a ++ x ∷ b) → P x
+each_at : {A : Type 0} (P : A → Type 0) (a : List A) (x : A) (b : List A) → Each P (a ++ x ∷ b)
+    → P x
 each_at P [] x b h = h.0
 each_at P (y ∷ a) x b h = each_at P a x b h.1
 
 some_same : {A : Type 0} (x y : A) → Some x ≡ Some y → x ≡ y
 some_same x y e = cc
 
-whole : (c : Checked) → Each IsInstr (program_code c) → Stands (all_spelled (program_code c)) 0 (program_code c)
+whole : (c : Checked) → Each IsInstr (program_code c)
+    → Stands (all_spelled (program_code c)) 0 (program_code c)
 whole c are = record { rest = []; is = sym (append-nil (all_spelled (program_code c))); are = are }
 
 -- Some table of kinds agrees with the code.
@@ -43,32 +45,50 @@ has_table c ok are =
     let rows : List Row = first ∷ rest.rows in
     let same : instrs_of rows ≡ program_code c = ap (λ l. unset ∷ l) rest.same in
     let step = pushed c (Truth false) [] (omega arith) in
-    let enters = enters_less (table_of rest.rows) 0 (Plain elementary.Bool) Any (within_any (Plain elementary.Bool)) (rest.first None refl) in
+    let enters =
+    enters_less (table_of rest.rows) 0 (Plain elementary.Bool) Any
+    (within_any (Plain elementary.Bool)) (rest.first None refl) in
     let right : AreRight (image_of c) rows = (
       record {
         after = Plain elementary.Bool ∷ [];
         effect = step.effect;
-        enters = λ d l. subst (λ x. Enters (table_of rest.rows) x (Plain elementary.Bool ∷ [])) (sym l) enters;
+        enters =
+            λ d l. subst (λ x. Enters (table_of rest.rows) x (Plain elementary.Bool ∷ [])) (sym l)
+            enters;
         room = step.room;
       },
       rest.right,
     ) in
     let P : ℕ → Type 0 = λ d. (length (spelling unset) + d ≡ 0) ⊎ LeadsTo unset 0 d in
-    let reached : AreReached (λ d. d ≡ 0) (program_code c) =
-    (refl, items_reached c ok.labels c.items 0 [] (Some None) ok.items P (first_led c ok.labels P c.items None (inr refl))) in
-    (table_of rows, agrees (image_of c) rows (subst (Stands (image_of c).code 0) (sym same) (whole c are)) (ap octets (sym same)) refl right (subst (AreReached (λ d. d ≡ 0)) (sym same) reached))
+    let reached : AreReached (λ d. d ≡ 0) (program_code c) = (
+      refl,
+      items_reached c ok.labels c.items 0 [] (Some None) ok.items P
+          (first_led c ok.labels P c.items None (inr refl)),
+    ) in (
+      table_of rows,
+      agrees (image_of c) rows
+          (subst (Stands (image_of c).code 0) (sym same) (whole c are)) (ap octets (sym same)) refl
+          right (subst (AreReached (λ d. d ≡ 0)) (sym same) reached),
+    )
 
 -- No instruction writes a slot that may only be read.
 pub all_keep : (c : Checked) → IsTyped c → Each (Keeps c) (program_code c)
 all_keep c ok =
-    let rest = tail c ok.labels c.items 0 [] (Some None) ok.items in
-    (tt, each_both (Keeps c) (items_code (length c.externals) c.items) (Halt ∷ []) rest.keeps (tt, tt))
+    let rest = tail c ok.labels c.items 0 [] (Some None) ok.items in (
+      tt,
+      each_both (Keeps c) (items_code (length c.externals) c.items) (Halt ∷ []) rest.keeps
+          (tt, tt),
+    )
 
 -- what the image has at a place is an instruction of the code
-pub keeps_at : (c : Checked) → IsTyped c → Each IsInstr (program_code c) → (place : ℕ) (i : Instr) (next : ℕ) → IsPlace (image_of c).code place → instr_at (image_of c).code place ≡ Some (i, next) → Keeps c i
+pub keeps_at : (c : Checked) → IsTyped c → Each IsInstr (program_code c)
+    → (place : ℕ) (i : Instr) (next : ℕ) → IsPlace (image_of c).code place
+    → instr_at (image_of c).code place ≡ Some (i, next) → Keeps c i
 keeps_at c ok are place i next p e =
     let a = is_at (image_of c).code (program_code c) (whole c are) refl place p in
     let f = at_found (image_of c).code (program_code c) (whole c are) refl place a in
     let pair : Some (a.instr, place + length (spelling a.instr)) ≡ Some (i, next) = sym f ∙ e in
-    let same : a.instr ≡ i = ap (λ q. q.0) (some_same (a.instr, place + length (spelling a.instr)) (i, next) pair) in
-    subst (Keeps c) same (each_at (Keeps c) a.before a.instr a.behind (subst (Each (Keeps c)) a.is (all_keep c ok)))
+    let same : a.instr ≡ i =
+    ap (λ q. q.0) (some_same (a.instr, place + length (spelling a.instr)) (i, next) pair) in
+    subst (Keeps c) same (each_at (Keeps c) a.before a.instr a.behind
+    (subst (Each (Keeps c)) a.is (all_keep c ok)))

@@ -11,8 +11,8 @@ use Rattle.il_image.specs.Spelling.{spelling}
 use Rattle.il_image.specs.Tables.{Enters, LeadsTo, Table}
 use Rattle.il_image.specs.declared.instr.Instr.{Instr}
 use Rattle.il_image.specs.declared.instr.Instr.TheVariants.{Halt, Jump, Timer}
-use Rattle.il_image.specs.declared.kind.Kind.{Kind}
-use Rattle.il_image.specs.declared.kind.Kind.TheVariants.{Any}
+use Rattle.il_image.specs.declared.kind.CellKind.{CellKind}
+use Rattle.il_image.specs.declared.kind.CellKind.TheVariants.{Any}
 use Rattle.il_image.specs.declared.opcode.TimerUse.TheVariants.{Run}
 use Rattle.il_image.proofs.KindLemmas.{within_along, within_any, within_self}
 use Rattle.il_check.specs.Labelling.{Becomes, Coming, Falls, Labelling, carried, coming_behind_label, is_named}
@@ -33,44 +33,60 @@ each_both : {A : Type 0} (P : A → Type 0) (a b : List A) → Each P a → Each
 each_both P [] b h k = k
 each_both P (x ∷ a) b h k = (h.0, each_both P a b h.1 k)
 
-all_within : (ks : List Kind) → AreWithin ks ks
+all_within : (ks : List CellKind) → AreWithin ks ks
 all_within [] = tt
 all_within (k ∷ ks) = (within_self k, all_within ks)
 
-pub enters_less : (table : Table) (d : ℕ) (j k : Kind) → is_within j k ≡ true → Enters table d (k ∷ []) → Enters table d (j ∷ [])
+pub enters_less : (table : Table) (d : ℕ) (j k : CellKind) → is_within j k ≡ true
+    → Enters table d (k ∷ []) → Enters table d (j ∷ [])
 enters_less table d j k h e = by_most e.0 e.1 e.2
   where
-    by_most : (most : List Kind) → table d ≡ Some most → AreWithin (k ∷ []) most → Enters table d (j ∷ [])
+    by_most : (most : List CellKind) → table d ≡ Some most → AreWithin (k ∷ []) most
+        → Enters table d (j ∷ [])
     by_most [] is w = absurd w
     by_most (m ∷ ms) is w = (m ∷ ms, is, (within_along j k m h w.0, w.1))
 
-become_within : (t u : Option ElementaryType) → Becomes t u → is_within (kind_at t) (kind_at u) ≡ true
+become_within : (t u : Option ElementaryType) → Becomes t u
+    → is_within (kind_at t) (kind_at u) ≡ true
 become_within t u b =
-    ⊎_elim (λ (e : u ≡ t). subst (λ w. is_within (kind_at t) (kind_at w) ≡ true) (sym e) (within_self (kind_at t)))
-    (λ (e : u ≡ None). subst (λ w. is_within (kind_at t) (kind_at w) ≡ true) (sym e) (within_any (kind_at t))) b
+    ⊎_elim (λ (e : u ≡ t). subst (λ w. is_within (kind_at t) (kind_at w) ≡ true) (sym e)
+    (within_self (kind_at t)))
+    (λ (e : u ≡ None). subst (λ w. is_within (kind_at t) (kind_at w) ≡ true) (sym e)
+    (within_any (kind_at t))) b
 
 -- rows behind others
-further : (front rows : List Row) (size d : ℕ) (ks : List Kind) → octets (instrs_of front) ≡ size → Enters (table_of rows) d ks → Enters (table_of (front ++ rows)) (size + d) ks
-further front rows size d ks e h = (h.0, ap (λ n. table_of (front ++ rows) (n + d)) (sym e) ∙ behind_rows front rows d ∙ h.1, h.2)
+further : (front rows : List Row) (size d : ℕ) (ks : List CellKind)
+    → octets (instrs_of front) ≡ size → Enters (table_of rows) d ks
+    → Enters (table_of (front ++ rows)) (size + d) ks
+further front rows size d ks e h =
+    (h.0, ap (λ n. table_of (front ++ rows) (n + d)) (sym e) ∙ behind_rows front rows d ∙ h.1, h.2)
 
 module _ (c : Checked) where
-  pub flow_straight : (code : List Instr) (ks js : List Kind) → Flow c code ks js → Each (λ i. LeadsTo i 0 0) code
+  pub flow_straight : (code : List Instr) (ks js : List CellKind) → Flow c code ks js
+      → Each (λ i. LeadsTo i 0 0) code
   flow_straight [] ks js f = tt
   flow_straight (i ∷ code) ks js f = (f.1.goes, flow_straight code f.0 js f.2)
 
-  flow_keeps : (code : List Instr) (ks js : List Kind) → Flow c code ks js → Each (Keeps c) code
+  flow_keeps : (code : List Instr) (ks js : List CellKind) → Flow c code ks js → Each (Keeps c) code
   flow_keeps [] ks js f = tt
   flow_keeps (i ∷ code) ks js f = (f.1.keeps, flow_keeps code f.0 js f.2)
 
   -- the rows of instructions before others
-  record Put (code : List Instr) (ks : List Kind) (rows : List Row) : Type 0 where
+  record Put (code : List Instr) (ks : List CellKind) (rows : List Row) : Type 0 where
     front : List Row
     same : instrs_of front ≡ code
     right : AreRight (image_of c) (front ++ rows)
     first : Enters (table_of (front ++ rows)) 0 ks
 
-  put : (code : List Instr) (ks js : List Kind) (rows : List Row) → Flow c code ks js → AreRight (image_of c) rows → Enters (table_of rows) 0 js → Put code ks rows
-  put [] ks js rows f right first = record { front = []; same = refl; right = right; first = subst (λ x. Enters (table_of rows) 0 x) (sym f) first }
+  put : (code : List Instr) (ks js : List CellKind) (rows : List Row) → Flow c code ks js
+      → AreRight (image_of c) rows → Enters (table_of rows) 0 js → Put code ks rows
+  put [] ks js rows f right first =
+      record {
+        front = [];
+        same = refl;
+        right = right;
+        first = subst (λ x. Enters (table_of rows) 0 x) (sym f) first;
+      }
   put (i ∷ code) ks js rows f right first =
       let p = put code f.0 js rows f.2 right first in
       record {
@@ -80,7 +96,9 @@ module _ (c : Checked) where
           record {
             after = f.0;
             effect = f.1.effect;
-            enters = λ d l. subst (λ x. Enters (table_of (p.front ++ rows)) x f.0) (sym (f.1.straight d l)) p.first;
+            enters =
+                λ d l. subst (λ x. Enters (table_of (p.front ++ rows)) x f.0)
+                (sym (f.1.straight d l)) p.first;
             room = f.1.room;
           },
           p.right,
@@ -90,32 +108,48 @@ module _ (c : Checked) where
 
   -- ---- jumps
 
-  jump_right : (condition : Condition) (n : ℕ) (t : Option ElementaryType) (rows : List Row) → Decides condition t → Enters (table_of rows) n (kind_at t ∷ [])
+  jump_right : (condition : Condition) (n : ℕ) (t : Option ElementaryType) (rows : List Row)
+      → Decides condition t → Enters (table_of rows) n (kind_at t ∷ [])
       → (coming_behind_condition condition t ≡ Some t → Enters (table_of rows) 0 (kind_at t ∷ []))
-      → IsRight (image_of c) (record { instr = Jump (when_of condition) n; kinds = kind_at t ∷ [] }) rows
+      → IsRight (image_of c) (record { instr = Jump (when_of condition) n; kinds = kind_at t ∷ [] })
+      rows
   jump_right Always n t rows ok far near = record {
     after = kind_at t ∷ [];
     effect = refl;
-    enters = λ d l. subst (λ x. Enters (table_of rows) x (kind_at t ∷ [])) (let z : n ≡ d = omega arith in z) far;
+    enters =
+        λ d l. subst (λ x. Enters (table_of rows) x (kind_at t ∷ []))
+        (let z : n ≡ d = omega arith in z) far;
     room = omega arith;
   }
   jump_right IfTrue n t rows ok far near = record {
     after = kind_at t ∷ [];
-    effect = subst (λ w. effect (slots c) (timers c) (Jump (when_of IfTrue) n) (kind_at w ∷ []) ≡ Some (kind_at w ∷ [])) (sym ok) refl;
-    enters = λ d l. ⊎_elim (λ (e : d ≡ 0). subst (λ x. Enters (table_of rows) x (kind_at t ∷ [])) (sym e) (near refl))
-        (λ (e : d ≡ 0 + n). subst (λ x. Enters (table_of rows) x (kind_at t ∷ [])) (let z : n ≡ d = omega arith in z) far) l;
+    effect =
+        subst (λ w. effect (slots c) (timers c) (Jump (when_of IfTrue) n) (kind_at w ∷ [])
+        ≡ Some (kind_at w ∷ [])) (sym ok) refl;
+    enters =
+        λ d l. ⊎_elim (λ (e : d ≡ 0). subst (λ x. Enters (table_of rows) x (kind_at t ∷ [])) (sym e)
+        (near refl))
+        (λ (e : d ≡ 0 + n). subst (λ x. Enters (table_of rows) x (kind_at t ∷ []))
+        (let z : n ≡ d = omega arith in z) far) l;
     room = omega arith;
   }
   jump_right IfFalse n t rows ok far near = record {
     after = kind_at t ∷ [];
-    effect = subst (λ w. effect (slots c) (timers c) (Jump (when_of IfFalse) n) (kind_at w ∷ []) ≡ Some (kind_at w ∷ [])) (sym ok) refl;
-    enters = λ d l. ⊎_elim (λ (e : d ≡ 0). subst (λ x. Enters (table_of rows) x (kind_at t ∷ [])) (sym e) (near refl))
-        (λ (e : d ≡ 0 + n). subst (λ x. Enters (table_of rows) x (kind_at t ∷ [])) (let z : n ≡ d = omega arith in z) far) l;
+    effect =
+        subst (λ w. effect (slots c) (timers c) (Jump (when_of IfFalse) n) (kind_at w ∷ [])
+        ≡ Some (kind_at w ∷ [])) (sym ok) refl;
+    enters =
+        λ d l. ⊎_elim (λ (e : d ≡ 0). subst (λ x. Enters (table_of rows) x (kind_at t ∷ [])) (sym e)
+        (near refl))
+        (λ (e : d ≡ 0 + n). subst (λ x. Enters (table_of rows) x (kind_at t ∷ []))
+        (let z : n ≡ d = omega arith in z) far) l;
     room = omega arith;
   }
 
-still_named : (k : ℕ) (named : List ℕ) (l : ℕ) → is_named named l ≡ true → is_named (k ∷ named) l ≡ true
-still_named k named l h = elim (k == l) as (λ b. b || is_named named l ≡ true) [ true ↦ refl | false ↦ h ]
+still_named : (k : ℕ) (named : List ℕ) (l : ℕ) → is_named named l ≡ true
+    → is_named (k ∷ named) l ≡ true
+still_named k named l h =
+    elim (k == l) as (λ b. b || is_named named l ≡ true) [ true ↦ refl | false ↦ h ]
 
 -- what comes is one thing
 same_coming : (now : Coming) (t u : Option ElementaryType) → now ≡ Some t → now ≡ Some u → t ≡ u
@@ -128,16 +162,27 @@ module _ (c : Checked) (labels : Labelling) where
     pub rows : List Row
     pub same : instrs_of rows ≡ items_code (length c.externals) is ++ Halt ∷ []
     pub right : AreRight (image_of c) rows
-    pub first : (t : Option ElementaryType) → now ≡ Some t → Enters (table_of rows) 0 (kind_at t ∷ [])
-    pub labelled : (l : ℕ) → is_named named l ≡ true → Enters (table_of rows) (octets_before (length c.externals) l is) (kind_at (labels l) ∷ [])
-    pub ended : (k : Kind) → Enters (table_of rows) (octets (items_code (length c.externals) is)) (k ∷ [])
+    pub first : (t : Option ElementaryType) → now ≡ Some t
+        → Enters (table_of rows) 0 (kind_at t ∷ [])
+    pub labelled : (l : ℕ) → is_named named l ≡ true
+        → Enters (table_of rows) (octets_before (length c.externals) l is) (kind_at (labels l) ∷ [])
+    pub ended : (k : CellKind)
+        → Enters (table_of rows) (octets (items_code (length c.externals) is)) (k ∷ [])
     pub keeps : Each (Keeps c) (items_code (length c.externals) is)
 
   end_tail : (named : List ℕ) (now : Coming) → Tail [] named now
   end_tail named now = record {
     rows = record { instr = Halt; kinds = Any ∷ [] } ∷ [];
     same = refl;
-    right = (record { after = Any ∷ []; effect = refl; enters = λ d l. absurd l; room = omega arith }, tt);
+    right = (
+      record {
+        after = Any ∷ [];
+        effect = refl;
+        enters = λ d l. absurd l;
+        room = omega arith;
+      },
+      tt,
+    );
     first = λ t e. (Any ∷ [], refl, (within_any (kind_at t), tt));
     labelled = λ l h. (Any ∷ [], refl, (within_any (kind_at (labels l)), tt));
     ended = λ k. (Any ∷ [], refl, (within_any k, tt));
@@ -145,91 +190,143 @@ module _ (c : Checked) (labels : Labelling) where
   }
 
   -- an item without jumps
-  straight_tail : (i : Item) (is : List Item) (a : List Instr) (named : List ℕ) (now : Coming) (t u : Option ElementaryType) (top : Kind) → now ≡ Some t
+  straight_tail : (i : Item) (is : List Item) (a : List Instr) (named : List ℕ) (now : Coming)
+      (t u : Option ElementaryType) (top : CellKind) → now ≡ Some t
       → items_code (length c.externals) (i ∷ is) ≡ a ++ items_code (length c.externals) is
-      → ((l : ℕ) → octets_before (length c.externals) l (i ∷ is) ≡ octets a + octets_before (length c.externals) l is)
-      → Flow c a (kind_at t ∷ []) (top ∷ []) → is_within top (kind_at u) ≡ true → Tail is named (Some u) → Tail (i ∷ is) named now
+      → ((l : ℕ) → octets_before (length c.externals) l (i ∷ is)
+      ≡ octets a + octets_before (length c.externals) l is)
+      → Flow c a (kind_at t ∷ []) (top ∷ []) → is_within top (kind_at u) ≡ true
+      → Tail is named (Some u) → Tail (i ∷ is) named now
   straight_tail i is a named now t u top comes same before flow fit next =
-      let p = put c a (kind_at t ∷ []) (top ∷ []) next.rows flow next.right (enters_less (table_of next.rows) 0 top (kind_at u) fit (next.first u refl)) in
+      let p = put c a (kind_at t ∷ []) (top ∷ []) next.rows flow next.right
+      (enters_less (table_of next.rows) 0 top (kind_at u) fit (next.first u refl)) in
       let size : octets (instrs_of p.front) ≡ octets a = ap octets p.same in
       record {
         rows = p.front ++ next.rows;
-        same = instrs_both p.front next.rows ∙ ap (λ l. l ++ instrs_of next.rows) p.same ∙ ap (λ l. a ++ l) next.same
-            ∙ sym (append_assoc a (items_code (length c.externals) is) (Halt ∷ [])) ∙ ap (λ l. l ++ Halt ∷ []) (sym same);
+        same = instrs_both p.front next.rows ∙ ap (λ l. l ++ instrs_of next.rows) p.same
+            ∙ ap (λ l. a ++ l) next.same
+            ∙ sym (append_assoc a (items_code (length c.externals) is) (Halt ∷ []))
+            ∙ ap (λ l. l ++ Halt ∷ []) (sym same);
         right = p.right;
-        first = λ w e. subst (λ x. Enters (table_of (p.front ++ next.rows)) 0 (kind_at x ∷ [])) (same_coming now t w comes e) p.first;
-        labelled = λ l h. subst (λ d. Enters (table_of (p.front ++ next.rows)) d (kind_at (labels l) ∷ [])) (sym (before l))
-            (further p.front next.rows (octets a) (octets_before (length c.externals) l is) (kind_at (labels l) ∷ []) size (next.labelled l h));
-        ended = λ k. subst (λ d. Enters (table_of (p.front ++ next.rows)) d (k ∷ [])) (sym (ap octets same ∙ octets_both a (items_code (length c.externals) is)))
-            (further p.front next.rows (octets a) (octets (items_code (length c.externals) is)) (k ∷ []) size (next.ended k));
-        keeps = subst (Each (Keeps c)) (sym same) (each_both (Keeps c) a (items_code (length c.externals) is) (flow_keeps c a (kind_at t ∷ []) (top ∷ []) flow) next.keeps);
+        first = λ w e. subst (λ x. Enters (table_of (p.front ++ next.rows)) 0 (kind_at x ∷ []))
+            (same_coming now t w comes e) p.first;
+        labelled =
+            λ l h. subst (λ d. Enters (table_of (p.front ++ next.rows)) d (kind_at (labels l) ∷ []))
+            (sym (before l))
+            (further p.front next.rows (octets a) (octets_before (length c.externals) l is)
+            (kind_at (labels l) ∷ []) size (next.labelled l h));
+        ended = λ k. subst (λ d. Enters (table_of (p.front ++ next.rows)) d (k ∷ []))
+            (sym (ap octets same ∙ octets_both a (items_code (length c.externals) is)))
+            (further p.front next.rows (octets a) (octets (items_code (length c.externals) is))
+            (k ∷ []) size (next.ended k));
+        keeps = subst (Each (Keeps c)) (sym same)
+            (each_both (Keeps c) a (items_code (length c.externals) is)
+            (flow_keeps c a (kind_at t ∷ []) (top ∷ []) flow) next.keeps);
       }
 
   -- a jump over so many octets
-  jump_tail : (x : Transfer) (condition : Condition) (n : ℕ) (is : List Item) (named more : List ℕ) (now : Coming) (t : Option ElementaryType) → now ≡ Some t
-      → items_code (length c.externals) (transfer x ∷ is) ≡ Jump (when_of condition) n ∷ items_code (length c.externals) is
-      → octets (transfer_code (length c.externals) x 0) ≡ length (spelling (Jump (when_of condition) n))
+  jump_tail : (x : Transfer) (condition : Condition) (n : ℕ) (is : List Item) (named more : List ℕ)
+      (now : Coming) (t : Option ElementaryType) → now ≡ Some t
+      → items_code (length c.externals) (transfer x ∷ is)
+      ≡ Jump (when_of condition) n ∷ items_code (length c.externals) is
+      → octets (transfer_code (length c.externals) x 0)
+      ≡ length (spelling (Jump (when_of condition) n))
       → Decides condition t → ((l : ℕ) → is_named named l ≡ true → is_named more l ≡ true)
-      → (next : Tail is more (coming_behind_condition condition t)) → Enters (table_of next.rows) n (kind_at t ∷ []) → Tail (transfer x ∷ is) named now
+      → (next : Tail is more (coming_behind_condition condition t))
+      → Enters (table_of next.rows) n (kind_at t ∷ []) → Tail (transfer x ∷ is) named now
   jump_tail x condition n is named more now t comes same size ok still next far =
       let j = Jump (when_of condition) n in
       let row : Row = record { instr = j; kinds = kind_at t ∷ [] } in
-      let front : octets (j ∷ []) ≡ length (spelling j) = (let m = octets_more j [] in omega arith) in
+      let front : octets (j ∷ []) ≡ length (spelling j) =
+      (let m = octets_more j [] in omega arith) in
       record {
         rows = row ∷ next.rows;
         same = ap (λ l. j ∷ l) next.same ∙ ap (λ l. l ++ Halt ∷ []) (sym same);
         right = (jump_right c condition n t next.rows ok far (next.first t), next.right);
-        first = λ w e. (kind_at t ∷ [], refl, subst (λ x. AreWithin (kind_at x ∷ []) (kind_at t ∷ [])) (same_coming now t w comes e) (all_within (kind_at t ∷ [])));
-        labelled = λ l h. further (row ∷ []) next.rows (octets (transfer_code (length c.externals) x 0)) (octets_before (length c.externals) l is) (kind_at (labels l) ∷ []) (front ∙ sym size) (next.labelled l (still l h));
-        ended = λ k. subst (λ d. Enters (table_of (row ∷ next.rows)) d (k ∷ [])) (sym (ap octets same ∙ octets_more j (items_code (length c.externals) is)))
-            (further (row ∷ []) next.rows (length (spelling j)) (octets (items_code (length c.externals) is)) (k ∷ []) front (next.ended k));
+        first = λ w e. (
+          kind_at t ∷ [],
+          refl,
+          subst (λ x. AreWithin (kind_at x ∷ []) (kind_at t ∷ [])) (same_coming now t w comes e)
+              (all_within (kind_at t ∷ [])),
+        );
+        labelled =
+            λ l h. further (row ∷ []) next.rows (octets (transfer_code (length c.externals) x 0))
+            (octets_before (length c.externals) l is) (kind_at (labels l) ∷ []) (front ∙ sym size)
+            (next.labelled l (still l h));
+        ended = λ k. subst (λ d. Enters (table_of (row ∷ next.rows)) d (k ∷ []))
+            (sym (ap octets same ∙ octets_more j (items_code (length c.externals) is)))
+            (further (row ∷ []) next.rows (length (spelling j))
+            (octets (items_code (length c.externals) is)) (k ∷ []) front (next.ended k));
         keeps = subst (Each (Keeps c)) (sym same) (tt, next.keeps);
       }
 
   -- behind a label to which a way leads
-  label_comes : (passed : ℕ) (named : List ℕ) (now : Coming) (t : Option ElementaryType) → now ≡ Some t → coming_behind_label labels (carried passed named now) ≡ Some (labels passed)
+  label_comes : (passed : ℕ) (named : List ℕ) (now : Coming) (t : Option ElementaryType)
+      → now ≡ Some t → coming_behind_label labels (carried passed named now) ≡ Some (labels passed)
   label_comes passed named now t e = rw e refl
 
-  label_named : (passed : ℕ) (named : List ℕ) (now : Coming) → is_named named passed ≡ true → coming_behind_label labels (carried passed named now) ≡ Some (labels passed)
+  label_named : (passed : ℕ) (named : List ℕ) (now : Coming) → is_named named passed ≡ true
+      → coming_behind_label labels (carried passed named now) ≡ Some (labels passed)
   label_named passed named now h = either_way (is_some now) (is_named named passed) h
     where
-      either_way : (a b : Bool) → b ≡ true → (if a || b then Some (labels passed) else None) ≡ Some (labels passed)
+      either_way : (a b : Bool) → b ≡ true
+          → (if a || b then Some (labels passed) else None) ≡ Some (labels passed)
       either_way true b e = refl
       either_way false b e = rw e refl
 
-  label_tail : (n passed : ℕ) (is : List Item) (named : List ℕ) (now : Coming) → n ≡ passed → Falls labels passed now → Tail is named (coming_behind_label labels (carried passed named now)) → Tail (label n ∷ is) named now
+  label_tail : (n passed : ℕ) (is : List Item) (named : List ℕ) (now : Coming) → n ≡ passed
+      → Falls labels passed now
+      → Tail is named (coming_behind_label labels (carried passed named now))
+      → Tail (label n ∷ is) named now
   label_tail n passed is named now same falls next = record {
     rows = next.rows;
     same = next.same;
     right = next.right;
     first = λ t e.
-        enters_less (table_of next.rows) 0 (kind_at t) (kind_at (labels passed)) (become_within t (labels passed) (subst (λ w. Falls labels passed w) e falls))
+        enters_less (table_of next.rows) 0 (kind_at t) (kind_at (labels passed))
+        (become_within t (labels passed) (subst (λ w. Falls labels passed w) e falls))
         (next.first (labels passed) (label_comes passed named now t e));
     labelled = λ l h.
-        elim (n == l) as (λ b. (n == l) ≡ b → Enters (table_of next.rows) (if b then 0 else octets_before (length c.externals) l is) (kind_at (labels l) ∷ [])) [
+        elim (n == l) as (λ b. (n == l) ≡ b
+        → Enters (table_of next.rows) (if b then 0 else octets_before (length c.externals) l is)
+        (kind_at (labels l) ∷ [])) [
           | true ↦ (λ e.
               (let here : passed ≡ l = sym same ∙ eqb-true n l e in
-              let named_it : is_named named passed ≡ true = subst (λ k. is_named named k ≡ true) (sym here) h in
-              subst (λ k. Enters (table_of next.rows) 0 (kind_at (labels k) ∷ [])) here (next.first (labels passed) (label_named passed named now named_it))))
+              let named_it : is_named named passed ≡ true =
+              subst (λ k. is_named named k ≡ true) (sym here) h in
+              subst (λ k. Enters (table_of next.rows) 0 (kind_at (labels k) ∷ [])) here
+              (next.first (labels passed) (label_named passed named now named_it))))
           | false ↦ (λ e. next.labelled l h)
         ] refl;
     ended = next.ended;
     keeps = next.keeps;
   }
 
-  pub tail : (is : List Item) (passed : ℕ) (named : List ℕ) (now : Coming) → AreItems c labels is (carried passed named now) → Tail is named now
+  pub tail : (is : List Item) (passed : ℕ) (named : List ℕ) (now : Coming)
+      → AreItems c labels is (carried passed named now) → Tail is named now
   tail [] passed named now ok = end_tail named now
-  tail (label n ∷ is) passed named now ok = label_tail n passed is named now ok.0.0 ok.0.2 (tail is (passed + 1) named (coming_behind_label labels (carried passed named now)) ok.1)
+  tail (label n ∷ is) passed named now ok =
+      label_tail n passed is named now ok.0.0 ok.0.2
+      (tail is (passed + 1) named (coming_behind_label labels (carried passed named now)) ok.1)
   tail (plain e ∷ is) passed named now ok =
-      let f = entry_flows c e ok.0 ok.1 (kind_at ok.0) [] ok.2.1 (within_self (kind_at ok.0)) (let d = ok.2.2 in omega arith) in
-      straight_tail (plain e) is (entry_code (length c.externals) e) named now ok.0 ok.1 f.top ok.2.0 refl (λ l. refl) f.flow f.fits (tail is passed named (Some ok.1) ok.3)
+      let f = entry_flows c e ok.0 ok.1 (kind_at ok.0) [] ok.2.1 (within_self (kind_at ok.0))
+      (let d = ok.2.2 in omega arith) in
+      straight_tail (plain e) is (entry_code (length c.externals) e) named now ok.0 ok.1 f.top
+      ok.2.0 refl (λ l. refl) f.flow f.fits (tail is passed named (Some ok.1) ok.3)
   tail (transfer (go.Call n args) ∷ is) passed named now ok =
-      straight_tail (transfer (go.Call n args)) is (arguments_code (length c.externals) n args ++ Timer Run n ∷ []) named now ok.0 None (kind_at ok.0) ok.1.0 refl (λ l. refl)
-      (call_flows c n args (kind_at ok.0 ∷ []) ok.1.1.0 ok.1.1.1 (omega arith)) (within_any (kind_at ok.0)) (tail is passed named (Some None) ok.2)
+      straight_tail (transfer (go.Call n args)) is
+      (arguments_code (length c.externals) n args ++ Timer Run n ∷ []) named now ok.0 None
+      (kind_at ok.0) ok.1.0 refl (λ l. refl)
+      (call_flows c n args (kind_at ok.0 ∷ []) ok.1.1.0 ok.1.1.1 (omega arith))
+      (within_any (kind_at ok.0)) (tail is passed named (Some None) ok.2)
   tail (transfer (go.Jump condition l) ∷ is) passed named now ok =
       let next = tail is passed (l ∷ named) (coming_behind_condition condition ok.0) ok.2 in
-      jump_tail (go.Jump condition l) condition (octets_before (length c.externals) l is) is named (l ∷ named) now ok.0 ok.1.0 refl refl ok.1.1.0 (λ k h. still_named l named k h) next
-      (enters_less (table_of next.rows) (octets_before (length c.externals) l is) (kind_at ok.0) (kind_at (labels l)) (become_within ok.0 (labels l) ok.1.2) (next.labelled l (ap (λ b. b || is_named named l) (eq-eqb l l refl))))
+      jump_tail (go.Jump condition l) condition (octets_before (length c.externals) l is) is named
+      (l ∷ named) now ok.0 ok.1.0 refl refl ok.1.1.0 (λ k h. still_named l named k h) next
+      (enters_less (table_of next.rows) (octets_before (length c.externals) l is) (kind_at ok.0)
+      (kind_at (labels l)) (become_within ok.0 (labels l) ok.1.2)
+      (next.labelled l (ap (λ b. b || is_named named l) (eq-eqb l l refl))))
   tail (transfer (go.Return condition) ∷ is) passed named now ok =
       let next = tail is passed named (coming_behind_condition condition ok.0) ok.2 in
-      jump_tail (go.Return condition) condition (octets (items_code (length c.externals) is)) is named named now ok.0 ok.1.0 refl refl ok.1.1 (λ k h. h) next (next.ended (kind_at ok.0))
+      jump_tail (go.Return condition) condition (octets (items_code (length c.externals) is)) is
+      named named now ok.0 ok.1.0 refl refl ok.1.1 (λ k h. h) next (next.ended (kind_at ok.0))

@@ -26,7 +26,8 @@ leaps Always n = omega arith
 leaps IfTrue n = inr (omega arith)
 leaps IfFalse n = inr (omega arith)
 
-falls : (condition : Condition) (n : ℕ) (t u : Option ElementaryType) → coming_behind_condition condition t ≡ Some u → LeadsTo (Jump (when_of condition) n) 0 0
+falls : (condition : Condition) (n : ℕ) (t u : Option ElementaryType)
+    → coming_behind_condition condition t ≡ Some u → LeadsTo (Jump (when_of condition) n) 0 0
 falls Always n t u e = absurd cc
 falls IfTrue n t u e = inl refl
 falls IfFalse n t u e = inl refl
@@ -34,38 +35,57 @@ falls IfFalse n t u e = inl refl
 not_both : (b : Bool) → b ≡ true → b ≡ false → ⊥
 not_both b e f = absurd cc
 
-named_before : (k l : ℕ) (named : List ℕ) → is_named (k ∷ named) l ≡ true → (k ≡ l) ⊎ (is_named named l ≡ true)
-named_before k l named h = elim (k == l) as (λ b. (k == l) ≡ b → b || is_named named l ≡ true → (k ≡ l) ⊎ (is_named named l ≡ true)) [ true ↦ (λ e g. inl (eqb-true k l e)) | false ↦ (λ e g. inr g) ] refl h
+named_before : (k l : ℕ) (named : List ℕ) → is_named (k ∷ named) l ≡ true
+    → (k ≡ l) ⊎ (is_named named l ≡ true)
+named_before k l named h =
+    elim (k == l) as (λ b. (k == l) ≡ b → b || is_named named l ≡ true
+    → (k ≡ l) ⊎ (is_named named l ≡ true))
+    [ true ↦ (λ e g. inl (eqb-true k l e)) | false ↦ (λ e g. inr g) ] refl h
 
 module _ (c : Checked) (labels : Labelling) where
   -- labels below have higher numbers
-  no_lower : (is : List Item) (passed : ℕ) (named : List ℕ) (now : Coming) (l : ℕ) → AreItems c labels is (carried passed named now) → has_label is l ≡ true → passed ≤ l
+  no_lower : (is : List Item) (passed : ℕ) (named : List ℕ) (now : Coming) (l : ℕ)
+      → AreItems c labels is (carried passed named now) → has_label is l ≡ true → passed ≤ l
   no_lower [] passed named now l ok h = absurd cc
   no_lower (label n ∷ is) passed named now l ok h =
       let same = ok.0.0 in
       elim (n == l) as (λ b. (n == l) ≡ b → b || has_label is l ≡ true → passed ≤ l) [
         | true ↦ (λ e g. (let f = eqb-true n l e in omega arith))
-        | false ↦ (λ e g. (let f = no_lower is (passed + 1) named (coming_behind_label labels (carried passed named now)) l ok.1 g in omega arith))
+        | false ↦
+            (λ e g. (let f = no_lower is (passed + 1) named
+            (coming_behind_label labels (carried passed named now)) l ok.1 g in omega arith))
       ] refl h
-  no_lower (transfer (go.Jump condition k) ∷ is) passed named now l ok h = no_lower is passed (k ∷ named) (coming_behind_condition condition ok.0) l ok.2 h
-  no_lower (transfer (go.Return condition) ∷ is) passed named now l ok h = no_lower is passed named (coming_behind_condition condition ok.0) l ok.2 h
-  no_lower (transfer (go.Call n args) ∷ is) passed named now l ok h = no_lower is passed named (Some None) l ok.2 h
+  no_lower (transfer (go.Jump condition k) ∷ is) passed named now l ok h =
+      no_lower is passed (k ∷ named) (coming_behind_condition condition ok.0) l ok.2 h
+  no_lower (transfer (go.Return condition) ∷ is) passed named now l ok h =
+      no_lower is passed named (coming_behind_condition condition ok.0) l ok.2 h
+  no_lower (transfer (go.Call n args) ∷ is) passed named now l ok h =
+      no_lower is passed named (Some None) l ok.2 h
   no_lower (plain e ∷ is) passed named now l ok h = no_lower is passed named (Some ok.1) l ok.3 h
 
   -- what is led to from above: the first item, where something comes to it, each label below that
   -- was named, and, where nothing comes, the end or some label
   pub record IsLed (P : ℕ → Type 0) (is : List Item) (named : List ℕ) (now : Coming) : Type 0 where
     pub comes : (t : Option ElementaryType) → now ≡ Some t → P 0
-    pub jumps : (l : ℕ) → is_named named l ≡ true → has_label is l ≡ true → P (octets_before (length c.externals) l is)
-    pub ends : now ≡ None → P (octets (items_code (length c.externals) is)) ⊎ ((l : ℕ) × (is_named named l ≡ true) × (has_label is l ≡ true))
+    pub jumps : (l : ℕ) → is_named named l ≡ true → has_label is l ≡ true
+        → P (octets_before (length c.externals) l is)
+    pub ends : now ≡ None → P (octets (items_code (length c.externals) is))
+        ⊎ ((l : ℕ) × (is_named named l ≡ true) × (has_label is l ≡ true))
 
-  end_led : (P : ℕ → Type 0) (named : List ℕ) (now other : Coming) → now ≡ other → IsLed P [] named now → P 0
-  end_led P named now None e led = ⊎_elim (λ (p : P 0). p) (λ (x : (l : ℕ) × (is_named named l ≡ true) × (false ≡ true)). absurd (let bad = x.2 in cc)) (led.ends e)
+  end_led : (P : ℕ → Type 0) (named : List ℕ) (now other : Coming) → now ≡ other
+      → IsLed P [] named now → P 0
+  end_led P named now None e led =
+      ⊎_elim (λ (p : P 0). p)
+      (λ (x : (l : ℕ) × (is_named named l ≡ true) × (false ≡ true)). absurd (let bad = x.2 in cc))
+      (led.ends e)
   end_led P named now (Some t) e led = led.comes t e
 
   -- behind code whose instructions go on to the next
-  straight_led : (P : ℕ → Type 0) (size : ℕ) (i : Item) (is : List Item) (named : List ℕ) (now : Coming) (u : Option ElementaryType)
-      → ((l : ℕ) → octets_before (length c.externals) l (i ∷ is) ≡ size + octets_before (length c.externals) l is) → ((l : ℕ) → has_label (i ∷ is) l ≡ has_label is l)
+  straight_led : (P : ℕ → Type 0) (size : ℕ) (i : Item) (is : List Item) (named : List ℕ)
+      (now : Coming) (u : Option ElementaryType)
+      → ((l : ℕ) → octets_before (length c.externals) l (i ∷ is)
+      ≡ size + octets_before (length c.externals) l is)
+      → ((l : ℕ) → has_label (i ∷ is) l ≡ has_label is l)
       → IsLed P (i ∷ is) named now → IsLed (λ d. P (size + d) ⊎ (d ≡ 0)) is named (Some u)
   straight_led P size i is named now u before same led = record {
     comes = λ t e. inr refl;
@@ -73,11 +93,14 @@ module _ (c : Checked) (labels : Labelling) where
     ends = λ e. absurd cc;
   }
 
-  label_led : (P : ℕ → Type 0) (n passed : ℕ) (is : List Item) (named : List ℕ) (now : Coming) → n ≡ passed → ((l : ℕ) → has_label is l ≡ true → passed + 1 ≤ l)
-      → IsLed P (label n ∷ is) named now → IsLed P is named (coming_behind_label labels (carried passed named now))
+  label_led : (P : ℕ → Type 0) (n passed : ℕ) (is : List Item) (named : List ℕ) (now : Coming)
+      → n ≡ passed → ((l : ℕ) → has_label is l ≡ true → passed + 1 ≤ l)
+      → IsLed P (label n ∷ is) named now
+      → IsLed P is named (coming_behind_label labels (carried passed named now))
   label_led P n passed is named now same above led = record {
     comes = λ t e. by_coming now refl t e;
-    jumps = λ l h g. subst (λ b. P (if b then 0 else octets_before (length c.externals) l is)) (ne_eqb n l (λ e. (let a = above l g in omega arith)))
+    jumps = λ l h g. subst (λ b. P (if b then 0 else octets_before (length c.externals) l is))
+        (ne_eqb n l (λ e. (let a = above l g in omega arith)))
         (led.jumps l h (either (n == l) (has_label is l) g));
     ends = λ e. by_ends now refl e;
   }
@@ -89,51 +112,80 @@ module _ (c : Checked) (labels : Labelling) where
       here : is_named named passed ≡ true → P 0
       here h =
           let it : (n == passed) ≡ true = eq-eqb n passed same in
-          subst (λ b. P (if b then 0 else octets_before (length c.externals) passed is)) it (led.jumps passed h (ap (λ b. b || has_label is passed) it))
+          subst (λ b. P (if b then 0 else octets_before (length c.externals) passed is)) it
+          (led.jumps passed h (ap (λ b. b || has_label is passed) it))
 
-      by_coming : (other : Coming) → now ≡ other → (t : Option ElementaryType) → coming_behind_label labels (carried passed named now) ≡ Some t → P 0
+      by_coming : (other : Coming) → now ≡ other → (t : Option ElementaryType)
+          → coming_behind_label labels (carried passed named now) ≡ Some t → P 0
       by_coming (Some u) f t e = led.comes u f
       by_coming None f t e =
-          elim (is_named named passed) as (λ b. is_named named passed ≡ b → (if b then Some (labels passed) else None) ≡ Some t → P 0)
-          [ true ↦ (λ h g. here h) | false ↦ (λ h g. absurd cc) ] refl (ap (λ w. coming_behind_label labels (carried passed named w)) (sym f) ∙ e)
+          elim (is_named named passed) as
+          (λ b. is_named named passed ≡ b → (if b then Some (labels passed) else None) ≡ Some t
+          → P 0)
+          [ true ↦ (λ h g. here h) | false ↦ (λ h g. absurd cc) ] refl
+          (ap (λ w. coming_behind_label labels (carried passed named w)) (sym f) ∙ e)
 
-      other_label : is_named named passed ≡ false → (l : ℕ) × (is_named named l ≡ true) × (has_label (label n ∷ is) l ≡ true) → (l : ℕ) × (is_named named l ≡ true) × (has_label is l ≡ true)
+      other_label : is_named named passed ≡ false
+          → (l : ℕ) × (is_named named l ≡ true) × (has_label (label n ∷ is) l ≡ true)
+          → (l : ℕ) × (is_named named l ≡ true) × (has_label is l ≡ true)
       other_label not_named x = (
         x.0,
         x.1,
-        elim (n == x.0) as (λ b. (n == x.0) ≡ b → b || has_label is x.0 ≡ true → has_label is x.0 ≡ true)
-            [ true ↦ (λ e g. absurd (not_both (is_named named passed) (subst (λ k. is_named named k ≡ true) (sym (sym same ∙ eqb-true n x.0 e)) x.1) not_named)) | false ↦ (λ e g. g) ] refl x.2,
+        elim (n == x.0) as (λ b. (n == x.0) ≡ b → b || has_label is x.0 ≡ true
+            → has_label is x.0 ≡ true) [
+              | true ↦ (λ e g. absurd
+                  (not_both (is_named named passed)
+                  (subst (λ k. is_named named k ≡ true) (sym (sym same ∙ eqb-true n x.0 e)) x.1)
+                  not_named))
+              | false ↦ (λ e g. g)
+            ] refl x.2,
       )
 
-      by_ends : (other : Coming) → now ≡ other → coming_behind_label labels (carried passed named now) ≡ None
-          → P (octets (items_code (length c.externals) is)) ⊎ ((l : ℕ) × (is_named named l ≡ true) × (has_label is l ≡ true))
-      by_ends (Some u) f e = absurd (let bad : Some (labels passed) ≡ None = ap (λ w. coming_behind_label labels (carried passed named w)) (sym f) ∙ e in cc)
+      by_ends : (other : Coming) → now ≡ other
+          → coming_behind_label labels (carried passed named now) ≡ None
+          → P (octets (items_code (length c.externals) is))
+          ⊎ ((l : ℕ) × (is_named named l ≡ true) × (has_label is l ≡ true))
+      by_ends (Some u) f e =
+          absurd (let bad : Some (labels passed) ≡ None =
+          ap (λ w. coming_behind_label labels (carried passed named w)) (sym f) ∙ e in cc)
       by_ends None f e =
-          elim (is_named named passed) as (λ b. is_named named passed ≡ b → (if b then Some (labels passed) else None) ≡ None
-          → P (octets (items_code (length c.externals) is)) ⊎ ((l : ℕ) × (is_named named l ≡ true) × (has_label is l ≡ true))) [
+          elim (is_named named passed) as
+          (λ b. is_named named passed ≡ b → (if b then Some (labels passed) else None) ≡ None
+          → P (octets (items_code (length c.externals) is))
+          ⊎ ((l : ℕ) × (is_named named l ≡ true) × (has_label is l ≡ true))) [
             | true ↦ (λ h g. absurd cc)
             | false ↦ (λ h g. ⊎_elim
                 (λ (p : P (octets (items_code (length c.externals) is))). inl p)
-                (λ (x : (l : ℕ) × (is_named named l ≡ true) × (has_label (label n ∷ is) l ≡ true)). inr (other_label h x))
+                (λ (x : (l : ℕ) × (is_named named l ≡ true) × (has_label (label n ∷ is) l ≡ true)).
+                inr (other_label h x))
                 (led.ends f))
           ] refl (ap (λ w. coming_behind_label labels (carried passed named w)) (sym f) ∙ e)
 
-  jump_led : (P : ℕ → Type 0) (condition : Condition) (k : ℕ) (is : List Item) (named : List ℕ) (now : Coming) (t : Option ElementaryType) → has_label is k ≡ true
+  jump_led : (P : ℕ → Type 0) (condition : Condition) (k : ℕ) (is : List Item) (named : List ℕ)
+      (now : Coming) (t : Option ElementaryType) → has_label is k ≡ true
       → IsLed P (transfer (go.Jump condition k) ∷ is) named now
-      → IsLed (λ d. P (length (spelling (Jump (when_of condition) (octets_before (length c.externals) k is))) + d) ⊎ LeadsTo (Jump (when_of condition) (octets_before (length c.externals) k is)) 0 d)
+      → IsLed (λ d. P (length
+      (spelling (Jump (when_of condition) (octets_before (length c.externals) k is))) + d)
+      ⊎ LeadsTo (Jump (when_of condition) (octets_before (length c.externals) k is)) 0 d)
       is (k ∷ named) (coming_behind_condition condition t)
   jump_led P condition k is named now t there led = record {
     comes = λ u e. inr (falls condition (octets_before (length c.externals) k is) t u e);
     jumps = λ l h g. ⊎_elim
-        (λ (e : k ≡ l). inr (subst (λ m. LeadsTo (Jump (when_of condition) (octets_before (length c.externals) k is)) 0 (octets_before (length c.externals) m is)) e (leaps condition (octets_before (length c.externals) k is))))
+        (λ (e : k ≡ l). inr (subst
+        (λ m. LeadsTo (Jump (when_of condition) (octets_before (length c.externals) k is)) 0
+        (octets_before (length c.externals) m is)) e
+        (leaps condition (octets_before (length c.externals) k is))))
         (λ (e : is_named named l ≡ true). inl (led.jumps l e g))
         (named_before k l named h);
     ends = λ e. inr (k, ap (λ b. b || is_named named k) (eq-eqb k k refl), there);
   }
 
-  return_led : (P : ℕ → Type 0) (condition : Condition) (is : List Item) (named : List ℕ) (now : Coming) (t : Option ElementaryType)
+  return_led : (P : ℕ → Type 0) (condition : Condition) (is : List Item) (named : List ℕ)
+      (now : Coming) (t : Option ElementaryType)
       → IsLed P (transfer (go.Return condition) ∷ is) named now
-      → IsLed (λ d. P (length (spelling (Jump (when_of condition) (octets (items_code (length c.externals) is)))) + d) ⊎ LeadsTo (Jump (when_of condition) (octets (items_code (length c.externals) is))) 0 d)
+      → IsLed (λ d. P (length
+      (spelling (Jump (when_of condition) (octets (items_code (length c.externals) is)))) + d)
+      ⊎ LeadsTo (Jump (when_of condition) (octets (items_code (length c.externals) is))) 0 d)
       is named (coming_behind_condition condition t)
   return_led P condition is named now t led = record {
     comes = λ u e. inr (falls condition (octets (items_code (length c.externals) is)) t u e);
@@ -141,39 +193,58 @@ module _ (c : Checked) (labels : Labelling) where
     ends = λ e. inl (inr (leaps condition (octets (items_code (length c.externals) is))));
   }
 
-  pub items_reached : (is : List Item) (passed : ℕ) (named : List ℕ) (now : Coming) → AreItems c labels is (carried passed named now) → (P : ℕ → Type 0) → IsLed P is named now
+  pub items_reached : (is : List Item) (passed : ℕ) (named : List ℕ) (now : Coming)
+      → AreItems c labels is (carried passed named now) → (P : ℕ → Type 0) → IsLed P is named now
       → AreReached P (items_code (length c.externals) is ++ Halt ∷ [])
   items_reached [] passed named now ok P led = (end_led P named now now refl led, tt)
   items_reached (label n ∷ is) passed named now ok P led =
-      items_reached is (passed + 1) named (coming_behind_label labels (carried passed named now)) ok.1 P
-      (label_led P n passed is named now ok.0.0 (λ l h. no_lower is (passed + 1) named (coming_behind_label labels (carried passed named now)) l ok.1 h) led)
+      items_reached is (passed + 1) named (coming_behind_label labels (carried passed named now))
+      ok.1 P
+      (label_led P n passed is named now ok.0.0
+      (λ l h. no_lower is (passed + 1) named
+      (coming_behind_label labels (carried passed named now)) l ok.1 h) led)
   items_reached (plain e ∷ is) passed named now ok P led =
       let code = entry_code (length c.externals) e in
-      let f = entry_flows c e ok.0 ok.1 (kind_at ok.0) [] ok.2.1 (within_self (kind_at ok.0)) (let d = ok.2.2 in omega arith) in
+      let f = entry_flows c e ok.0 ok.1 (kind_at ok.0) [] ok.2.1 (within_self (kind_at ok.0))
+      (let d = ok.2.2 in omega arith) in
       let Q : ℕ → Type 0 = λ d. P (octets code + d) ⊎ (d ≡ 0) in
-      subst (AreReached P) (sym (append_assoc code (items_code (length c.externals) is) (Halt ∷ [])))
-      (reached_straight code (items_code (length c.externals) is ++ Halt ∷ []) P (flow_straight c code (kind_at ok.0 ∷ []) (f.top ∷ []) f.flow) (led.comes ok.0 ok.2.0)
-      (items_reached is passed named (Some ok.1) ok.3 Q (straight_led P (octets code) (plain e) is named now ok.1 (λ l. refl) (λ l. refl) led)))
+      subst (AreReached P) (sym
+      (append_assoc code (items_code (length c.externals) is) (Halt ∷ [])))
+      (reached_straight code (items_code (length c.externals) is ++ Halt ∷ []) P
+      (flow_straight c code (kind_at ok.0 ∷ []) (f.top ∷ []) f.flow) (led.comes ok.0 ok.2.0)
+      (items_reached is passed named (Some ok.1) ok.3 Q
+      (straight_led P (octets code) (plain e) is named now ok.1 (λ l. refl) (λ l. refl) led)))
   items_reached (transfer (go.Call n args) ∷ is) passed named now ok P led =
       let code = arguments_code (length c.externals) n args ++ Timer Run n ∷ [] in
       let Q : ℕ → Type 0 = λ d. P (octets code + d) ⊎ (d ≡ 0) in
-      subst (AreReached P) (sym (append_assoc code (items_code (length c.externals) is) (Halt ∷ [])))
+      subst (AreReached P) (sym
+      (append_assoc code (items_code (length c.externals) is) (Halt ∷ [])))
       (reached_straight code (items_code (length c.externals) is ++ Halt ∷ []) P
-      (flow_straight c code (kind_at ok.0 ∷ []) (kind_at ok.0 ∷ []) (call_flows c n args (kind_at ok.0 ∷ []) ok.1.1.0 ok.1.1.1 (omega arith))) (led.comes ok.0 ok.1.0)
-      (items_reached is passed named (Some None) ok.2 Q (straight_led P (octets code) (transfer (go.Call n args)) is named now None (λ l. refl) (λ l. refl) led)))
+      (flow_straight c code (kind_at ok.0 ∷ []) (kind_at ok.0 ∷ [])
+      (call_flows c n args (kind_at ok.0 ∷ []) ok.1.1.0 ok.1.1.1 (omega arith)))
+      (led.comes ok.0 ok.1.0)
+      (items_reached is passed named (Some None) ok.2 Q
+      (straight_led P (octets code) (transfer (go.Call n args)) is named now None (λ l. refl)
+      (λ l. refl) led)))
   items_reached (transfer (go.Jump condition k) ∷ is) passed named now ok P led = (
     led.comes ok.0 ok.1.0,
     items_reached is passed (k ∷ named) (coming_behind_condition condition ok.0) ok.2
-        (λ d. P (length (spelling (Jump (when_of condition) (octets_before (length c.externals) k is))) + d) ⊎ LeadsTo (Jump (when_of condition) (octets_before (length c.externals) k is)) 0 d)
+        (λ d. P (length (spelling
+        (Jump (when_of condition) (octets_before (length c.externals) k is))) + d)
+        ⊎ LeadsTo (Jump (when_of condition) (octets_before (length c.externals) k is)) 0 d)
         (jump_led P condition k is named now ok.0 ok.1.1.1 led),
   )
   items_reached (transfer (go.Return condition) ∷ is) passed named now ok P led = (
     led.comes ok.0 ok.1.0,
     items_reached is passed named (coming_behind_condition condition ok.0) ok.2
-        (λ d. P (length (spelling (Jump (when_of condition) (octets (items_code (length c.externals) is)))) + d) ⊎ LeadsTo (Jump (when_of condition) (octets (items_code (length c.externals) is))) 0 d)
+        (λ d. P (length (spelling
+        (Jump (when_of condition) (octets (items_code (length c.externals) is)))) + d)
+        ⊎ LeadsTo (Jump (when_of condition) (octets (items_code (length c.externals) is))) 0 d)
         (return_led P condition is named now ok.0 led),
   )
 
   -- something comes to the first item
-  pub first_led : (P : ℕ → Type 0) (is : List Item) (t : Option ElementaryType) → P 0 → IsLed P is [] (Some t)
-  first_led P is t p = record { comes = λ u e. p; jumps = λ l h g. absurd cc; ends = λ e. absurd cc }
+  pub first_led : (P : ℕ → Type 0) (is : List Item) (t : Option ElementaryType) → P 0
+      → IsLed P is [] (Some t)
+  first_led P is t p =
+      record { comes = λ u e. p; jumps = λ l h g. absurd cc; ends = λ e. absurd cc }

@@ -4,6 +4,7 @@ use Rattle.std.specs.Prelude.{slice_get}
 use Rattle.std.specs.Ordering.{int_eq}
 use Rattle.std.proofs.lemmas.Bool.{lt-ltb}
 use Rattle.std.proofs.lemmas.List.{length-map}
+use Rattle.bay_base.specs.Options.{◌>>=◌}
 use Rattle.bay_base.specs.Types.{same_type}
 use Rattle.bay_base.specs.declared.types.ElementaryType.{ElementaryType}
 use Rattle.bay_base.specs.declared.types.ElementaryType.TheVariants as elementary
@@ -11,7 +12,7 @@ use Rattle.il_text.specs.declared.program.Conversion.{Conversion}
 use Rattle.il_text.specs.declared.program.Conversion.TheVariants.{IntToDint, DintToLint}
 use Rattle.il_text.specs.declared.program.Output.TheVariants.{Q, Et}
 use Rattle.il_image.specs.Arithmetic.{type_of_width}
-use Rattle.il_image.specs.Effects.{◌>>=◌, are_compared, below, compares as compares_kinds, effect, kind_of, looks_at, second_kind, two, type_of_kind, widens, with_timer, with_truth}
+use Rattle.il_image.specs.Effects.{are_compared, below, compares as compares_kinds, effect, kind_of, looks_at, second_kind, two, type_of_kind, widens, with_timer, with_truth}
 use Rattle.il_image.specs.Kinds.{is_within}
 use Rattle.il_image.specs.Machine.{divides, tells_equality}
 use Rattle.il_image.specs.Tables.{LeadsTo, slot_types}
@@ -22,8 +23,8 @@ use Rattle.il_image.specs.declared.arithmetic.Width.{Width}
 use Rattle.il_image.specs.declared.arithmetic.Width.TheVariants as width
 use Rattle.il_image.specs.declared.instr.Instr.{Instr}
 use Rattle.il_image.specs.declared.instr.Instr.TheVariants.{Halt, Push, Drop, Slot, Not, Combine, Compute, Compare, Widen, Jump, Timer}
-use Rattle.il_image.specs.declared.kind.Kind.{Kind}
-use Rattle.il_image.specs.declared.kind.Kind.TheVariants.{Any, Plain, NotZero}
+use Rattle.il_image.specs.declared.kind.CellKind.{CellKind}
+use Rattle.il_image.specs.declared.kind.CellKind.TheVariants.{Any, Plain, NotZero}
 use Rattle.il_image.specs.declared.opcode.SlotUse.TheVariants.{Load, Store, SetIf, ResetIf}
 use Rattle.il_image.specs.declared.opcode.TimerUse.TheVariants.{SetInput, SetPreset, Run}
 use Rattle.il_image.specs.declared.value.Value.{Value}
@@ -39,39 +40,46 @@ use Rattle.il_check.specs.declared.typed.TypedOperand.{TypedOperand}
 use Rattle.il_check.specs.declared.typed.TypedOperand.TheVariants as operand
 use Rattle.il_compile.specs.Code.{fetch, sense_instr, slot_number, width_of}
 use Rattle.il_compile.specs.Compiled.{image_of, point_of}
-use Rattle.il_compile.specs.Senses.{Sense, connects, computes, compares, timer_of, widening_of}
+use Rattle.il_compile.specs.Senses.{Sense, connects, computes, compares, widening_of}
 use Rattle.il_compile.proofs.Values.{boolean_is, sense_divides, sense_gives, sense_takes}
 
 -- ---- lists
 
-get_front : {A : Type 0} (xs ys : List A) (n : ℕ) (x : A) → slice_get xs n ≡ Some x → slice_get (xs ++ ys) n ≡ Some x
+get_front : {A : Type 0} (xs ys : List A) (n : ℕ) (x : A) → slice_get xs n ≡ Some x
+    → slice_get (xs ++ ys) n ≡ Some x
 get_front [] ys n x h = absurd cc
 get_front (y ∷ xs) ys zero x h = h
 get_front (y ∷ xs) ys (suc n) x h = get_front xs ys n x h
 
-get_back : {A : Type 0} (xs ys : List A) (n k : ℕ) → length xs ≡ k → slice_get (xs ++ ys) (k + n) ≡ slice_get ys n
+get_back : {A : Type 0} (xs ys : List A) (n k : ℕ) → length xs ≡ k
+    → slice_get (xs ++ ys) (k + n) ≡ slice_get ys n
 get_back {A = A} xs ys n k e = ap (λ m. slice_get (xs ++ ys) (m + n)) (sym e) ∙ whole xs
   where
     whole : (xs : List A) → slice_get (xs ++ ys) (length xs + n) ≡ slice_get ys n
     whole [] = let e : 0 + n ≡ n = omega arith in ap (slice_get ys) e
-    whole (x ∷ xs) = let e : suc (length xs) + n ≡ suc (length xs + n) = omega arith in ap (slice_get (x ∷ xs ++ ys)) e ∙ whole xs
+    whole (x ∷ xs) = let e : suc (length xs) + n ≡ suc (length xs + n) =
+        omega arith in ap (slice_get (x ∷ xs ++ ys)) e ∙ whole xs
 
-get_map : {A B : Type 0} (f : A → B) (xs : List A) (n : ℕ) → slice_get (map f xs) n ≡ option_map f (slice_get xs n)
+get_map : {A B : Type 0} (f : A → B) (xs : List A) (n : ℕ)
+    → slice_get (map f xs) n ≡ option_map f (slice_get xs n)
 get_map f [] n = refl
 get_map f (x ∷ xs) zero = refl
 get_map f (x ∷ xs) (suc n) = get_map f xs n
 
-get_map_map : {A B C : Type 0} (f : B → C) (g : A → B) (xs : List A) (n : ℕ) → slice_get (map f (map g xs)) n ≡ option_map (λ x. f (g x)) (slice_get xs n)
+get_map_map : {A B C : Type 0} (f : B → C) (g : A → B) (xs : List A) (n : ℕ)
+    → slice_get (map f (map g xs)) n ≡ option_map (λ x. f (g x)) (slice_get xs n)
 get_map_map f g [] n = refl
 get_map_map f g (x ∷ xs) zero = refl
 get_map_map f g (x ∷ xs) (suc n) = get_map_map f g xs n
 
-get_below : {A : Type 0} (xs : List A) (n : ℕ) (b : Bool) → n < length xs → slice_get (map (λ (x : A). b) xs) n ≡ Some b
+get_below : {A : Type 0} (xs : List A) (n : ℕ) (b : Bool) → n < length xs
+    → slice_get (map (λ (x : A). b) xs) n ≡ Some b
 get_below [] n b lt = absurd (omega arith)
 get_below (x ∷ xs) zero b lt = refl
 get_below (x ∷ xs) (suc n) b lt = get_below xs n b (omega arith)
 
-some_below : {A B : Type 0} (f : A → B) (xs : List A) (n : ℕ) (b : B) → option_map f (slice_get xs n) ≡ Some b → n < length xs
+some_below : {A B : Type 0} (f : A → B) (xs : List A) (n : ℕ) (b : B)
+    → option_map f (slice_get xs n) ≡ Some b → n < length xs
 some_below f [] n b e = absurd cc
 some_below f (x ∷ xs) zero b e = omega arith
 some_below f (x ∷ xs) (suc n) b e = let h = some_below f xs n b e in omega arith
@@ -79,11 +87,12 @@ some_below f (x ∷ xs) (suc n) b e = let h = some_below f xs n b e in omega ari
 -- ---- kinds
 
 -- the kind of a result of a type, or of one that is not set
-abbrev pub kind_at : Option ElementaryType → Kind
+abbrev pub kind_at : Option ElementaryType → CellKind
 kind_at None = Any
 kind_at (Some kind) = Plain kind
 
-number_within : (w : Width) (b : Bool) → is_within (if b then Plain (type_of_width w) else NotZero w) (Plain (type_of_width w)) ≡ true
+number_within : (w : Width) (b : Bool)
+    → is_within (if b then Plain (type_of_width w) else NotZero w) (Plain (type_of_width w)) ≡ true
 number_within w true = same_self (type_of_width w)
 number_within w false = same_self (type_of_width w)
 
@@ -94,12 +103,15 @@ kind_within (Long z) = number_within width.Dint (int_eq z (pos 0))
 kind_within (Wide z) = number_within width.Lint (int_eq z (pos 0))
 kind_within (Span n) = refl
 
-other_than_zero : (w : Width) (b : Bool) → not b ≡ true → is_within (if b then Plain (type_of_width w) else NotZero w) (NotZero w) ≡ true
+other_than_zero : (w : Width) (b : Bool) → not b ≡ true
+    → is_within (if b then Plain (type_of_width w) else NotZero w) (NotZero w) ≡ true
 other_than_zero w true h = absurd cc
 other_than_zero w false h = same_self (type_of_width w)
 
 -- a number other than 0
-divisor_within : (v : Value) → not (int_eq (number_of v) (pos 0)) ≡ true → rules.is_number (type_of v) ≡ true → is_within (kind_of v) (NotZero (width_of (type_of v))) ≡ true
+divisor_within : (v : Value) → not (int_eq (number_of v) (pos 0)) ≡ true
+    → rules.is_number (type_of v) ≡ true
+    → is_within (kind_of v) (NotZero (width_of (type_of v))) ≡ true
 divisor_within (Truth b) h n = absurd cc
 divisor_within (Short z) h n = other_than_zero width.Int (int_eq z (pos 0)) h
 divisor_within (Long z) h n = other_than_zero width.Dint (int_eq z (pos 0)) h
@@ -107,12 +119,14 @@ divisor_within (Wide z) h n = other_than_zero width.Lint (int_eq z (pos 0)) h
 divisor_within (Span z) h n = absurd cc
 
 -- a kind within that of a type shows the type
-shown : (k : Kind) (kind : ElementaryType) → is_within k (Plain kind) ≡ true → type_of_kind k ≡ Some kind
+shown : (k : CellKind) (kind : ElementaryType) → is_within k (Plain kind) ≡ true
+    → type_of_kind k ≡ Some kind
 shown Any kind h = absurd cc
 shown (Plain t) kind h = ap Some (same_is t kind h)
 shown (NotZero w) kind h = ap Some (same_is (type_of_width w) kind h)
 
-width_back : (kind : ElementaryType) → rules.is_number kind ≡ true → type_of_width (width_of kind) ≡ kind
+width_back : (kind : ElementaryType) → rules.is_number kind ≡ true
+    → type_of_width (width_of kind) ≡ kind
 width_back elementary.Bool h = absurd cc
 width_back elementary.Int h = refl
 width_back elementary.Dint h = refl
@@ -121,54 +135,85 @@ width_back elementary.Time h = absurd cc
 
 -- ---- instructions
 
-below_top : (wanted top : Kind) (rest : List Kind) → is_within top wanted ≡ true → below wanted (top ∷ rest) ≡ Some rest
+below_top : (wanted top : CellKind) (rest : List CellKind) → is_within top wanted ≡ true
+    → below wanted (top ∷ rest) ≡ Some rest
 below_top wanted top rest h = ap (λ b. if b then Some rest else None) h
 
-looked : (wanted top : Kind) (rest : List Kind) → is_within top wanted ≡ true → looks_at wanted (top ∷ rest) ≡ Some (top ∷ rest)
-looked wanted top rest h = ap (λ (o : Option (List Kind)). o >>= (λ ks. Some (top ∷ rest))) (below_top wanted top rest h)
+looked : (wanted top : CellKind) (rest : List CellKind) → is_within top wanted ≡ true
+    → looks_at wanted (top ∷ rest) ≡ Some (top ∷ rest)
+looked wanted top rest h =
+    ap (λ (o : Option (List CellKind)). o >>= (λ ks. Some (top ∷ rest)))
+    (below_top wanted top rest h)
 
-two_tops : (first second gives v a : Kind) (rest : List Kind) → is_within v first ≡ true → is_within a second ≡ true → two first second gives (v ∷ a ∷ rest) ≡ Some (gives ∷ rest)
+two_tops : (first second gives v a : CellKind) (rest : List CellKind) → is_within v first ≡ true
+    → is_within a second ≡ true → two first second gives (v ∷ a ∷ rest) ≡ Some (gives ∷ rest)
 two_tops first second gives v a rest h g =
-    ap (λ (o : Option (List Kind)). o >>= (λ more. below second more >>= (λ ks. Some (gives ∷ ks)))) (below_top first v (a ∷ rest) h)
-    ∙ ap (λ (o : Option (List Kind)). o >>= (λ ks. Some (gives ∷ ks))) (below_top second a rest g)
+    ap (λ (o : Option (List CellKind)). o
+    >>= (λ more. below second more >>= (λ ks. Some (gives ∷ ks))))
+    (below_top first v (a ∷ rest) h)
+    ∙ ap (λ (o : Option (List CellKind)). o >>= (λ ks. Some (gives ∷ ks)))
+    (below_top second a rest g)
 
 -- what comparing makes
-compared : (c : Comparison) (kind : ElementaryType) → tells_equality c || not (rules.is_boolean kind) ≡ true → are_compared c kind kind ≡ true
-compared c elementary.Bool h = elim (tells_equality c) as (λ b. b || false ≡ true → true && (false || b) ≡ true) [ true ↦ (λ g. refl) | false ↦ (λ g. absurd cc) ] h
+compared : (c : Comparison) (kind : ElementaryType)
+    → tells_equality c || not (rules.is_boolean kind) ≡ true → are_compared c kind kind ≡ true
+compared c elementary.Bool h =
+    elim (tells_equality c) as
+    (λ b. b || false ≡ true → true && (false || b) ≡ true)
+    [ true ↦ (λ g. refl) | false ↦ (λ g. absurd cc) ] h
 compared c elementary.Int h = refl
 compared c elementary.Dint h = refl
 compared c elementary.Lint h = refl
 compared c elementary.Time h = refl
 
-two_shown : (c : Comparison) (kind : ElementaryType) (v a : Kind) (rest : List Kind) → is_within v (Plain kind) ≡ true → is_within a (Plain kind) ≡ true → are_compared c kind kind ≡ true
+two_shown : (c : Comparison) (kind : ElementaryType) (v a : CellKind) (rest : List CellKind)
+    → is_within v (Plain kind) ≡ true → is_within a (Plain kind) ≡ true
+    → are_compared c kind kind ≡ true
     → compares_kinds c (v ∷ a ∷ rest) ≡ Some (Plain elementary.Bool ∷ rest)
 two_shown c kind v a rest h g e =
-    ap (λ (o : Option ElementaryType). o >>= (λ t. type_of_kind a >>= (λ u. if are_compared c u t then Some (Plain elementary.Bool ∷ rest) else None))) (shown v kind h)
-    ∙ ap (λ (o : Option ElementaryType). o >>= (λ u. if are_compared c u kind then Some (Plain elementary.Bool ∷ rest) else None)) (shown a kind g)
+    ap (λ (o : Option ElementaryType). o
+    >>= (λ t. type_of_kind a
+    >>= (λ u. if are_compared c u t then Some (Plain elementary.Bool ∷ rest) else None)))
+    (shown v kind h)
+    ∙ ap (λ (o : Option ElementaryType). o
+    >>= (λ u. if are_compared c u kind then Some (Plain elementary.Bool ∷ rest) else None))
+    (shown a kind g)
     ∙ ap (λ b. if b then Some (Plain elementary.Bool ∷ rest) else None) e
 
-second_within : (o : Operation) (w : Width) (v : Kind) → is_within v (Plain (type_of_width w)) ≡ true → (divides o ≡ true → is_within v (NotZero w) ≡ true) → is_within v (second_kind o w) ≡ true
+second_within : (o : Operation) (w : Width) (v : CellKind)
+    → is_within v (Plain (type_of_width w)) ≡ true
+    → (divides o ≡ true → is_within v (NotZero w) ≡ true) → is_within v (second_kind o w) ≡ true
 second_within o w v h d =
-    elim (divides o) as (λ b. divides o ≡ b → is_within v (if b then NotZero w else Plain (type_of_width w)) ≡ true) [ true ↦ (λ e. d e) | false ↦ (λ e. h) ] refl
+    elim (divides o) as (λ b. divides o ≡ b
+    → is_within v (if b then NotZero w else Plain (type_of_width w)) ≡ true)
+    [ true ↦ (λ e. d e) | false ↦ (λ e. h) ] refl
 
 -- what widening makes
-record Widened (from to : Width) (top : Kind) (rest : List Kind) : Type 0 where
-  wider : Kind
+record Widened (from to : Width) (top : CellKind) (rest : List CellKind) : Type 0 where
+  wider : CellKind
   fits : is_within wider (Plain (type_of_width to)) ≡ true
   effect : widens from to (top ∷ rest) ≡ Some (wider ∷ rest)
 
-widened : (from to : Width) (top : Kind) (rest : List Kind) → is_within top (Plain (type_of_width from)) ≡ true → Widened from to top rest
+widened : (from to : Width) (top : CellKind) (rest : List CellKind)
+    → is_within top (Plain (type_of_width from)) ≡ true → Widened from to top rest
 widened from to top rest h =
-    elim (is_within top (NotZero from)) as (λ b. is_within top (NotZero from) ≡ b → Widened from to top rest) [
+    elim (is_within top (NotZero from)) as
+    (λ b. is_within top (NotZero from) ≡ b → Widened from to top rest) [
       | true ↦ (λ e. record {
         wider = NotZero to;
         fits = same_self (type_of_width to);
-        effect = ap (λ b. if b then Some (NotZero to ∷ rest) else (if is_within top (Plain (type_of_width from)) then Some (Plain (type_of_width to) ∷ rest) else None)) e;
+        effect =
+            ap (λ b. if b then Some (NotZero to ∷ rest)
+            else (if is_within top (Plain (type_of_width from))
+            then Some (Plain (type_of_width to) ∷ rest) else None)) e;
       })
       | false ↦ (λ e. record {
         wider = Plain (type_of_width to);
         fits = same_self (type_of_width to);
-        effect = ap (λ b. if b then Some (NotZero to ∷ rest) else (if is_within top (Plain (type_of_width from)) then Some (Plain (type_of_width to) ∷ rest) else None)) e
+        effect =
+            ap (λ b. if b then Some (NotZero to ∷ rest)
+            else (if is_within top (Plain (type_of_width from))
+            then Some (Plain (type_of_width to) ∷ rest) else None)) e
             ∙ ap (λ b. if b then Some (Plain (type_of_width to) ∷ rest) else None) h;
       })
     ] refl
@@ -178,7 +223,7 @@ module _ (c : Checked) where
   slots = slot_types (image_of c)
 
   abbrev pub timers : ℕ
-  timers = length (map (λ t. timer_of t.kind) c.timers)
+  timers = length (map (λ t. t.kind) c.timers)
 
   -- which slots may be written
   abbrev pub writable : List Bool
@@ -202,30 +247,44 @@ module _ (c : Checked) where
   Keeps (Timer timer_use n) = Unit {0}
 
   -- The instruction makes the second kinds of the first, and goes on behind itself.
-  pub record Steps (i : Instr) (ks js : List Kind) : Type 0 where
+  pub record Steps (i : Instr) (ks js : List CellKind) : Type 0 where
     pub effect : effect slots timers i ks ≡ Some js
     pub room : length ks ≤ 32
     pub goes : LeadsTo i 0 0
     pub straight : (d : ℕ) → LeadsTo i 0 d → d ≡ 0
     pub keeps : Keeps i
 
-  abbrev pub Flow : List Instr → List Kind → List Kind → Type 0
+  abbrev pub Flow : List Instr → List CellKind → List CellKind → Type 0
   Flow [] ks js = ks ≡ js
-  Flow (i ∷ is) ks ls = (js : List Kind) × Steps i ks js × Flow is js ls
+  Flow (i ∷ is) ks ls = (js : List CellKind) × Steps i ks js × Flow is js ls
 
-  pub flow_both : (a b : List Instr) (ks js ls : List Kind) → Flow a ks js → Flow b js ls → Flow (a ++ b) ks ls
+  pub flow_both : (a b : List Instr) (ks js ls : List CellKind) → Flow a ks js → Flow b js ls
+      → Flow (a ++ b) ks ls
   flow_both [] b ks js ls e g = subst (λ x. Flow b x ls) (sym e) g
   flow_both (i ∷ a) b ks js ls f g = (f.0, f.1, flow_both a b f.0 js ls f.2 g)
 
-  pub pushed : (v : Value) (ks : List Kind) → length ks ≤ 32 → Steps (Push v) ks (kind_of v ∷ ks)
-  pushed v ks room = record { effect = refl; room = room; goes = refl; straight = λ d e. e; keeps = tt }
+  pub pushed : (v : Value) (ks : List CellKind) → length ks ≤ 32
+      → Steps (Push v) ks (kind_of v ∷ ks)
+  pushed v ks room =
+      record { effect = refl; room = room; goes = refl; straight = λ d e. e; keeps = tt }
 
-  pub dropped : (top : Kind) (ks : List Kind) → length ks < 32 → Steps Drop (top ∷ ks) ks
-  dropped top ks room = record { effect = below_top Any top ks (within_any top); room = omega arith; goes = refl; straight = λ d e. e; keeps = tt }
+  pub dropped : (top : CellKind) (ks : List CellKind) → length ks < 32 → Steps Drop (top ∷ ks) ks
+  dropped top ks room =
+      record {
+        effect = below_top Any top ks (within_any top);
+        room = omega arith;
+        goes = refl;
+        straight = λ d e. e;
+        keeps = tt;
+      }
 
-  pub inverted : (top : Kind) (ks : List Kind) → is_within top (Plain elementary.Bool) ≡ true → length ks < 32 → Steps Not (top ∷ ks) (Plain elementary.Bool ∷ ks)
+  pub inverted : (top : CellKind) (ks : List CellKind)
+      → is_within top (Plain elementary.Bool) ≡ true → length ks < 32
+      → Steps Not (top ∷ ks) (Plain elementary.Bool ∷ ks)
   inverted top ks h room = record {
-    effect = ap (λ (o : Option (List Kind)). o >>= (λ rest. Some (Plain elementary.Bool ∷ rest))) (below_top (Plain elementary.Bool) top ks h);
+    effect =
+        ap (λ (o : Option (List CellKind)). o >>= (λ rest. Some (Plain elementary.Bool ∷ rest)))
+        (below_top (Plain elementary.Bool) top ks h);
     room = omega arith;
     goes = refl;
     straight = λ d e. e;
@@ -234,153 +293,285 @@ module _ (c : Checked) where
 
   -- ---- slots and timers
 
-  pub typed_slot : (s : typed.Slot) (kind : ElementaryType) → slot_type c s ≡ Some kind → slice_get slots (slot_number (length c.externals) s) ≡ Some kind
+  pub typed_slot : (s : typed.Slot) (kind : ElementaryType) → slot_type c s ≡ Some kind
+      → slice_get slots (slot_number (length c.externals) s) ≡ Some kind
   typed_slot (External n) kind h =
-      get_front (map (λ p. p.elementary) (map point_of c.externals)) (map type_of (map (λ v. v.initial) c.variables)) n kind
+      get_front (map (λ p. p.elementary) (map point_of c.externals))
+      (map type_of (map (λ v. v.initial) c.variables)) n kind
       (get_map_map (λ p. p.elementary) point_of c.externals n ∙ h)
   typed_slot (Variable n) kind h =
-      get_back (map (λ p. p.elementary) (map point_of c.externals)) (map type_of (map (λ v. v.initial) c.variables)) n (length c.externals)
+      get_back (map (λ p. p.elementary) (map point_of c.externals))
+      (map type_of (map (λ v. v.initial) c.variables)) n (length c.externals)
       (length-map (map point_of c.externals) (λ p. p.elementary) ∙ length-map c.externals point_of)
       ∙ get_map_map type_of (λ v. v.initial) c.variables n ∙ h
 
-  pub written_slot : (s : typed.Slot) (kind : ElementaryType) → slot_type c s ≡ Some kind → may_write c s ≡ true → slice_get writable (slot_number (length c.externals) s) ≡ Some true
+  pub written_slot : (s : typed.Slot) (kind : ElementaryType) → slot_type c s ≡ Some kind
+      → may_write c s ≡ true → slice_get writable (slot_number (length c.externals) s) ≡ Some true
   written_slot (External n) kind h w =
-      get_front (map (λ e. e.writable) c.externals) (map (λ v. true) c.variables) n true (get_map (λ e. e.writable) c.externals n ∙ there (slice_get c.externals n) h w)
+      get_front (map (λ e. e.writable) c.externals) (map (λ v. true) c.variables) n true
+      (get_map (λ e. e.writable) c.externals n ∙ there (slice_get c.externals n) h w)
     where
-      there : (o : Option TypedExternal) → option_map (λ e. e.kind) o ≡ Some kind → is_writable o ≡ true → option_map (λ e. e.writable) o ≡ Some true
+      there : (o : Option TypedExternal) → option_map (λ e. e.kind) o ≡ Some kind
+          → is_writable o ≡ true → option_map (λ e. e.writable) o ≡ Some true
       there None h w = absurd cc
       there (Some e) h w = ap Some w
   written_slot (Variable n) kind h w =
-      get_back (map (λ e. e.writable) c.externals) (map (λ v. true) c.variables) n (length c.externals) (length-map c.externals (λ e. e.writable))
+      get_back (map (λ e. e.writable) c.externals) (map (λ v. true) c.variables) n
+      (length c.externals) (length-map c.externals (λ e. e.writable))
       ∙ get_below c.variables n true (some_below (λ v. type_of v.initial) c.variables n kind h)
 
-  timer_there : (n : ℕ) (o : Option (List Kind)) → n < length c.timers → with_timer timers n o ≡ o
-  timer_there n o lt = ap (λ b. if b then o else None) (lt-ltb n timers (let l = length-map c.timers (λ t. timer_of t.kind) in omega arith))
+  timer_there : (n : ℕ) (o : Option (List CellKind)) → n < length c.timers
+      → with_timer timers n o ≡ o
+  timer_there n o lt =
+      ap (λ b. if b then o else None)
+      (lt-ltb n timers (let l = length-map c.timers (λ t. t.kind) in omega arith))
 
   -- ---- operands
 
-  pub record Fetched (x : TypedOperand) (kind : ElementaryType) (ks : List Kind) : Type 0 where
-    pub top : Kind
+  pub record Fetched (x : TypedOperand) (kind : ElementaryType) (ks : List CellKind) : Type 0 where
+    pub top : CellKind
     pub fits : is_within top (Plain kind) ≡ true
-    pub divides : is_divisor x ≡ true → rules.is_number kind ≡ true → is_within top (NotZero (width_of kind)) ≡ true
+    pub divides : is_divisor x ≡ true → rules.is_number kind ≡ true
+        → is_within top (NotZero (width_of kind)) ≡ true
     pub step : Steps (fetch (length c.externals) x) ks (top ∷ ks)
 
-  pub fetched : (x : TypedOperand) (kind : ElementaryType) (ks : List Kind) → IsOperand c x kind → length ks ≤ 32 → Fetched x kind ks
+  pub fetched : (x : TypedOperand) (kind : ElementaryType) (ks : List CellKind) → IsOperand c x kind
+      → length ks ≤ 32 → Fetched x kind ks
   fetched (operand.Literal v) kind ks ok room = record {
     top = kind_of v;
     fits = subst (λ k. is_within (kind_of v) (Plain k) ≡ true) ok.1 (kind_within v);
-    divides = λ d n. subst (λ k. is_within (kind_of v) (NotZero (width_of k)) ≡ true) ok.1 (divisor_within v d (ap rules.is_number ok.1 ∙ n));
+    divides =
+        λ d n. subst (λ k. is_within (kind_of v) (NotZero (width_of k)) ≡ true) ok.1
+        (divisor_within v d (ap rules.is_number ok.1 ∙ n));
     step = pushed v ks room;
   }
   fetched (operand.Slot s) kind ks ok room = record {
     top = Plain kind;
     fits = same_self kind;
     divides = λ d n. absurd cc;
-    step = record { effect = ap (λ (o : Option ElementaryType). o >>= (λ t. Some (Plain t ∷ ks))) (typed_slot s kind ok); room = room; goes = refl; straight = λ d e. e; keeps = tt };
+    step = record {
+      effect =
+          ap (λ (o : Option ElementaryType). o >>= (λ t. Some (Plain t ∷ ks)))
+          (typed_slot s kind ok);
+      room = room;
+      goes = refl;
+      straight = λ d e. e;
+      keeps = tt;
+    };
   }
   fetched (operand.Output n Q) kind ks ok room = record {
     top = Plain elementary.Bool;
     fits = subst (λ k. is_within (Plain elementary.Bool) (Plain k) ≡ true) ok.1 refl;
     divides = λ d n. absurd cc;
-    step = record { effect = timer_there n (Some (Plain elementary.Bool ∷ ks)) ok.0; room = room; goes = refl; straight = λ d e. e; keeps = tt };
+    step = record {
+      effect = timer_there n (Some (Plain elementary.Bool ∷ ks)) ok.0;
+      room = room;
+      goes = refl;
+      straight = λ d e. e;
+      keeps = tt;
+    };
   }
   fetched (operand.Output n Et) kind ks ok room = record {
     top = Plain elementary.Time;
     fits = subst (λ k. is_within (Plain elementary.Time) (Plain k) ≡ true) ok.1 refl;
     divides = λ d n. absurd cc;
-    step = record { effect = timer_there n (Some (Plain elementary.Time ∷ ks)) ok.0; room = room; goes = refl; straight = λ d e. e; keeps = tt };
+    step = record {
+      effect = timer_there n (Some (Plain elementary.Time ∷ ks)) ok.0;
+      room = room;
+      goes = refl;
+      straight = λ d e. e;
+      keeps = tt;
+    };
   }
 
   -- ---- operators
 
   -- what an instruction leaves in place of two cells
-  pub record Joins (i : Instr) (v a : Kind) (rest : List Kind) (kind : ElementaryType) : Type 0 where
-    pub top : Kind
+  pub record Joins (i : Instr) (v a : CellKind) (rest : List CellKind) (kind : ElementaryType)
+      : Type 0 where
+    pub top : CellKind
     pub fits : is_within top (Plain kind) ≡ true
     pub step : Steps i (v ∷ a ∷ rest) (top ∷ rest)
 
-  pub joined : (x : Sense) (kind : ElementaryType) (v a : Kind) (rest : List Kind) → sense_takes x kind ≡ true → is_within v (Plain kind) ≡ true → is_within a (Plain kind) ≡ true
-      → (sense_divides x ≡ true → is_within v (NotZero (width_of kind)) ≡ true) → length rest + 2 ≤ 32 → Joins (sense_instr x kind) v a rest (sense_gives x kind)
+  pub joined : (x : Sense) (kind : ElementaryType) (v a : CellKind) (rest : List CellKind)
+      → sense_takes x kind ≡ true → is_within v (Plain kind) ≡ true
+      → is_within a (Plain kind) ≡ true
+      → (sense_divides x ≡ true → is_within v (NotZero (width_of kind)) ≡ true)
+      → length rest + 2 ≤ 32 → Joins (sense_instr x kind) v a rest (sense_gives x kind)
   joined (connects x) kind v a rest t h g d room =
       let e = boolean_is kind t in
-      let h' : is_within v (Plain elementary.Bool) ≡ true = subst (λ k. is_within v (Plain k) ≡ true) e h in
-      let g' : is_within a (Plain elementary.Bool) ≡ true = subst (λ k. is_within a (Plain k) ≡ true) e g in
+      let h' : is_within v (Plain elementary.Bool) ≡ true =
+      subst (λ k. is_within v (Plain k) ≡ true) e h in
+      let g' : is_within a (Plain elementary.Bool) ≡ true =
+      subst (λ k. is_within a (Plain k) ≡ true) e g in
       record {
         top = Plain elementary.Bool;
         fits = subst (λ k. is_within (Plain elementary.Bool) (Plain k) ≡ true) (sym e) refl;
-        step = record { effect = two_tops (Plain elementary.Bool) (Plain elementary.Bool) (Plain elementary.Bool) v a rest h' g'; room = omega arith; goes = refl; straight = λ n l. l; keeps = tt };
+        step = record {
+          effect =
+              two_tops (Plain elementary.Bool) (Plain elementary.Bool) (Plain elementary.Bool) v a
+              rest h' g';
+          room = omega arith;
+          goes = refl;
+          straight = λ n l. l;
+          keeps = tt;
+        };
       }
   joined (computes o) kind v a rest t h g d room =
       let w = width_of kind in
       let e : type_of_width w ≡ kind = width_back kind t in
-      let h' : is_within v (Plain (type_of_width w)) ≡ true = subst (λ k. is_within v (Plain k) ≡ true) (sym e) h in
-      let g' : is_within a (Plain (type_of_width w)) ≡ true = subst (λ k. is_within a (Plain k) ≡ true) (sym e) g in
+      let h' : is_within v (Plain (type_of_width w)) ≡ true =
+      subst (λ k. is_within v (Plain k) ≡ true) (sym e) h in
+      let g' : is_within a (Plain (type_of_width w)) ≡ true =
+      subst (λ k. is_within a (Plain k) ≡ true) (sym e) g in
       record {
         top = Plain (type_of_width w);
-        fits = subst (λ k. is_within (Plain (type_of_width w)) (Plain k) ≡ true) e (same_self (type_of_width w));
-        step = record { effect = two_tops (second_kind o w) (Plain (type_of_width w)) (Plain (type_of_width w)) v a rest (second_within o w v h' d) g'; room = omega arith; goes = refl; straight = λ n l. l; keeps = tt };
+        fits = subst (λ k. is_within (Plain (type_of_width w)) (Plain k) ≡ true) e
+            (same_self (type_of_width w));
+        step = record {
+          effect =
+              two_tops (second_kind o w) (Plain (type_of_width w)) (Plain (type_of_width w)) v a
+              rest
+              (second_within o w v h' d) g';
+          room = omega arith;
+          goes = refl;
+          straight = λ n l. l;
+          keeps = tt;
+        };
       }
   joined (compares x) kind v a rest t h g d room = record {
     top = Plain elementary.Bool;
     fits = refl;
-    step = record { effect = two_shown x kind v a rest h g (compared x kind t); room = omega arith; goes = refl; straight = λ n l. l; keeps = tt };
+    step = record {
+      effect = two_shown x kind v a rest h g (compared x kind t);
+      room = omega arith;
+      goes = refl;
+      straight = λ n l. l;
+      keeps = tt;
+    };
   }
 
   -- what an instruction leaves in place of a cell
-  pub record Turns (i : Instr) (v : Kind) (rest : List Kind) (kind : ElementaryType) : Type 0 where
-    pub top : Kind
+  pub record Turns (i : Instr) (v : CellKind) (rest : List CellKind) (kind : ElementaryType)
+      : Type 0 where
+    pub top : CellKind
     pub fits : is_within top (Plain kind) ≡ true
     pub step : Steps i (v ∷ rest) (top ∷ rest)
 
-  pub converted : (x : Conversion) (v : Kind) (rest : List Kind) → is_within v (Plain (rules.converted_from x)) ≡ true → length rest < 32 → Turns (Widen (widening_of x)) v rest (rules.converted_to x)
+  pub converted : (x : Conversion) (v : CellKind) (rest : List CellKind)
+      → is_within v (Plain (rules.converted_from x)) ≡ true → length rest < 32
+      → Turns (Widen (widening_of x)) v rest (rules.converted_to x)
   converted IntToDint v rest h room =
       let w = widened width.Int width.Dint v rest h in
-      record { top = w.wider; fits = w.fits; step = record { effect = w.effect; room = omega arith; goes = refl; straight = λ n l. l; keeps = tt } }
+      record {
+        top = w.wider;
+        fits = w.fits;
+        step = record {
+          effect = w.effect;
+          room = omega arith;
+          goes = refl;
+          straight = λ n l. l;
+          keeps = tt;
+        };
+      }
   converted DintToLint v rest h room =
       let w = widened width.Dint width.Lint v rest h in
-      record { top = w.wider; fits = w.fits; step = record { effect = w.effect; room = omega arith; goes = refl; straight = λ n l. l; keeps = tt } }
+      record {
+        top = w.wider;
+        fits = w.fits;
+        step = record {
+          effect = w.effect;
+          room = omega arith;
+          goes = refl;
+          straight = λ n l. l;
+          keeps = tt;
+        };
+      }
 
   -- ---- writing
 
-  pub stored : (n : ℕ) (kind : ElementaryType) (top : Kind) (rest : List Kind) → slice_get slots n ≡ Some kind → slice_get writable n ≡ Some true → is_within top (Plain kind) ≡ true → length rest < 32
+  pub stored : (n : ℕ) (kind : ElementaryType) (top : CellKind) (rest : List CellKind)
+      → slice_get slots n ≡ Some kind → slice_get writable n ≡ Some true
+      → is_within top (Plain kind) ≡ true → length rest < 32
       → Steps (Slot Store n) (top ∷ rest) (top ∷ rest)
   stored n kind top rest s w h room = record {
-    effect = ap (λ (o : Option ElementaryType). o >>= (λ t. looks_at (Plain t) (top ∷ rest))) s ∙ looked (Plain kind) top rest h;
+    effect =
+        ap (λ (o : Option ElementaryType). o >>= (λ t. looks_at (Plain t) (top ∷ rest))) s
+        ∙ looked (Plain kind) top rest h;
     room = omega arith;
     goes = refl;
     straight = λ d e. e;
     keeps = w;
   }
 
-  truth_looked : (n : ℕ) (top : Kind) (rest : List Kind) → slice_get slots n ≡ Some elementary.Bool → is_within top (Plain elementary.Bool) ≡ true → with_truth slots n (top ∷ rest) ≡ Some (top ∷ rest)
+  truth_looked : (n : ℕ) (top : CellKind) (rest : List CellKind)
+      → slice_get slots n ≡ Some elementary.Bool → is_within top (Plain elementary.Bool) ≡ true
+      → with_truth slots n (top ∷ rest) ≡ Some (top ∷ rest)
   truth_looked n top rest s h =
-      ap (λ (o : Option ElementaryType). o >>= (λ t. if same_type t elementary.Bool then looks_at (Plain elementary.Bool) (top ∷ rest) else None)) s ∙ looked (Plain elementary.Bool) top rest h
+      ap (λ (o : Option ElementaryType). o
+      >>= (λ t. if same_type t elementary.Bool
+      then looks_at (Plain elementary.Bool) (top ∷ rest) else None)) s
+      ∙ looked (Plain elementary.Bool) top rest h
 
-  pub set_if : (n : ℕ) (top : Kind) (rest : List Kind) → slice_get slots n ≡ Some elementary.Bool → slice_get writable n ≡ Some true → is_within top (Plain elementary.Bool) ≡ true → length rest < 32
+  pub set_if : (n : ℕ) (top : CellKind) (rest : List CellKind)
+      → slice_get slots n ≡ Some elementary.Bool → slice_get writable n ≡ Some true
+      → is_within top (Plain elementary.Bool) ≡ true → length rest < 32
       → Steps (Slot SetIf n) (top ∷ rest) (top ∷ rest)
-  set_if n top rest s w h room = record { effect = truth_looked n top rest s h; room = omega arith; goes = refl; straight = λ d e. e; keeps = w }
+  set_if n top rest s w h room =
+      record {
+        effect = truth_looked n top rest s h;
+        room = omega arith;
+        goes = refl;
+        straight = λ d e. e;
+        keeps = w;
+      }
 
-  pub reset_if : (n : ℕ) (top : Kind) (rest : List Kind) → slice_get slots n ≡ Some elementary.Bool → slice_get writable n ≡ Some true → is_within top (Plain elementary.Bool) ≡ true → length rest < 32
+  pub reset_if : (n : ℕ) (top : CellKind) (rest : List CellKind)
+      → slice_get slots n ≡ Some elementary.Bool → slice_get writable n ≡ Some true
+      → is_within top (Plain elementary.Bool) ≡ true → length rest < 32
       → Steps (Slot ResetIf n) (top ∷ rest) (top ∷ rest)
-  reset_if n top rest s w h room = record { effect = truth_looked n top rest s h; room = omega arith; goes = refl; straight = λ d e. e; keeps = w }
+  reset_if n top rest s w h room =
+      record {
+        effect = truth_looked n top rest s h;
+        room = omega arith;
+        goes = refl;
+        straight = λ d e. e;
+        keeps = w;
+      }
 
-  pub input_set : (n : ℕ) (top : Kind) (rest : List Kind) → n < length c.timers → is_within top (Plain elementary.Bool) ≡ true → length rest < 32 → Steps (Timer SetInput n) (top ∷ rest) rest
+  pub input_set : (n : ℕ) (top : CellKind) (rest : List CellKind) → n < length c.timers
+      → is_within top (Plain elementary.Bool) ≡ true → length rest < 32
+      → Steps (Timer SetInput n) (top ∷ rest) rest
   input_set n top rest lt h room = record {
-    effect = timer_there n (below (Plain elementary.Bool) (top ∷ rest)) lt ∙ below_top (Plain elementary.Bool) top rest h;
+    effect =
+        timer_there n (below (Plain elementary.Bool) (top ∷ rest)) lt
+        ∙ below_top (Plain elementary.Bool) top rest h;
     room = omega arith;
     goes = refl;
     straight = λ d e. e;
     keeps = tt;
   }
 
-  pub preset_set : (n : ℕ) (top : Kind) (rest : List Kind) → n < length c.timers → is_within top (Plain elementary.Time) ≡ true → length rest < 32 → Steps (Timer SetPreset n) (top ∷ rest) rest
+  pub preset_set : (n : ℕ) (top : CellKind) (rest : List CellKind) → n < length c.timers
+      → is_within top (Plain elementary.Time) ≡ true → length rest < 32
+      → Steps (Timer SetPreset n) (top ∷ rest) rest
   preset_set n top rest lt h room = record {
-    effect = timer_there n (below (Plain elementary.Time) (top ∷ rest)) lt ∙ below_top (Plain elementary.Time) top rest h;
+    effect =
+        timer_there n (below (Plain elementary.Time) (top ∷ rest)) lt
+        ∙ below_top (Plain elementary.Time) top rest h;
     room = omega arith;
     goes = refl;
     straight = λ d e. e;
     keeps = tt;
   }
 
-  pub ran : (n : ℕ) (ks : List Kind) → n < length c.timers → length ks ≤ 32 → Steps (Timer Run n) ks ks
-  ran n ks lt room = record { effect = timer_there n (Some ks) lt; room = room; goes = refl; straight = λ d e. e; keeps = tt }
+  pub ran : (n : ℕ) (ks : List CellKind) → n < length c.timers → length ks ≤ 32
+      → Steps (Timer Run n) ks ks
+  ran n ks lt room =
+      record {
+        effect = timer_there n (Some ks) lt;
+        room = room;
+        goes = refl;
+        straight = λ d e. e;
+        keeps = tt;
+      }

@@ -9,7 +9,7 @@ use Rattle.il_text.specs.declared.program.Conversion.TheVariants.{IntToDint, Din
 use Rattle.il_text.specs.declared.program.Operator.{Operator}
 use Rattle.il_text.specs.declared.program.Operator.TheVariants as operator
 use Rattle.il_image.specs.Arithmetic.{compared, computed, connected, widened}
-use Rattle.il_image.specs.Machine.{divides, tells_equality, value_in}
+use Rattle.il_image.specs.Machine.{divides, tells_equality, value_of_width}
 use Rattle.il_image.specs.Values.{number_of, type_of}
 use Rattle.il_image.specs.declared.arithmetic.Comparison.{Comparison}
 use Rattle.il_image.specs.declared.arithmetic.Operation.{Operation}
@@ -89,24 +89,39 @@ pub record Made (made : Option Value) (kind : ElementaryType) : Type 0 where
   pub is : made ≡ Some value
   pub type : type_of value ≡ kind
 
-pub inverse_made : (v : Value) (kind : ElementaryType) → type_of v ≡ kind → rules.is_boolean kind ≡ true → Made (inverse v) kind
+pub inverse_made : (v : Value) (kind : ElementaryType) → type_of v ≡ kind
+    → rules.is_boolean kind ≡ true → Made (inverse v) kind
 inverse_made (Truth b) kind e h = record { value = Truth (not b); is = refl; type = e }
-inverse_made (Short z) kind e h = absurd (let f : elementary.Int ≡ elementary.Bool = e ∙ boolean_is kind h in cc)
-inverse_made (Long z) kind e h = absurd (let f : elementary.Dint ≡ elementary.Bool = e ∙ boolean_is kind h in cc)
-inverse_made (Wide z) kind e h = absurd (let f : elementary.Lint ≡ elementary.Bool = e ∙ boolean_is kind h in cc)
-inverse_made (Span n) kind e h = absurd (let f : elementary.Time ≡ elementary.Bool = e ∙ boolean_is kind h in cc)
+inverse_made (Short z) kind e h =
+    absurd (let f : elementary.Int ≡ elementary.Bool = e ∙ boolean_is kind h in cc)
+inverse_made (Long z) kind e h =
+    absurd (let f : elementary.Dint ≡ elementary.Bool = e ∙ boolean_is kind h in cc)
+inverse_made (Wide z) kind e h =
+    absurd (let f : elementary.Lint ≡ elementary.Bool = e ∙ boolean_is kind h in cc)
+inverse_made (Span n) kind e h =
+    absurd (let f : elementary.Time ≡ elementary.Bool = e ∙ boolean_is kind h in cc)
 
-computed_made : (o : Operation) (w : Width) (a b : ℤ) (zero : Bool) (kind : ElementaryType) → type_of (value_in w (computed o w a b)) ≡ kind → zero ≡ false
-    → Made (if zero then None else Some (value_in w (computed o w a b))) kind
+computed_made : (o : Operation) (w : Width) (a b : ℤ) (zero : Bool) (kind : ElementaryType)
+    → type_of (value_of_width w (computed o w a b)) ≡ kind → zero ≡ false
+    → Made (if zero then None else Some (value_of_width w (computed o w a b))) kind
 computed_made o w a b true kind t z = absurd cc
-computed_made o w a b false kind t z = record { value = value_in w (computed o w a b); is = refl; type = t }
+computed_made o w a b false kind t z =
+    record { value = value_of_width w (computed o w a b); is = refl; type = t }
 
-compared_made : (c : Comparison) (a b : Value) (fits : Bool) → fits ≡ true → Made (if fits then Some (Truth (compared c (number_of a) (number_of b))) else None) elementary.Bool
-compared_made c a b true h = record { value = Truth (compared c (number_of a) (number_of b)); is = refl; type = refl }
+compared_made : (c : Comparison) (a b : Value) (fits : Bool) → fits ≡ true
+    → Made (if fits then Some (Truth (compared c (number_of a) (number_of b))) else None)
+    elementary.Bool
+compared_made c a b true h =
+    record { value = Truth (compared c (number_of a) (number_of b)); is = refl; type = refl }
 compared_made c a b false h = absurd cc
 
-comparable : (c : Comparison) (k l : ElementaryType) → k ≡ l → tells_equality c || not (rules.is_boolean k) ≡ true → same_type k l && (not (same_type k elementary.Bool) || tells_equality c) ≡ true
-comparable c elementary.Bool l e h = elim (tells_equality c) as (λ x. x || false ≡ true → same_type elementary.Bool l && (false || x) ≡ true) [ true ↦ (λ g. rw (sym e) refl) | false ↦ (λ g. absurd cc) ] h
+comparable : (c : Comparison) (k l : ElementaryType) → k ≡ l
+    → tells_equality c || not (rules.is_boolean k) ≡ true
+    → same_type k l && (not (same_type k elementary.Bool) || tells_equality c) ≡ true
+comparable c elementary.Bool l e h =
+    elim (tells_equality c) as
+    (λ x. x || false ≡ true → same_type elementary.Bool l && (false || x) ≡ true)
+    [ true ↦ (λ g. rw (sym e) refl) | false ↦ (λ g. absurd cc) ] h
 comparable c elementary.Int l e h = rw (sym e) refl
 comparable c elementary.Dint l e h = rw (sym e) refl
 comparable c elementary.Lint l e h = rw (sym e) refl
@@ -114,9 +129,12 @@ comparable c elementary.Time l e h = rw (sym e) refl
 
 -- an operator makes a value of two of a type that it takes, of which the second is not 0 where it
 -- divides
-pub combined_made : (sense : Sense) (a b : Value) → type_of b ≡ type_of a → sense_takes sense (type_of a) ≡ true → sense_divides sense && int_eq (number_of b) (pos 0) ≡ false
+pub combined_made : (sense : Sense) (a b : Value) → type_of b ≡ type_of a
+    → sense_takes sense (type_of a) ≡ true
+    → sense_divides sense && int_eq (number_of b) (pos 0) ≡ false
     → Made (combined sense a b) (sense_gives sense (type_of a))
-combined_made (connects x) (Truth a) (Truth b) e h z = record { value = Truth (connected x a b); is = refl; type = refl }
+combined_made (connects x) (Truth a) (Truth b) e h z =
+    record { value = Truth (connected x a b); is = refl; type = refl }
 combined_made (connects x) (Truth a) (Short b) e h z = absurd cc
 combined_made (connects x) (Truth a) (Long b) e h z = absurd cc
 combined_made (connects x) (Truth a) (Wide b) e h z = absurd cc
@@ -125,9 +143,12 @@ combined_made (connects x) (Short a) b e h z = absurd cc
 combined_made (connects x) (Long a) b e h z = absurd cc
 combined_made (connects x) (Wide a) b e h z = absurd cc
 combined_made (connects x) (Span a) b e h z = absurd cc
-combined_made (computes o) (Short a) (Short b) e h z = computed_made o width.Int a b _ elementary.Int refl z
-combined_made (computes o) (Long a) (Long b) e h z = computed_made o width.Dint a b _ elementary.Dint refl z
-combined_made (computes o) (Wide a) (Wide b) e h z = computed_made o width.Lint a b _ elementary.Lint refl z
+combined_made (computes o) (Short a) (Short b) e h z =
+    computed_made o width.Int a b _ elementary.Int refl z
+combined_made (computes o) (Long a) (Long b) e h z =
+    computed_made o width.Dint a b _ elementary.Dint refl z
+combined_made (computes o) (Wide a) (Wide b) e h z =
+    computed_made o width.Lint a b _ elementary.Lint refl z
 combined_made (computes o) (Truth a) b e h z = absurd cc
 combined_made (computes o) (Span a) b e h z = absurd cc
 combined_made (computes o) (Short a) (Truth b) e h z = absurd cc
@@ -142,9 +163,11 @@ combined_made (computes o) (Wide a) (Truth b) e h z = absurd cc
 combined_made (computes o) (Wide a) (Short b) e h z = absurd cc
 combined_made (computes o) (Wide a) (Long b) e h z = absurd cc
 combined_made (computes o) (Wide a) (Span b) e h z = absurd cc
-combined_made (compares c) a b e h z = compared_made c a b _ (comparable c (type_of a) (type_of b) (sym e) h)
+combined_made (compares c) a b e h z =
+    compared_made c a b _ (comparable c (type_of a) (type_of b) (sym e) h)
 
-pub widened_made : (c : Conversion) (v : Value) → type_of v ≡ rules.converted_from c → Made (widened (widening_of c) v) (rules.converted_to c)
+pub widened_made : (c : Conversion) (v : Value) → type_of v ≡ rules.converted_from c
+    → Made (widened (widening_of c) v) (rules.converted_to c)
 widened_made IntToDint (Short z) e = record { value = Long z; is = refl; type = refl }
 widened_made IntToDint (Truth z) e = absurd cc
 widened_made IntToDint (Long z) e = absurd cc

@@ -18,7 +18,8 @@ abbrev mutual
 
   pub AreSpellableEntries : ℕ → Entries → Type 0
   AreSpellableEntries externals no_entries = Unit {0}
-  AreSpellableEntries externals (entry e es) = IsSpellableEntry externals e × AreSpellableEntries externals es
+  AreSpellableEntries externals (entry e es) =
+      IsSpellableEntry externals e × AreSpellableEntries externals es
 
 -- Its instructions can be spelled, but for the distance of a jump.
 abbrev pub IsSpellable : ℕ → Item → Type 0
@@ -26,16 +27,19 @@ IsSpellable externals (label n) = Unit {0}
 IsSpellable externals (transfer t) = Each IsInstr (transfer_code externals t 0)
 IsSpellable externals (plain e) = IsSpellableEntry externals e
 
+-- The instructions of each item can be spelled.
 abbrev pub AreSpellable : ℕ → List Item → Type 0
 AreSpellable externals is = Each (IsSpellable externals) is
 
 -- for each label the octets from it to the end of the items, and 0 where there is no such label
 abbrev pub KnowsPlaces : ℕ → (ℕ → Option ℕ) → List Item → Type 0
-KnowsPlaces externals places is = (l : ℕ) → octets_before externals l is + unwrap_or (places l) 0 ≡ octets (items_code externals is)
+KnowsPlaces externals places is = (l : ℕ)
+    → octets_before externals l is + unwrap_or (places l) 0 ≡ octets (items_code externals is)
 
 -- The items' instructions, the last first, with the octets that they have, counted up to 65,536;
 -- where they have fewer, the instructions and the places of labels are known.
-pub record IsBehind (externals : ℕ) (is : List Item) (instrs : List Instr) (size : ℕ) (places : ℕ → Option ℕ) : Type 0 where
+pub record IsBehind (externals : ℕ) (is : List Item) (instrs : List Instr) (size : ℕ)
+    (places : ℕ → Option ℕ) : Type 0 where
   pub counted : size ≡ min (octets (items_code externals is)) 65_536
   pub code : octets (items_code externals is) ≤ 65_535 → reverse instrs ≡ items_code externals is
   pub known : octets (items_code externals is) ≤ 65_535 → KnowsPlaces externals places is

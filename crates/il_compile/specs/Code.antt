@@ -19,8 +19,8 @@ use Rattle.il_image.specs.declared.opcode.TimerUse.{TimerUse}
 use Rattle.il_image.specs.declared.opcode.TimerUse.TheVariants.{SetInput, SetPreset, Run, LoadOutput, LoadElapsed}
 use Rattle.il_image.specs.declared.value.Value.TheVariants.{Truth}
 use Rattle.il_check.specs.Program.{Entry, operation, block, Entries, no_entries, entry, Item, label, transfer, plain, Checked}
-use Rattle.il_check.specs.declared.typed.Operation.{Operation}
-use Rattle.il_check.specs.declared.typed.Operation.TheVariants as op
+use Rattle.il_check.specs.declared.typed.SimpleOperation.{SimpleOperation}
+use Rattle.il_check.specs.declared.typed.SimpleOperation.TheVariants as op
 use Rattle.il_check.specs.declared.typed.Slot as typed
 use Rattle.il_check.specs.declared.typed.Slot.TheVariants.{External, Variable}
 use Rattle.il_check.specs.declared.typed.Transfer.{Transfer}
@@ -39,15 +39,18 @@ abbrev pub slot_number : ℕ → typed.Slot → ℕ
 slot_number externals (External n) = n
 slot_number externals (Variable n) = externals + n
 
+-- what the machine does with an output of a timer
 abbrev pub output_use : Output → TimerUse
 output_use Q = LoadOutput
 output_use Et = LoadElapsed
 
+-- the instruction that puts an operand on the stack
 abbrev pub fetch : ℕ → TypedOperand → Instr
 fetch externals (operand.Literal v) = Push v
 fetch externals (operand.Slot s) = Slot Load (slot_number externals s)
 fetch externals (operand.Output n what) = Timer (output_use what) n
 
+-- a NOT, where the operand is negated
 abbrev pub negation : Bool → List Instr
 negation false = []
 negation true = Not ∷ []
@@ -58,6 +61,7 @@ width_of elementary.Dint = width.Dint
 width_of elementary.Lint = width.Lint
 width_of other = width.Int
 
+-- the instruction of an operator on two values of a type
 abbrev pub sense_instr : Sense → ElementaryType → Instr
 sense_instr (connects c) kind = Combine c
 sense_instr (computes o) kind = Compute o (width_of kind)
@@ -69,16 +73,19 @@ operated operator kind negated = negation negated ++ sense_instr (sense_of opera
 
 -- ---- operations and parentheses
 
+-- a store of the result, which stays on the stack
 abbrev pub store_code : StoreKind → ℕ → List Instr
 store_code store.Plain n = Slot Store n ∷ []
 store_code store.Negated n = Not ∷ Slot Store n ∷ Not ∷ []
 store_code store.Set n = Slot SetIf n ∷ []
 store_code store.Reset n = Slot ResetIf n ∷ []
 
-abbrev pub operation_code : ℕ → Operation → List Instr
+-- an operation, which acts on the topmost cell
+abbrev pub operation_code : ℕ → SimpleOperation → List Instr
 operation_code externals (op.Load negated x) = Drop ∷ fetch externals x ∷ negation negated
 operation_code externals (op.Store how s) = store_code how (slot_number externals s)
-operation_code externals (op.Combine operator kind negated x) = fetch externals x ∷ operated operator kind negated
+operation_code externals (op.Combine operator kind negated x) =
+    fetch externals x ∷ operated operator kind negated
 operation_code externals op.Not = Not ∷ []
 operation_code externals (op.Convert conversion) = Widen (widening_of conversion) ∷ []
 
@@ -89,7 +96,8 @@ unset = Push (Truth false)
 abbrev mutual
   pub entry_code : ℕ → Entry → List Instr
   entry_code externals (operation o) = operation_code externals o
-  entry_code externals (block operator kind negated es) = unset ∷ entries_code externals es ++ operated operator kind negated
+  entry_code externals (block operator kind negated es) =
+      unset ∷ entries_code externals es ++ operated operator kind negated
 
   pub entries_code : ℕ → Entries → List Instr
   entries_code externals no_entries = []
@@ -97,23 +105,28 @@ abbrev mutual
 
 -- ---- jumps, returns and calls
 
+-- what the machine does with an input of a timer
 abbrev pub input_use : Input → TimerUse
 input_use In = SetInput
 input_use Pt = SetPreset
 
+-- an argument of a call: its operand, and the timer's input that takes it
 abbrev pub argument_code : ℕ → ℕ → TypedArgument → List Instr
 argument_code externals n a = fetch externals a.operand ∷ Timer (input_use a.input) n ∷ []
 
+-- the arguments, in the order of the text
 abbrev pub arguments_code : ℕ → ℕ → TypedArguments → List Instr
 arguments_code externals n arguments.None = []
 arguments_code externals n (arguments.One a) = argument_code externals n a
-arguments_code externals n (arguments.Two a b) = argument_code externals n a ++ argument_code externals n b
+arguments_code externals n (arguments.Two a b) =
+    argument_code externals n a ++ argument_code externals n b
 
 -- a jump, a return or a call that passes over so many octets
 abbrev pub transfer_code : ℕ → Transfer → ℕ → List Instr
 transfer_code externals (go.Jump condition l) distance = Jump (when_of condition) distance ∷ []
 transfer_code externals (go.Return condition) distance = Jump (when_of condition) distance ∷ []
-transfer_code externals (go.Call n args) distance = arguments_code externals n args ++ Timer Run n ∷ []
+transfer_code externals (go.Call n args) distance =
+    arguments_code externals n args ++ Timer Run n ∷ []
 
 -- ---- the items
 
@@ -126,8 +139,10 @@ octets code = length (all_spelled code)
 abbrev pub octets_before : ℕ → ℕ → List Item → ℕ
 octets_before externals l [] = 0
 octets_before externals l (label n ∷ is) = if n == l then 0 else octets_before externals l is
-octets_before externals l (transfer t ∷ is) = octets (transfer_code externals t 0) + octets_before externals l is
-octets_before externals l (plain e ∷ is) = octets (entry_code externals e) + octets_before externals l is
+octets_before externals l (transfer t ∷ is) =
+    octets (transfer_code externals t 0) + octets_before externals l is
+octets_before externals l (plain e ∷ is) =
+    octets (entry_code externals e) + octets_before externals l is
 
 -- A jump passes over what stands before its label, and a return over all octets behind it.
 abbrev pub distance : ℕ → Transfer → List Item → ℕ → ℕ
@@ -135,11 +150,13 @@ distance externals (go.Jump condition l) is behind = octets_before externals l i
 distance externals (go.Return condition) is behind = behind
 distance externals (go.Call n args) is behind = 0
 
+-- the items, one behind the other
 abbrev pub items_code : ℕ → List Item → List Instr
 items_code externals [] = []
 items_code externals (label n ∷ is) = items_code externals is
 items_code externals (transfer t ∷ is) =
-    transfer_code externals t (distance externals t is (octets (items_code externals is))) ++ items_code externals is
+    transfer_code externals t (distance externals t is (octets (items_code externals is)))
+    ++ items_code externals is
 items_code externals (plain e ∷ is) = entry_code externals e ++ items_code externals is
 
 -- The code begins with a cell for the result, and ends with HALT.

@@ -6,10 +6,10 @@ use Rattle.il_image.specs.declared.opcode.Version.TheVariants.{Two}
 use Rattle.il_check.specs.Program.{Checked}
 use Rattle.il_check.specs.declared.typed.External.{External}
 use Rattle.il_compile.specs.Code.{program_code}
-use Rattle.il_compile.specs.Senses.{timer_of}
 use Rattle.il_compile.specs.declared.fault.CompileFault.{CompileFault}
 use Rattle.il_compile.specs.declared.fault.CompileFault.TheVariants.{CodeTooLong}
 
+-- the point that an external is
 abbrev pub point_of : External → ImagePoint
 point_of e = record { name = e.name; elementary = e.kind; writable = e.writable }
 
@@ -19,7 +19,7 @@ abbrev pub image_of : Checked → Image
 image_of c = record {
   points = map point_of c.externals;
   variables = map (λ v. v.initial) c.variables;
-  timers = map (λ t. timer_of t.kind) c.timers;
+  timers = map (λ t. t.kind) c.timers;
   code = all_spelled (program_code c);
 }
 

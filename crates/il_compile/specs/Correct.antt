@@ -1,16 +1,15 @@
 -- Compiled code does what the text means.
 use Rattle.std.specs.Prelude.{◌≡◌, ℕ, List, ◌++◌, length, map, Some}
-use Rattle.il_image.specs.Machine.{run, start, Halted}
+use Rattle.il_image.specs.Machine.{run, initial_state, Halted}
 use Rattle.il_image.specs.Values.{type_of}
 use Rattle.il_check.specs.Program.{Checked}
 use Rattle.il_compile.specs.Meaning.{Memory, mean}
-use Rattle.il_compile.specs.Senses.{timer_of}
 
 -- Each external, variable and timer of the program has a value of its type.
 pub record HasTypes (c : Checked) (m : Memory) : Type 0 where
   pub externals : map type_of m.externals ≡ map (λ e. e.kind) c.externals
   pub variables : map type_of m.variables ≡ map (λ v. type_of v.initial) c.variables
-  pub timers : map (λ t. t.kind) m.timers ≡ map (λ t. timer_of t.kind) c.timers
+  pub timers : map (λ t. t.kind) m.timers ≡ map (λ t. t.kind) c.timers
 
 -- The program means something, and leaves values of its types.
 pub record Means (c : Checked) (now : ℕ) (m : Memory) : Type 0 where
@@ -22,7 +21,7 @@ pub record Means (c : Checked) (now : ℕ) (m : Memory) : Type 0 where
 pub record Follows (c : Checked) (code : List ℕ) (now : ℕ) (m : Memory) : Type 0 where
   pub means : Means c now m
   pub steps : ℕ
-  pub halts : run code now (length code) (start (m.externals ++ m.variables) m.timers) 0
+  pub halts : run code now (length code) (initial_state (m.externals ++ m.variables) m.timers) 0
       ≡ Halted (means.after.externals ++ means.after.variables) means.after.timers steps
 
 -- It does so at each moment, from all values of the program's types.

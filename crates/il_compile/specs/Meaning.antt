@@ -3,6 +3,7 @@
 -- there, a value of another type or a divisor of 0 means nothing.
 use Rattle.std.specs.Prelude.{ℕ, ℤ, pos, ◌&&◌, ◌==◌, Bool, true, false, not, List, [], ◌∷◌, slice_get, slice_set, Option, None, Some, option_map, if◌then◌else◌}
 use Rattle.std.specs.Ordering.{int_eq}
+use Rattle.bay_base.specs.Options.{◌>>=◌}
 use Rattle.bay_base.specs.Types.{same_type}
 use Rattle.il_text.specs.declared.program.Condition.{Condition}
 use Rattle.il_text.specs.declared.program.Condition.TheVariants.{Always, IfTrue, IfFalse}
@@ -14,19 +15,18 @@ use Rattle.il_text.specs.declared.program.Output.TheVariants.{Q, Et}
 use Rattle.il_text.specs.declared.program.StoreKind.{StoreKind}
 use Rattle.il_text.specs.declared.program.StoreKind.TheVariants as store
 use Rattle.il_image.specs.Arithmetic.{compared, computed, connected, widened}
-use Rattle.il_image.specs.Effects.{◌>>=◌}
-use Rattle.il_image.specs.Machine.{divides, is_comparable, value_in}
+use Rattle.il_image.specs.Machine.{divides, is_comparable, value_of_width}
 use Rattle.il_image.specs.Timers.{called}
 use Rattle.il_image.specs.Values.{number_of, type_of}
-use Rattle.il_image.specs.declared.arithmetic.Operation.{Operation as Arithmetic}
+use Rattle.il_image.specs.declared.arithmetic.Operation.{Operation}
 use Rattle.il_image.specs.declared.arithmetic.Width.{Width}
 use Rattle.il_image.specs.declared.arithmetic.Width.TheVariants as width
-use Rattle.il_image.specs.declared.timer.Timer.{Timer}
+use Rattle.il_image.specs.declared.timer.TimerState.{TimerState}
 use Rattle.il_image.specs.declared.value.Value.{Value}
 use Rattle.il_image.specs.declared.value.Value.TheVariants.{Truth, Short, Long, Wide, Span}
 use Rattle.il_check.specs.Program.{Entry, operation, block, Entries, no_entries, entry, Item, label, transfer, plain}
-use Rattle.il_check.specs.declared.typed.Operation.{Operation}
-use Rattle.il_check.specs.declared.typed.Operation.TheVariants as op
+use Rattle.il_check.specs.declared.typed.SimpleOperation.{SimpleOperation}
+use Rattle.il_check.specs.declared.typed.SimpleOperation.TheVariants as op
 use Rattle.il_check.specs.declared.typed.Slot.{Slot}
 use Rattle.il_check.specs.declared.typed.Slot.TheVariants.{External, Variable}
 use Rattle.il_check.specs.declared.typed.Transfer.TheVariants as go
@@ -42,7 +42,7 @@ use Rattle.il_compile.specs.Senses.{Sense, connects, computes, compares, sense_o
 pub record Memory : Type 0 where
   pub externals : List Value
   pub variables : List Value
-  pub timers : List Timer
+  pub timers : List TimerState
 
 -- the current result, where it is set, and the memory
 pub record State : Type 0 where
@@ -51,23 +51,28 @@ pub record State : Type 0 where
 
 -- ---- values
 
+-- NOT of a BOOL
 abbrev pub inverse : Value → Option Value
 inverse (Truth b) = Some (Truth (not b))
 inverse other = None
 
+-- a value that may be negated
 abbrev pub inverse_if : Bool → Value → Option Value
 inverse_if false v = Some v
 inverse_if true v = inverse v
 
+-- of two BOOLs
 abbrev pub connected_values : Value → Value → (Bool → Bool → Bool) → Option Value
 connected_values (Truth a) (Truth b) f = Some (Truth (f a b))
 connected_values a b f = None
 
 -- of two numbers of one width; none is divided by 0
-abbrev pub computed_in : Width → Arithmetic → ℤ → ℤ → Option Value
-computed_in w o a b = if divides o && int_eq b (pos 0) then None else Some (value_in w (computed o w a b))
+abbrev pub computed_in : Width → Operation → ℤ → ℤ → Option Value
+computed_in w o a b =
+    if divides o && int_eq b (pos 0) then None else Some (value_of_width w (computed o w a b))
 
-abbrev pub computed_values : Arithmetic → Value → Value → Option Value
+-- of two numbers of one type
+abbrev pub computed_values : Operation → Value → Value → Option Value
 computed_values o (Short a) (Short b) = computed_in width.Int o a b
 computed_values o (Long a) (Long b) = computed_in width.Dint o a b
 computed_values o (Wide a) (Wide b) = computed_in width.Lint o a b
@@ -77,23 +82,28 @@ computed_values o a b = None
 abbrev pub combined : Sense → Value → Value → Option Value
 combined (connects c) a b = connected_values a b (connected c)
 combined (computes o) a b = computed_values o a b
-combined (compares c) a b = if is_comparable c a b then Some (Truth (compared c (number_of a) (number_of b))) else None
+combined (compares c) a b =
+    if is_comparable c a b then Some (Truth (compared c (number_of a) (number_of b))) else None
 
 -- ---- reading and writing
 
-abbrev pub output_of : Output → Timer → Value
+-- the value of an output of a timer
+abbrev pub output_of : Output → TimerState → Value
 output_of Q t = Truth t.output
 output_of Et t = Span t.elapsed
 
+-- the value in a slot, if there is the slot
 abbrev pub slot_value : Slot → Memory → Option Value
 slot_value (External n) m = slice_get m.externals n
 slot_value (Variable n) m = slice_get m.variables n
 
+-- the value of an operand
 abbrev pub read : TypedOperand → Memory → Option Value
 read (operand.Literal v) m = Some v
 read (operand.Slot s) m = slot_value s m
 read (operand.Output n what) m = option_map (output_of what) (slice_get m.timers n)
 
+-- the memory with a value in a slot
 abbrev pub with_value : Slot → Value → Memory → Memory
 with_value (External n) v m = record m { externals = slice_set m.externals n v }
 with_value (Variable n) v m = record m { variables = slice_set m.variables n v }
@@ -104,6 +114,7 @@ written s v m = do
   old ← slot_value s m
   if same_type (type_of v) (type_of old) then Some (with_value s v m) else None
 
+-- what a BOOL decides
 abbrev pub decided : Value → Option Bool
 decided (Truth b) = Some b
 decided other = None
@@ -114,6 +125,7 @@ set_to new s v m = do
   is_on ← decided v
   if is_on then written s (Truth new) m else Some m
 
+-- what a store of a value leaves in memory
 abbrev pub stored : StoreKind → Slot → Value → Memory → Option Memory
 stored store.Plain s v m = written s v m
 stored store.Negated s v m = do
@@ -124,7 +136,8 @@ stored store.Reset s v m = set_to false s v m
 
 -- ---- operations and parentheses
 
-abbrev pub acted : Operation → State → Option State
+-- what an operation makes of a state
+abbrev pub acted : SimpleOperation → State → Option State
 acted (op.Load negated x) s = do
   v ← read x s.memory
   w ← inverse_if negated v
@@ -157,6 +170,7 @@ closed operator negated before inner = do
   c ← combined (sense_of operator) a b
   Some (record inner { result = Some c })
 
+-- the state in which the result is not set
 abbrev pub without_result : State → State
 without_result s = record s { result = None }
 
@@ -182,22 +196,26 @@ goes Always result = Some true
 goes IfTrue result = result >>= decided
 goes IfFalse result = option_map not (result >>= decided)
 
-abbrev pub given : Input → Value → Timer → Option Timer
+-- a timer with an input, which has the type of its value
+abbrev pub given : Input → Value → TimerState → Option TimerState
 given In (Truth b) t = Some (record t { input = b })
 given Pt (Span n) t = Some (record t { preset = n })
 given input other t = None
 
-abbrev pub with_timer : ℕ → (Timer → Option Timer) → Memory → Option Memory
+-- the memory with a timer changed, if it is there
+abbrev pub with_timer : ℕ → (TimerState → Option TimerState) → Memory → Option Memory
 with_timer n f m = do
   old ← slice_get m.timers n
   new ← f old
   Some (record m { timers = slice_set m.timers n new })
 
+-- the memory with an input of a timer set
 abbrev pub with_argument : ℕ → TypedArgument → Memory → Option Memory
 with_argument n a m = do
   v ← read a.operand m
   with_timer n (given a.input v) m
 
+-- the memory with the inputs of a timer set, in the order of the text
 abbrev pub with_arguments : ℕ → TypedArguments → Memory → Option Memory
 with_arguments n arguments.None m = Some m
 with_arguments n (arguments.One a) m = with_argument n a m
@@ -219,7 +237,8 @@ run_timer now n args s = do
 abbrev pub mean_from : ℕ → Option ℕ → List Item → State → Option State
 mean_from now None [] s = Some s
 mean_from now (Some l) [] s = None
-mean_from now (Some l) (label n ∷ is) s = if n == l then mean_from now None is s else mean_from now (Some l) is s
+mean_from now (Some l) (label n ∷ is) s =
+    if n == l then mean_from now None is s else mean_from now (Some l) is s
 mean_from now (Some l) (transfer t ∷ is) s = mean_from now (Some l) is s
 mean_from now (Some l) (plain e ∷ is) s = mean_from now (Some l) is s
 mean_from now None (label n ∷ is) s = mean_from now None is s
@@ -238,4 +257,5 @@ mean_from now None (plain e ∷ is) s = do
 
 -- A program begins with a result that is not set; what it leaves in memory is what it means.
 abbrev pub mean : ℕ → List Item → Memory → Option Memory
-mean now items m = option_map (λ s. s.memory) (mean_from now None items (record { result = None; memory = m }))
+mean now items m =
+    option_map (λ s. s.memory) (mean_from now None items (record { result = None; memory = m }))

@@ -1,4 +1,4 @@
--- What the operators do, and the conversions, timers and conditions of Instruction List in the
+-- What the operators do, and the conversions and conditions of Instruction List in the
 -- words of images.
 use Rattle.il_text.specs.declared.program.Condition.{Condition}
 use Rattle.il_text.specs.declared.program.Condition.TheVariants as condition
@@ -6,8 +6,6 @@ use Rattle.il_text.specs.declared.program.Conversion.{Conversion}
 use Rattle.il_text.specs.declared.program.Conversion.TheVariants as conversion
 use Rattle.il_text.specs.declared.program.Operator.{Operator}
 use Rattle.il_text.specs.declared.program.Operator.TheVariants as operator
-use Rattle.il_text.specs.declared.program.TimerKind.{TimerKind as TextTimer}
-use Rattle.il_text.specs.declared.program.TimerKind.TheVariants as text_timer
 use Rattle.il_image.specs.declared.arithmetic.Comparison.{Comparison}
 use Rattle.il_image.specs.declared.arithmetic.Comparison.TheVariants.{Gt, Ge, Eq, Ne, Le, Lt}
 use Rattle.il_image.specs.declared.arithmetic.Operation.{Operation}
@@ -18,8 +16,6 @@ use Rattle.il_image.specs.declared.opcode.When.{When}
 use Rattle.il_image.specs.declared.opcode.When.TheVariants as when
 use Rattle.il_image.specs.declared.opcode.Widening.{Widening}
 use Rattle.il_image.specs.declared.opcode.Widening.TheVariants as widening
-use Rattle.il_image.specs.declared.timer.TimerKind.{TimerKind}
-use Rattle.il_image.specs.declared.timer.TimerKind.TheVariants as timer
 
 -- An operator connects BOOLs, computes with numbers of one width, or compares values of one type.
 pub data Sense : Type 0 where
@@ -27,6 +23,7 @@ pub data Sense : Type 0 where
   computes : Operation → Sense
   compares : Comparison → Sense
 
+-- what an operator does
 abbrev pub sense_of : Operator → Sense
 sense_of operator.And = connects And
 sense_of operator.Or = connects Or
@@ -43,15 +40,13 @@ sense_of operator.Ne = compares Ne
 sense_of operator.Le = compares Le
 sense_of operator.Lt = compares Lt
 
+-- a conversion as the machine names it
 abbrev pub widening_of : Conversion → Widening
 widening_of conversion.IntToDint = widening.IntToDint
 widening_of conversion.DintToLint = widening.DintToLint
 
+-- when a jump goes
 abbrev pub when_of : Condition → When
 when_of condition.Always = when.Always
 when_of condition.IfTrue = when.IfTrue
 when_of condition.IfFalse = when.IfFalse
-
-abbrev pub timer_of : TextTimer → TimerKind
-timer_of text_timer.OnDelay = timer.OnDelay
-timer_of text_timer.OffDelay = timer.OffDelay

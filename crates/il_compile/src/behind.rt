@@ -52,7 +52,7 @@ fn octets_of(instr: Instr) -> u32
 }
 
 // The octets of both, counted up to 65,536.
-fn joined(a: u32, b: u32) -> u32
+fn bounded_sum(a: u32, b: u32) -> u32
     requires left { a ≤ 65_536 }
     requires right { b ≤ 65_536 }
     ensures { result ≡ min (a + b) 65_536 }
@@ -70,12 +70,13 @@ fn put_before(
 ) -> Result<u32, AllocError>
     requires { octets ≤ 65_536 }
     ensures counted { IfOk result (λ all. all ≡ min (octets + spec.octets line.old.items) 65_536) }
-    ensures before { OnOk result (reverse behind.new.items ≡ line.old.items ++ reverse behind.old.items) }
+    ensures before { OnOk result
+        (reverse behind.new.items ≡ line.old.items ++ reverse behind.old.items) }
     ensures empty { OnOk result (line.new.items ≡ []) }
 {
     let mut all = octets;
     while let Some(instr) = line.pop() {
-        all = joined(all, octets_of(instr));
+        all = bounded_sum(all, octets_of(instr));
         behind.push(instr)?;
     }
     Ok(all)
@@ -97,8 +98,10 @@ impl Behind {
     // Puts the instructions that wait before those behind.
     fn settle(&mut self) -> Result<(), AllocError>
         requires { self.old.octets ≤ 65_536 }
-        ensures counted { OnOk result (self.new.octets ≡ min (self.old.octets + spec.octets self.old.line.items) 65_536) }
-        ensures before { OnOk result (reverse self.new.instrs.items ≡ self.old.line.items ++ reverse self.old.instrs.items) }
+        ensures counted { OnOk result
+            (self.new.octets ≡ min (self.old.octets + spec.octets self.old.line.items) 65_536) }
+        ensures before { OnOk result
+            (reverse self.new.instrs.items ≡ self.old.line.items ++ reverse self.old.instrs.items) }
         ensures empty { OnOk result (self.new.line.items ≡ []) }
         ensures places { OnOk result (self.new.places ≡ self.old.places) }
     {
@@ -108,7 +111,8 @@ impl Behind {
 
     // A label stands where the octets behind it begin.
     fn put_label(&mut self, number: usize) -> Result<(), AllocError>
-        ensures { (externals : ℕ) (is : List Item) → IsSettled externals is self.old → OnOk result (IsSettled externals (label number ∷ is) self.new) }
+        ensures { (externals : ℕ) (is : List Item) → IsSettled externals is self.old
+            → OnOk result (IsSettled externals (label number ∷ is) self.new) }
     {
         self.places.insert(number, self.octets)?;
         Ok(())
@@ -118,7 +122,8 @@ impl Behind {
     fn put_plain(&mut self, externals: usize, entry: &TypedEntry) -> Result<(), AllocError>
         requires bounded { self.old.octets ≤ 65_536 }
         requires spellable { IsSpellableEntry externals (entry_view entry.now) }
-        ensures { (is : List Item) → IsSettled externals is self.old → OnOk result (IsSettled externals (plain (entry_view entry.now) ∷ is) self.new) }
+        ensures { (is : List Item) → IsSettled externals is self.old
+            → OnOk result (IsSettled externals (plain (entry_view entry.now) ∷ is) self.new) }
     {
         put_entry(&mut self.line, externals, entry)?;
         self.settle()
@@ -127,7 +132,9 @@ impl Behind {
     // Puts a jump over the octets between it and its label.
     fn put_jump(&mut self, condition: Condition, label: usize) -> Result<(), AllocError>
         requires { self.old.octets ≤ 65_536 }
-        ensures { (externals : ℕ) (is : List Item) → IsSettled externals is self.old → OnOk result (IsSettled externals (transfer (Transfer.Jump condition label) ∷ is) self.new) }
+        ensures { (externals : ℕ) (is : List Item) → IsSettled externals is self.old
+            → OnOk result (IsSettled externals (transfer (Transfer.Jump condition label) ∷ is)
+            self.new) }
     {
         let place = self.places.get(&label).copied().unwrap_or(0);
         let distance = self.octets.saturating_sub(place).min(0xFFFF) as u16;
@@ -138,7 +145,8 @@ impl Behind {
     // Puts a jump over all that is behind it.
     fn put_return(&mut self, condition: Condition) -> Result<(), AllocError>
         requires { self.old.octets ≤ 65_536 }
-        ensures { (externals : ℕ) (is : List Item) → IsSettled externals is self.old → OnOk result (IsSettled externals (transfer (Transfer.Return condition) ∷ is) self.new) }
+        ensures { (externals : ℕ) (is : List Item) → IsSettled externals is self.old
+            → OnOk result (IsSettled externals (transfer (Transfer.Return condition) ∷ is) self.new) }
     {
         let distance = self.octets.min(0xFFFF) as u16;
         put(&mut self.line, Instr::Jump(when_of(condition), distance))?;
@@ -154,7 +162,9 @@ impl Behind {
     ) -> Result<(), AllocError>
         requires bounded { self.old.octets ≤ 65_536 }
         requires spellable { IsSpellable externals (transfer (Transfer.Call timer arguments)) }
-        ensures { (is : List Item) → IsSettled externals is self.old → OnOk result (IsSettled externals (transfer (Transfer.Call timer arguments) ∷ is) self.new) }
+        ensures { (is : List Item) → IsSettled externals is self.old
+            → OnOk result (IsSettled externals (transfer (Transfer.Call timer arguments) ∷ is)
+            self.new) }
     {
         put_call(&mut self.line, externals, timer as u16, arguments)?;
         self.settle()
@@ -164,7 +174,8 @@ impl Behind {
     fn put_item(&mut self, externals: usize, item: &TypedItem) -> Result<(), AllocError>
         requires bounded { self.old.octets ≤ 65_536 }
         requires spellable { IsSpellable externals (item_view item.now) }
-        ensures { (is : List Item) → IsSettled externals is self.old → OnOk result (IsSettled externals (item_view item.now ∷ is) self.new) }
+        ensures { (is : List Item) → IsSettled externals is self.old
+            → OnOk result (IsSettled externals (item_view item.now ∷ is) self.new) }
     {
         match item {
             TypedItem::Label(number) => self.put_label(*number),

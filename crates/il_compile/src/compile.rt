@@ -10,20 +10,18 @@ ghost use Rattle.il_compile.specs.Code as spec;
 ghost use Rattle.il_compile.specs.Compiled.{compiled_of, image_of, image_size, points_octets};
 ghost use Rattle.il_compile.specs.Compiled as spec_compiled;
 ghost use Rattle.il_compile.specs.Correct.{DoesTheText};
-ghost use Rattle.il_compile.specs.Senses as senses;
 ghost use Rattle.il_compile.specs.declared.fault.CompileFault.TheVariants.{OutOfMemory};
 
 use crate::behind::{Behind, behind_all};
 use crate::fault::CompileFault;
 use bay_base::listing::Listing;
 use bay_base::text::Text;
+use bay_base::types::TimerKind;
 use il_check::program::Typed;
 use il_check::typed::{External, Timer, Variable};
 use il_image::image::{Image, ImagePoint};
 use il_image::instr::Instr;
-use il_image::timer::TimerKind;
 use il_image::value::Value;
-use il_text::program as text;
 use std::alloc::{AllocError, Global};
 
 /// The most octets that an image may have.
@@ -62,23 +60,13 @@ fn values_of(alloc: Global, variables: &[Variable]) -> Result<Vec<Value>, AllocE
     Ok(values)
 }
 
-/// A kind of timer as the machine names it.
-fn timer_of(kind: text::TimerKind) -> TimerKind
-    ensures { result ≡ senses.timer_of kind }
-{
-    match kind {
-        text::TimerKind::OnDelay => TimerKind::OnDelay,
-        text::TimerKind::OffDelay => TimerKind::OffDelay,
-    }
-}
-
 /// The kinds of the timers, in their order.
 fn kinds_of(alloc: Global, timers: &[Timer]) -> Result<Vec<TimerKind>, AllocError>
-    ensures { IfOk result (λ kinds. kinds.items ≡ map (λ t. senses.timer_of t.kind) timers.now) }
+    ensures { IfOk result (λ kinds. kinds.items ≡ map (λ t. t.kind) timers.now) }
 {
     let mut kinds = Vec::new(alloc);
     for timer in timers {
-        kinds.push(timer_of(timer.kind))?;
+        kinds.push(timer.kind)?;
     }
     Ok(kinds)
 }
@@ -100,7 +88,8 @@ fn points_size(externals: &[External]) -> usize
 /// The octets of a program's code: a cell for the result, the instructions of the items, of which
 /// the last stands first, and HALT.
 fn spell_all(alloc: Global, behind: Vec<Instr>) -> Result<Vec<u8>, AllocError>
-    ensures { IfOk result (λ code. code.items ≡ all_spelled (spec.unset ∷ reverse behind.items ++ Instr.Halt ∷ [])) }
+    ensures { IfOk result (λ code. code.items
+        ≡ all_spelled (spec.unset ∷ reverse behind.items ++ Instr.Halt ∷ [])) }
 {
     let mut behind = behind;
     let mut code = Vec::new(alloc);
@@ -116,7 +105,8 @@ fn spell_all(alloc: Global, behind: Vec<Instr>) -> Result<Vec<u8>, AllocError>
 /// version, four counts, and what is counted.
 fn head_size(program: &Typed) -> usize
     requires { IsTyped (checked_view program.now) }
-    ensures value { result ≡ 13 + points_octets program.now.externals + 9 * length program.now.variables + length program.now.timers }
+    ensures value { result ≡ 13 + points_octets program.now.externals
+        + 9 * length program.now.variables + length program.now.timers }
     ensures bounded { result ≤ 40_000 }
 {
     13 + points_size(program.externals()) + 9 * program.variables().len() + program.timers().len()
@@ -124,7 +114,8 @@ fn head_size(program: &Typed) -> usize
 
 /// The image of a program; CodeTooLong where it would have more than 65,535 octets.
 fn compiled(alloc: Global, program: &Typed) -> Result<Image, CompileFault>
-    ensures image { Gives OutOfMemory (λ image. image) result (compiled_of (checked_view program.now)) }
+    ensures image { Gives OutOfMemory (λ image. image) result
+        (compiled_of (checked_view program.now)) }
     ensures typed { IsTyped (checked_view program.now) }
 {
     let behind = behind_all(alloc, program.externals().len(), program.items())?;
@@ -156,7 +147,8 @@ fn compiled(alloc: Global, program: &Typed) -> Result<Image, CompileFault>
 /// cases alone show that it comes only where memory was refused.
 pub fn compile(alloc: Global, program: &Typed) -> Result<Image, CompileFault>
     // The image of the program, or that it is too long, unless memory ran out.
-    ensures image { Gives OutOfMemory (λ image. image) result (compiled_of (checked_view program.now)) }
+    ensures image { Gives OutOfMemory (λ image. image) result
+        (compiled_of (checked_view program.now)) }
     // From all values of the program's types, at each moment, the machine runs the code without a
     // trap to HALT, in no more steps than the code has octets, and leaves in slots and timers what
     // the program means.

@@ -8,8 +8,10 @@ ghost use Rattle.il_compile.specs.Code as spec;
 ghost use Rattle.il_compile.specs.Senses as senses;
 
 use bay_base::types::ElementaryType;
-use il_check::typed::{Operation, Slot, TypedArgument, TypedArguments, TypedEntry, TypedOperand};
-use il_image::arithmetic::{Comparison, Operation as Arithmetic, Width};
+use il_check::typed::{
+    SimpleOperation, Slot, TypedArgument, TypedArguments, TypedEntry, TypedOperand,
+};
+use il_image::arithmetic::{Comparison, Operation, Width};
 use il_image::instr::Instr;
 use il_image::opcode::{Connective, SlotUse, TimerUse, When, Widening};
 use il_image::value::Value;
@@ -61,11 +63,11 @@ fn operator_instr(operator: Operator, kind: ElementaryType) -> Instr
         Operator::And => Instr::Combine(Connective::And),
         Operator::Or => Instr::Combine(Connective::Or),
         Operator::Xor => Instr::Combine(Connective::Xor),
-        Operator::Add => Instr::Compute(Arithmetic::Add, width_of(kind)),
-        Operator::Sub => Instr::Compute(Arithmetic::Sub, width_of(kind)),
-        Operator::Mul => Instr::Compute(Arithmetic::Mul, width_of(kind)),
-        Operator::Div => Instr::Compute(Arithmetic::Div, width_of(kind)),
-        Operator::Mod => Instr::Compute(Arithmetic::Mod, width_of(kind)),
+        Operator::Add => Instr::Compute(Operation::Add, width_of(kind)),
+        Operator::Sub => Instr::Compute(Operation::Sub, width_of(kind)),
+        Operator::Mul => Instr::Compute(Operation::Mul, width_of(kind)),
+        Operator::Div => Instr::Compute(Operation::Div, width_of(kind)),
+        Operator::Mod => Instr::Compute(Operation::Mod, width_of(kind)),
         Operator::Gt => Instr::Compare(Comparison::Gt),
         Operator::Ge => Instr::Compare(Comparison::Ge),
         Operator::Eq => Instr::Compare(Comparison::Eq),
@@ -157,19 +159,24 @@ fn put_store(code: &mut Vec<Instr>, kind: StoreKind, slot: u16) -> Result<(), Al
 fn put_operation(
     code: &mut Vec<Instr>,
     externals: usize,
-    operation: Operation,
+    operation: SimpleOperation,
 ) -> Result<(), AllocError>
     requires { Each IsInstr (spec.operation_code externals operation) }
-    ensures { OnOk result (code.new.items ≡ code.old.items ++ spec.operation_code externals operation) }
+    ensures { OnOk result (code.new.items
+        ≡ code.old.items ++ spec.operation_code externals operation) }
 {
     match operation {
-        Operation::Load { negated, operand } => {
+        SimpleOperation::Load { negated, operand } => {
             put(code, Instr::Drop)?;
             put(code, fetch(externals, operand))?;
             put_negation(code, negated)
         }
-        Operation::Store { kind, slot } => put_store(code, kind, slot_number(externals, slot)),
-        Operation::Combine {
+        SimpleOperation::Store { kind, slot } => put_store(
+            code,
+            kind,
+            slot_number(externals, slot),
+        ),
+        SimpleOperation::Combine {
             operator,
             kind,
             negated,
@@ -178,8 +185,8 @@ fn put_operation(
             put(code, fetch(externals, operand))?;
             put_operated(code, operator, kind, negated)
         }
-        Operation::Not => put(code, Instr::Not),
-        Operation::Convert(conversion) => put(code, Instr::Widen(widening_of(conversion))),
+        SimpleOperation::Not => put(code, Instr::Not),
+        SimpleOperation::Convert(conversion) => put(code, Instr::Widen(widening_of(conversion))),
     }
 }
 
@@ -190,7 +197,8 @@ pub(crate) fn put_entry(
     entry: &TypedEntry,
 ) -> Result<(), AllocError>
     requires { IsSpellableEntry externals (entry_view entry.now) }
-    ensures { OnOk result (code.new.items ≡ code.old.items ++ spec.entry_code externals (entry_view entry.now)) }
+    ensures { OnOk result (code.new.items
+        ≡ code.old.items ++ spec.entry_code externals (entry_view entry.now)) }
 {
     match entry {
         TypedEntry::Operation(operation) => put_operation(code, externals, *operation),
@@ -217,7 +225,8 @@ fn put_argument(
     argument: TypedArgument,
 ) -> Result<(), AllocError>
     requires { Each IsInstr (spec.argument_code externals timer argument) }
-    ensures { OnOk result (code.new.items ≡ code.old.items ++ spec.argument_code externals timer argument) }
+    ensures { OnOk result (code.new.items
+        ≡ code.old.items ++ spec.argument_code externals timer argument) }
 {
     put(code, fetch(externals, argument.operand))?;
     put(code, Instr::Timer(input_use(argument.input), timer))
@@ -231,7 +240,9 @@ pub(crate) fn put_call(
     arguments: TypedArguments,
 ) -> Result<(), AllocError>
     requires { Each IsInstr (spec.arguments_code externals timer arguments) }
-    ensures { OnOk result (code.new.items ≡ code.old.items ++ (spec.arguments_code externals timer arguments ++ Instr.Timer TimerUse.Run timer ∷ [])) }
+    ensures { OnOk result (code.new.items
+        ≡ code.old.items ++ (spec.arguments_code externals timer arguments
+        ++ Instr.Timer TimerUse.Run timer ∷ [])) }
 {
     match arguments {
         TypedArguments::None => {}

@@ -18,8 +18,11 @@ pub fn programs_have_a_meaning()
 /// A jump that is taken goes on with the items behind its label, with the same result and the same
 /// memory; one that is not taken goes on with the next item.
 pub fn jumps_go_on()
-    ensures taken { (now : ℕ) (condition : Condition) (l : ℕ) (is : List Item) (s : State) → goes condition s.result ≡ Some true →
-        mean_from now None (transfer (Transfer.Jump condition l) ∷ is) s ≡ mean_behind now (items_behind l is) s }
-    ensures not_taken { (now : ℕ) (condition : Condition) (l : ℕ) (is : List Item) (s : State) → goes condition s.result ≡ Some false →
+    ensures taken { (now : ℕ) (condition : Condition) (l : ℕ) (is : List Item) (s : State)
+        → goes condition s.result ≡ Some true →
+        mean_from now None (transfer (Transfer.Jump condition l) ∷ is) s
+        ≡ mean_behind now (items_behind l is) s }
+    ensures not_taken { (now : ℕ) (condition : Condition) (l : ℕ) (is : List Item) (s : State)
+        → goes condition s.result ≡ Some false →
         mean_from now None (transfer (Transfer.Jump condition l) ∷ is) s ≡ mean_from now None is s }
 {}

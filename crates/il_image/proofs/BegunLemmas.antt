@@ -9,10 +9,10 @@ use Rattle.il_image.specs.declared.instr.Instr.TheVariants.{Halt, Push, Drop, Sl
 use Rattle.il_image.specs.declared.opcode.SlotUse.TheVariants.{Load, Store, SetIf, ResetIf}
 use Rattle.il_image.specs.declared.opcode.When.TheVariants.{Always, IfTrue, IfFalse}
 use Rattle.il_image.specs.declared.opcode.TimerUse.TheVariants.{SetInput, SetPreset, Run, LoadOutput, LoadElapsed}
-use Rattle.il_image.specs.declared.timer.Timer.{Timer as TimerState}
+use Rattle.il_image.specs.declared.timer.TimerState.{TimerState}
 use Rattle.il_image.specs.declared.value.Value.{Value}
 use Rattle.il_image.specs.declared.value.Value.TheVariants.{Truth, Short, Long, Wide, Span}
-use Rattle.il_image.specs.Machine.{State, Turn, Goes, Halts, Traps, MissingSlot, MissingTimer, WrongKind, ZeroDivisor, Ending, Unfinished, act, as_number, as_span, as_truth, divides, ending_of, goes, is_comparable, pushes, run, stores, value_in, turn_of, with_slot, with_timer, with_top, with_truths, with_two}
+use Rattle.il_image.specs.Machine.{State, Turn, Goes, Halts, Traps, MissingSlot, MissingTimer, WrongKind, ZeroDivisor, Ending, Unfinished, act, as_number, as_span, as_truth, divides, ending_of, goes, is_comparable, pushes, run, stores, value_of_width, turn_of, with_slot, with_timer, with_top, with_truths, with_two}
 use Rattle.bay_base.specs.Types.{same_type}
 use Rattle.il_image.specs.Arithmetic.{compared, computed, widened}
 use Rattle.il_image.specs.Values.{number_of, type_of}
@@ -25,20 +25,25 @@ use Rattle.il_image.proofs.PlaceLemmas.{goes_forward}
 -- ---- a place is told by the test
 
 -- each instruction is at its number or behind it
-read_grows : (code : List ℕ) (n start place : ℕ) (r : Option (Instr × ℕ)) → instr_at code start ≡ r → n ≤ start → option_map (λ (q : Instr × ℕ). q.1) r ≡ Some place → suc n ≤ place
+read_grows : (code : List ℕ) (n start place : ℕ) (r : Option (Instr × ℕ)) → instr_at code start ≡ r
+    → n ≤ start → option_map (λ (q : Instr × ℕ). q.1) r ≡ Some place → suc n ≤ place
 read_grows code n start place None here le f = absurd cc
 read_grows code n start place (Some r) here le f =
     let forward = (goes_forward code start r.0 r.1 here).0 in
     let same : r.1 ≡ place = cc in
     omega arith
 
-behind_grows : (code : List ℕ) (n place : ℕ) (o : Option ℕ) → place_of code n ≡ o → ((start : ℕ) → place_of code n ≡ Some start → n ≤ start) → behind_place code o ≡ Some place → suc n ≤ place
+behind_grows : (code : List ℕ) (n place : ℕ) (o : Option ℕ) → place_of code n ≡ o
+    → ((start : ℕ) → place_of code n ≡ Some start → n ≤ start) → behind_place code o ≡ Some place
+    → suc n ≤ place
 behind_grows code n place None is before f = absurd cc
-behind_grows code n place (Some start) is before f = read_grows code n start place (instr_at code start) refl (before start is) f
+behind_grows code n place (Some start) is before f =
+    read_grows code n start place (instr_at code start) refl (before start is) f
 
 place_grows : (code : List ℕ) (n place : ℕ) → place_of code n ≡ Some place → n ≤ place
 place_grows code zero place e = omega arith
-place_grows code (suc n) place e = behind_grows code n place (place_of code n) refl (λ start is. place_grows code n start is) e
+place_grows code (suc n) place e =
+    behind_grows code n place (place_of code n) refl (λ start is. place_grows code n start is) e
 
 there_is : (o : Option ℕ) (place : ℕ) → is_there o place ≡ true → o ≡ Some place
 there_is None place e = absurd cc
@@ -47,19 +52,26 @@ there_is (Some start) place e = ap (λ (p : ℕ). Some p) (eqb-true start place 
 is_there_so : (o : Option ℕ) (place : ℕ) → o ≡ Some place → is_there o place ≡ true
 is_there_so o place e = ap (λ (x : Option ℕ). is_there x place) e ∙ eq-eqb place place refl
 
-among_either : (code : List ℕ) (n place : ℕ) (b : Bool) → is_there (place_of code n) place ≡ b → (is_among code n place ≡ true → (k : ℕ) × (place_of code k ≡ Some place)) → b || is_among code n place ≡ true
+among_either : (code : List ℕ) (n place : ℕ) (b : Bool) → is_there (place_of code n) place ≡ b
+    → (is_among code n place ≡ true → (k : ℕ) × (place_of code k ≡ Some place))
+    → b || is_among code n place ≡ true
     → (k : ℕ) × (place_of code k ≡ Some place)
 among_either code n place true h before f = (n, there_is (place_of code n) place h)
 among_either code n place false h before f = before f
 
-among_is : (code : List ℕ) (n place : ℕ) → is_among code n place ≡ true → (k : ℕ) × (place_of code k ≡ Some place)
+among_is : (code : List ℕ) (n place : ℕ) → is_among code n place ≡ true
+    → (k : ℕ) × (place_of code k ≡ Some place)
 among_is code zero place e = absurd cc
-among_is code (suc n) place e = among_either code n place (is_there (place_of code n) place) refl (λ f. among_is code n place f) e
+among_is code (suc n) place e =
+    among_either code n place (is_there (place_of code n) place) refl (λ f. among_is code n place f)
+    e
 
-is_among_so : (code : List ℕ) (n k place : ℕ) → k < n → place_of code k ≡ Some place → is_among code n place ≡ true
+is_among_so : (code : List ℕ) (n k place : ℕ) → k < n → place_of code k ≡ Some place
+    → is_among code n place ≡ true
 is_among_so code zero k place h e = absurd (omega arith)
 is_among_so code (suc n) k place h e = elim (cases_eq k n) [
-  | inl same ↦ ap (λ (b : Bool). b || is_among code n place) (is_there_so (place_of code n) place (subst (λ (j : ℕ). place_of code j ≡ Some place) same e))
+  | inl same ↦ ap (λ (b : Bool). b || is_among code n place)
+      (is_there_so (place_of code n) place (subst (λ (j : ℕ). place_of code j ≡ Some place) same e))
   | inr ne ↦ later (is_there (place_of code n) place) (is_among_so code n k place (omega arith) e)
 ]
   where
@@ -72,20 +84,24 @@ unfolding is_place
 told code place p =
     let grows = place_grows code p.1.0 place p.1.1 in
     let within = p.0 in
-    rw (lt-ltb place (length code) p.0) (is_among_so code (length code) p.1.0 place (omega arith) p.1.1)
+    rw (lt-ltb place (length code) p.0)
+    (is_among_so code (length code) p.1.0 place (omega arith) p.1.1)
 
 pub tells : (code : List ℕ) (place : ℕ) → is_place code place ≡ true → IsPlace code place
 unfolding is_place
 tells code place e = both (ltb place (length code)) refl e
   where
-    both : (b : Bool) → ltb place (length code) ≡ b → b && is_among code (length code) place ≡ true → IsPlace code place
+    both : (b : Bool) → ltb place (length code) ≡ b → b && is_among code (length code) place ≡ true
+        → IsPlace code place
     both true h f = (ltb-true place (length code) h, among_is code (length code) place f)
     both false h f = absurd cc
 
-pub a_place_is_told : (code : List ℕ) (place : ℕ) → IsTrue (is_place code place) ↔ IsPlace code place
+pub a_place_is_told : (code : List ℕ) (place : ℕ) → IsTrue (is_place code place)
+    ↔ IsPlace code place
 a_place_is_told code place = (tells code place, told code place)
 
-pub begun : (code : List ℕ) (place : ℕ) → IsPlace code place → begun_at code place ≡ instr_at code place
+pub begun : (code : List ℕ) (place : ℕ) → IsPlace code place
+    → begun_at code place ≡ instr_at code place
 begun code place p = rw (told code place p) refl
 
 -- ---- where an instruction lands
@@ -104,16 +120,19 @@ module _ (P : ℕ → Type 0) where
   lands_pushes : (v : Value) (to : ℕ) (s : State) → P to → Lands P (pushes v to s)
   lands_pushes v to s h = lands_if (ltb (length s.cells) 32) _ _ h tt
 
-  lands_top : (cells : List Value) (f : Value → List Value → Turn) → ((v : Value) (below : List Value) → Lands P (f v below)) → Lands P (with_top cells f)
+  lands_top : (cells : List Value) (f : Value → List Value → Turn)
+      → ((v : Value) (below : List Value) → Lands P (f v below)) → Lands P (with_top cells f)
   lands_top [] f h = tt
   lands_top (v ∷ below) f h = h v below
 
-  lands_two : (cells : List Value) (f : Value → Value → List Value → Turn) → ((a b : Value) (below : List Value) → Lands P (f a b below)) → Lands P (with_two cells f)
+  lands_two : (cells : List Value) (f : Value → Value → List Value → Turn)
+      → ((a b : Value) (below : List Value) → Lands P (f a b below)) → Lands P (with_two cells f)
   lands_two [] f h = tt
   lands_two (v ∷ []) f h = tt
   lands_two (b ∷ a ∷ below) f h = h a b below
 
-  lands_truth : (v : Value) (f : Bool → Turn) → ((b : Bool) → Lands P (f b)) → Lands P (as_truth v f)
+  lands_truth : (v : Value) (f : Bool → Turn) → ((b : Bool) → Lands P (f b))
+      → Lands P (as_truth v f)
   lands_truth (Truth b) f h = h b
   lands_truth (Short z) f h = tt
   lands_truth (Long z) f h = tt
@@ -127,7 +146,8 @@ module _ (P : ℕ → Type 0) where
   lands_span (Wide z) f h = tt
   lands_span (Span n) f h = h n
 
-  lands_number : (w : Width) (v : Value) (f : ℤ → Turn) → ((z : ℤ) → Lands P (f z)) → Lands P (as_number w v f)
+  lands_number : (w : Width) (v : Value) (f : ℤ → Turn) → ((z : ℤ) → Lands P (f z))
+      → Lands P (as_number w v f)
   lands_number width.Int (Truth b) f h = tt
   lands_number width.Int (Short z) f h = h z
   lands_number width.Int (Long z) f h = tt
@@ -144,42 +164,94 @@ module _ (P : ℕ → Type 0) where
   lands_number width.Lint (Wide z) f h = h z
   lands_number width.Lint (Span n) f h = tt
 
-  lands_slot : (n : ℕ) (s : State) (f : Value → Turn) → ((v : Value) → Lands P (f v)) → Lands P (with_slot n s f)
-  lands_slot n s f h = elim (slice_get s.slots n) as (λ o. Lands P (elim o [ None ↦ Traps MissingSlot | Some v ↦ f v ])) [ None ↦ tt | Some v ↦ h v ]
+  lands_slot : (n : ℕ) (s : State) (f : Value → Turn) → ((v : Value) → Lands P (f v))
+      → Lands P (with_slot n s f)
+  lands_slot n s f h =
+      elim (slice_get s.slots n) as
+      (λ o. Lands P (elim o [ None ↦ Traps MissingSlot | Some v ↦ f v ]))
+      [ None ↦ tt | Some v ↦ h v ]
 
-  lands_timer : (n : ℕ) (s : State) (f : TimerState → Turn) → ((t : TimerState) → Lands P (f t)) → Lands P (with_timer n s f)
-  lands_timer n s f h = elim (slice_get s.timers n) as (λ o. Lands P (elim o [ None ↦ Traps MissingTimer | Some t ↦ f t ])) [ None ↦ tt | Some t ↦ h t ]
+  lands_timer : (n : ℕ) (s : State) (f : TimerState → Turn) → ((t : TimerState) → Lands P (f t))
+      → Lands P (with_timer n s f)
+  lands_timer n s f h =
+      elim (slice_get s.timers n) as
+      (λ o. Lands P (elim o [ None ↦ Traps MissingTimer | Some t ↦ f t ]))
+      [ None ↦ tt | Some t ↦ h t ]
 
-  lands_truths : (n : ℕ) (s : State) (f : Bool → Bool → Turn) → ((a b : Bool) → Lands P (f a b)) → Lands P (with_truths n s f)
-  lands_truths n s f h = lands_slot n s _ (λ slot. lands_top s.cells _ (λ top below. lands_truth top _ (λ b. lands_truth slot _ (λ old. h b old))))
+  lands_truths : (n : ℕ) (s : State) (f : Bool → Bool → Turn) → ((a b : Bool) → Lands P (f a b))
+      → Lands P (with_truths n s f)
+  lands_truths n s f h =
+      lands_slot n s _ (λ slot. lands_top s.cells _
+      (λ top below. lands_truth top _ (λ b. lands_truth slot _ (λ old. h b old))))
 
 either_place : (P : ℕ → Type 0) (b : Bool) (x y : ℕ) → P x → P y → P (cond b x y)
 either_place P true x y h g = h
 either_place P false x y h g = g
 
 -- An instruction goes on where it leads.
-lands : (now : ℕ) (i : Instr) (next : ℕ) (s : State) → Lands (λ to. LeadsTo i next to) (act now i next s)
+lands : (now : ℕ) (i : Instr) (next : ℕ) (s : State)
+    → Lands (λ to. LeadsTo i next to) (act now i next s)
 unfolding act
 lands now Halt next s = tt
 lands now (Push v) next s = lands_pushes (λ to. to ≡ next) v next s refl
 lands now Drop next s = lands_top (λ to. to ≡ next) s.cells _ (λ top below. refl)
-lands now (Slot Load n) next s = lands_slot (λ to. to ≡ next) n s _ (λ v. lands_pushes (λ to. to ≡ next) v next s refl)
-lands now (Slot Store n) next s = lands_slot (λ to. to ≡ next) n s _ (λ v. lands_top (λ to. to ≡ next) s.cells _ (λ top below. lands_if (λ to. to ≡ next) (same_type (type_of top) (type_of v)) (stores n top next s) (Traps WrongKind) refl tt))
+lands now (Slot Load n) next s =
+    lands_slot (λ to. to ≡ next) n s _ (λ v. lands_pushes (λ to. to ≡ next) v next s refl)
+lands now (Slot Store n) next s =
+    lands_slot (λ to. to ≡ next) n s _
+    (λ v. lands_top (λ to. to ≡ next) s.cells _
+    (λ top below. lands_if (λ to. to ≡ next) (same_type (type_of top) (type_of v))
+    (stores n top next s) (Traps WrongKind) refl tt))
 lands now (Slot SetIf n) next s = lands_truths (λ to. to ≡ next) n s _ (λ a b. refl)
 lands now (Slot ResetIf n) next s = lands_truths (λ to. to ≡ next) n s _ (λ a b. refl)
-lands now Not next s = lands_top (λ to. to ≡ next) s.cells _ (λ top below. lands_truth (λ to. to ≡ next) top _ (λ b. refl))
-lands now (Combine c) next s = lands_two (λ to. to ≡ next) s.cells _ (λ first second below. lands_truth (λ to. to ≡ next) second _ (λ b. lands_truth (λ to. to ≡ next) first _ (λ a. refl)))
-lands now (Compute o w) next s = lands_two (λ to. to ≡ next) s.cells _ (λ first second below. lands_number (λ to. to ≡ next) w second _ (λ b. lands_number (λ to. to ≡ next) w first _ (λ a. lands_if (λ to. to ≡ next) (divides o && int_eq b (pos 0)) (Traps ZeroDivisor) (goes next (value_in w (computed o w a b) ∷ below) s) tt refl)))
-lands now (Compare c) next s = lands_two (λ to. to ≡ next) s.cells _ (λ a b below. lands_if (λ to. to ≡ next) (is_comparable c a b) (goes next (Truth (compared c (number_of a) (number_of b)) ∷ below) s) (Traps WrongKind) refl tt)
-lands now (Widen w) next s = lands_top (λ to. to ≡ next) s.cells _ (λ top below. elim (widened w top) as (λ o. Lands (λ to. to ≡ next) (elim o [ None ↦ Traps WrongKind | Some v ↦ goes next (v ∷ below) s ])) [ None ↦ tt | Some v ↦ refl ])
+lands now Not next s =
+    lands_top (λ to. to ≡ next) s.cells _
+    (λ top below. lands_truth (λ to. to ≡ next) top _ (λ b. refl))
+lands now (Combine c) next s =
+    lands_two (λ to. to ≡ next) s.cells _
+    (λ first second below. lands_truth (λ to. to ≡ next) second _
+    (λ b. lands_truth (λ to. to ≡ next) first _ (λ a. refl)))
+lands now (Compute o w) next s =
+    lands_two (λ to. to ≡ next) s.cells _
+    (λ first second below. lands_number (λ to. to ≡ next) w second _
+    (λ b. lands_number (λ to. to ≡ next) w first _
+    (λ a. lands_if (λ to. to ≡ next) (divides o && int_eq b (pos 0)) (Traps ZeroDivisor)
+    (goes next (value_of_width w (computed o w a b) ∷ below) s) tt refl)))
+lands now (Compare c) next s =
+    lands_two (λ to. to ≡ next) s.cells _
+    (λ a b below. lands_if (λ to. to ≡ next) (is_comparable c a b)
+    (goes next (Truth (compared c (number_of a) (number_of b)) ∷ below) s) (Traps WrongKind) refl
+    tt)
+lands now (Widen w) next s =
+    lands_top (λ to. to ≡ next) s.cells _
+    (λ top below. elim (widened w top) as
+    (λ o. Lands (λ to. to ≡ next)
+    (elim o [ None ↦ Traps WrongKind | Some v ↦ goes next (v ∷ below) s ]))
+    [ None ↦ tt | Some v ↦ refl ])
 lands now (Jump Always distance) next s = refl
-lands now (Jump IfTrue distance) next s = lands_top (λ to. (to ≡ next) ⊎ (to ≡ next + distance)) s.cells _ (λ top below. lands_truth (λ to. (to ≡ next) ⊎ (to ≡ next + distance)) top _ (λ b. either_place (λ to. (to ≡ next) ⊎ (to ≡ next + distance)) b (next + distance) next (inr refl) (inl refl)))
-lands now (Jump IfFalse distance) next s = lands_top (λ to. (to ≡ next) ⊎ (to ≡ next + distance)) s.cells _ (λ top below. lands_truth (λ to. (to ≡ next) ⊎ (to ≡ next + distance)) top _ (λ b. either_place (λ to. (to ≡ next) ⊎ (to ≡ next + distance)) b next (next + distance) (inl refl) (inr refl)))
-lands now (Timer SetInput n) next s = lands_timer (λ to. to ≡ next) n s _ (λ t. lands_top (λ to. to ≡ next) s.cells _ (λ top below. lands_truth (λ to. to ≡ next) top _ (λ b. refl)))
-lands now (Timer SetPreset n) next s = lands_timer (λ to. to ≡ next) n s _ (λ t. lands_top (λ to. to ≡ next) s.cells _ (λ top below. lands_span (λ to. to ≡ next) top _ (λ b. refl)))
+lands now (Jump IfTrue distance) next s =
+    lands_top (λ to. (to ≡ next) ⊎ (to ≡ next + distance)) s.cells _
+    (λ top below. lands_truth (λ to. (to ≡ next) ⊎ (to ≡ next + distance)) top _
+    (λ b. either_place (λ to. (to ≡ next) ⊎ (to ≡ next + distance)) b (next + distance) next
+    (inr refl) (inl refl)))
+lands now (Jump IfFalse distance) next s =
+    lands_top (λ to. (to ≡ next) ⊎ (to ≡ next + distance)) s.cells _
+    (λ top below. lands_truth (λ to. (to ≡ next) ⊎ (to ≡ next + distance)) top _
+    (λ b. either_place (λ to. (to ≡ next) ⊎ (to ≡ next + distance)) b next (next + distance)
+    (inl refl) (inr refl)))
+lands now (Timer SetInput n) next s =
+    lands_timer (λ to. to ≡ next) n s _
+    (λ t. lands_top (λ to. to ≡ next) s.cells _
+    (λ top below. lands_truth (λ to. to ≡ next) top _ (λ b. refl)))
+lands now (Timer SetPreset n) next s =
+    lands_timer (λ to. to ≡ next) n s _
+    (λ t. lands_top (λ to. to ≡ next) s.cells _
+    (λ top below. lands_span (λ to. to ≡ next) top _ (λ b. refl)))
 lands now (Timer Run n) next s = lands_timer (λ to. to ≡ next) n s _ (λ t. refl)
-lands now (Timer LoadOutput n) next s = lands_timer (λ to. to ≡ next) n s _ (λ t. lands_pushes (λ to. to ≡ next) _ next s refl)
-lands now (Timer LoadElapsed n) next s = lands_timer (λ to. to ≡ next) n s _ (λ t. lands_pushes (λ to. to ≡ next) _ next s refl)
+lands now (Timer LoadOutput n) next s =
+    lands_timer (λ to. to ≡ next) n s _ (λ t. lands_pushes (λ to. to ≡ next) _ next s refl)
+lands now (Timer LoadElapsed n) next s =
+    lands_timer (λ to. to ≡ next) n s _ (λ t. lands_pushes (λ to. to ≡ next) _ next s refl)
 
 -- ---- code whose instructions lead to instructions
 
@@ -193,30 +265,43 @@ loose_turn code now s = turn_of now (instr_at code s.place) s
 
 unfoldable pub loose_run : List ℕ → ℕ → ℕ → State → ℕ → Ending
 loose_run code now zero s steps = Unfinished
-loose_run code now (suc most) s steps = ending_of (loose_turn code now s) s (steps + 1) (λ after. loose_run code now most after (steps + 1))
+loose_run code now (suc most) s steps =
+    ending_of (loose_turn code now s) s (steps + 1)
+    (λ after. loose_run code now most after (steps + 1))
 
 module _ (code : List ℕ) (now : ℕ) (closed : IsClosed code) where
-  same_ending : (most steps : ℕ) (s : State) (t : Turn) → Lands (λ to. IsPlace code to) t → ((after : State) → IsPlace code after.place → loose_run code now most after (steps + 1) ≡ run code now most after (steps + 1))
-      → ending_of t s (steps + 1) (λ after. loose_run code now most after (steps + 1)) ≡ ending_of t s (steps + 1) (λ after. run code now most after (steps + 1))
+  same_ending : (most steps : ℕ) (s : State) (t : Turn) → Lands (λ to. IsPlace code to) t
+      → ((after : State) → IsPlace code after.place
+      → loose_run code now most after (steps + 1) ≡ run code now most after (steps + 1))
+      → ending_of t s (steps + 1) (λ after. loose_run code now most after (steps + 1))
+      ≡ ending_of t s (steps + 1) (λ after. run code now most after (steps + 1))
   same_ending most steps s (Goes after) h more = more after h
   same_ending most steps s Halts h more = refl
   same_ending most steps s (Traps trap) h more = refl
 
-  lands_more : (i : Instr) (next place : ℕ) (t : Turn) → IsPlace code place → instr_at code place ≡ Some (i, next) → Lands (λ to. LeadsTo i next to) t → Lands (λ to. IsPlace code to) t
-  lands_more i next place (Goes after) p here h = closed.leads place after.place p (record { instr = i; next = next; here = here; leads = h })
+  lands_more : (i : Instr) (next place : ℕ) (t : Turn) → IsPlace code place
+      → instr_at code place ≡ Some (i, next) → Lands (λ to. LeadsTo i next to) t
+      → Lands (λ to. IsPlace code to) t
+  lands_more i next place (Goes after) p here h =
+      closed.leads place after.place p (record { instr = i; next = next; here = here; leads = h })
   lands_more i next place Halts p here h = tt
   lands_more i next place (Traps trap) p here h = tt
 
-  lands_at : (s : State) (o : Option (Instr × ℕ)) → instr_at code s.place ≡ o → IsPlace code s.place → Lands (λ to. IsPlace code to) (turn_of now o s)
+  lands_at : (s : State) (o : Option (Instr × ℕ)) → instr_at code s.place ≡ o → IsPlace code s.place
+      → Lands (λ to. IsPlace code to) (turn_of now o s)
   lands_at s None here p = tt
-  lands_at s (Some r) here p = lands_more r.0 r.1 s.place (act now r.0 r.1 s) p here (lands now r.0 r.1 s)
+  lands_at s (Some r) here p =
+      lands_more r.0 r.1 s.place (act now r.0 r.1 s) p here (lands now r.0 r.1 s)
 
-  pub loose_is_run : (most : ℕ) (s : State) (steps : ℕ) → IsPlace code s.place → loose_run code now most s steps ≡ run code now most s steps
+  pub loose_is_run : (most : ℕ) (s : State) (steps : ℕ) → IsPlace code s.place
+      → loose_run code now most s steps ≡ run code now most s steps
   unfolding loose_run run
   loose_is_run zero s steps p = refl
   loose_is_run (suc most) s steps p =
-      same_ending most steps s (loose_turn code now s) (lands_at s (instr_at code s.place) refl p) (λ after q. loose_is_run most after (steps + 1) q)
-      ∙ ap (λ (o : Option (Instr × ℕ)). ending_of (turn_of now o s) s (steps + 1) (λ after. run code now most after (steps + 1))) (sym (begun code s.place p))
+      same_ending most steps s (loose_turn code now s) (lands_at s (instr_at code s.place) refl p)
+      (λ after q. loose_is_run most after (steps + 1) q)
+      ∙ ap (λ (o : Option (Instr × ℕ)). ending_of (turn_of now o s) s (steps + 1)
+      (λ after. run code now most after (steps + 1))) (sym (begun code s.place p))
 
 -- ---- an agreeing table's code
 
@@ -228,8 +313,10 @@ some_is : {A : Type 0} (o : Option A) → IsSome o → (x : A) × (o ≡ Some x)
 some_is None e = absurd cc
 some_is (Some y) e = (y, refl)
 
-pair_same : {A B : Type 0} (a b : A) (x y : B) → ◌≡◌ {A = Option (A × B)} (Some (a, x)) (Some (b, y)) → (a ≡ b) × (x ≡ y)
-pair_same {A} {B} a b x y e = let p : ◌≡◌ {A = A × B} (a, x) (b, y) = cc in (ap (λ (q : A × B). q.0) p, ap (λ (q : A × B). q.1) p)
+pair_same : {A B : Type 0} (a b : A) (x y : B)
+    → ◌≡◌ {A = Option (A × B)} (Some (a, x)) (Some (b, y)) → (a ≡ b) × (x ≡ y)
+pair_same {A} {B} a b x y e = let p : ◌≡◌ {A = A × B} (a, x) (b, y) =
+    cc in (ap (λ (q : A × B). q.0) p, ap (λ (q : A × B). q.1) p)
 
 pub closed_by : (image : Image) (table : Table) → Agrees image table → IsClosed image.code
 closed_by image table agrees = record {
@@ -237,7 +324,9 @@ closed_by image table agrees = record {
       (let known = some_is (table place) ((agrees.places place).1 p) in
       let a = agrees.allowed place known.0 known.1 in
       let same = pair_same s.instr a.instr s.next a.next (sym s.here ∙ a.here) in
-      let enter = a.enters to (subst (λ (n : ℕ). LeadsTo a.instr n to) same.1 (subst (λ (i : Instr). LeadsTo i s.next to) same.0 s.leads)) in
+      let enter =
+      a.enters to (subst (λ (n : ℕ). LeadsTo a.instr n to) same.1
+      (subst (λ (i : Instr). LeadsTo i s.next to) same.0 s.leads)) in
       (agrees.places to).0 (is_some_so (table to) enter.0 enter.1));
 }
 

@@ -7,20 +7,26 @@ use Rattle.il_image.specs.declared.fault.ImageFault.TheVariants.{BadMagic, BadVe
 use Rattle.il_image.specs.Decoding.{behind, decoded}
 use Rattle.il_image.specs.Images.{mark}
 
-either : (b : Bool) (r : Result (List ℕ) ImageFault) → r ≡ Err BadMagic → cond b r (Err BadMagic) ≡ Err BadMagic
+either : (b : Bool) (r : Result (List ℕ) ImageFault) → r ≡ Err BadMagic
+    → cond b r (Err BadMagic) ≡ Err BadMagic
 either true r e = e
 either false r e = refl
 
-other_mark : (marks octets : List ℕ) (k : ℕ) → k < length marks → k < length octets → (slice_index octets k ≡ slice_index marks k → ⊥) → behind marks octets ≡ Err BadMagic
+other_mark : (marks octets : List ℕ) (k : ℕ) → k < length marks → k < length octets
+    → (slice_index octets k ≡ slice_index marks k → ⊥) → behind marks octets ≡ Err BadMagic
 other_mark [] octets k h g other = absurd (omega arith)
 other_mark (m ∷ marks) [] k h g other = absurd (omega arith)
 other_mark (m ∷ marks) (x ∷ octets) zero h g other = rw (ne_eqb x m other) refl
-other_mark (m ∷ marks) (x ∷ octets) (suc k) h g other = either (eqb x m) (behind marks octets) (other_mark marks octets k (omega arith) (omega arith) other)
+other_mark (m ∷ marks) (x ∷ octets) (suc k) h g other =
+    either (eqb x m) (behind marks octets)
+    (other_mark marks octets k (omega arith) (omega arith) other)
 
-pub no_mark : (octets : List ℕ) (k : ℕ) → k < 4 → k < length octets → (slice_index octets k ≡ slice_index mark k → ⊥) → decoded octets ≡ Err BadMagic
+pub no_mark : (octets : List ℕ) (k : ℕ) → k < 4 → k < length octets
+    → (slice_index octets k ≡ slice_index mark k → ⊥) → decoded octets ≡ Err BadMagic
 unfolding decoded
 no_mark octets k h g other = rw (other_mark mark octets k h g other) refl
 
-pub no_version : (octet : ℕ) (rest : List ℕ) → (octet ≡ 1 → ⊥) → (octet ≡ 2 → ⊥) → decoded (mark ++ octet ∷ rest) ≡ Err BadVersion
+pub no_version : (octet : ℕ) (rest : List ℕ) → (octet ≡ 1 → ⊥) → (octet ≡ 2 → ⊥)
+    → decoded (mark ++ octet ∷ rest) ≡ Err BadVersion
 unfolding decoded
 no_version octet rest one two = rw (ne_eqb octet 1 one, ne_eqb octet 2 two) refl

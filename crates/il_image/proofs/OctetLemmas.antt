@@ -42,21 +42,29 @@ low_4 (negsuc n) fits = let h : n < 2 ^ 31 = fits.sfits in omega arith
 joined_2 : (u : ℕ) → u / 256 % 256 * 256 + u % 256 ≡ u % 2 ^ 16
 joined_2 u = omega arith
 
-joined_4 : (u : ℕ) → u / 16777216 % 256 * 16777216 + u / 65536 % 256 * 65536 + u / 256 % 256 * 256 + u % 256 ≡ u % 2 ^ 32
+joined_4 : (u : ℕ) → u / 16777216 % 256 * 16777216 + u / 65536 % 256 * 65536 + u / 256 % 256 * 256
+    + u % 256 ≡ u % 2 ^ 32
 joined_4 u = omega arith
 
 below_64 : (z : ℤ) → FitsSigned w64 z → cast_unsigned w64 z < 2 ^ 64
 below_64 (pos n) fits = let h : n < 2 ^ 63 = fits.sfits in omega arith
 below_64 (negsuc n) fits = omega arith
 
-pub written_number : (n : ℕ) (rest : List ℕ) → n < 2 ^ 16 → from_be_bytes w16 (number_octets n ++ rest) ≡ n
+pub written_number : (n : ℕ) (rest : List ℕ) → n < 2 ^ 16
+    → from_be_bytes w16 (number_octets n ++ rest) ≡ n
 written_number n rest small = from_be_bytes-to_be_bytes_2 n small
 
-pub written_signed : (size : Size) (z : ℤ) (rest : List ℕ) → FitsSigned (bits_of_size size) z → cast_signed (bits_of_size size) (from_be_bytes (bits_of_size size) (signed_octets size z ++ rest)) ≡ z
+pub written_signed : (size : Size) (z : ℤ) (rest : List ℕ) → FitsSigned (bits_of_size size) z
+    → cast_signed (bits_of_size size)
+    (from_be_bytes (bits_of_size size) (signed_octets size z ++ rest)) ≡ z
 written_signed One z rest fits = ap (cast_signed w8) (low_1 z fits) ∙ to_z-of_z w8 z fits
-written_signed Two z rest fits = ap (cast_signed w16) (joined_2 (cast_unsigned w64 z) ∙ low_2 z fits) ∙ to_z-of_z w16 z fits
-written_signed Four z rest fits = ap (cast_signed w32) (joined_4 (cast_unsigned w64 z) ∙ low_4 z fits) ∙ to_z-of_z w32 z fits
-written_signed Eight z rest fits = ap (cast_signed w64) (from_be_bytes-to_be_bytes_8 (cast_unsigned w64 z) (below_64 z fits)) ∙ to_z-of_z w64 z fits
+written_signed Two z rest fits =
+    ap (cast_signed w16) (joined_2 (cast_unsigned w64 z) ∙ low_2 z fits) ∙ to_z-of_z w16 z fits
+written_signed Four z rest fits =
+    ap (cast_signed w32) (joined_4 (cast_unsigned w64 z) ∙ low_4 z fits) ∙ to_z-of_z w32 z fits
+written_signed Eight z rest fits =
+    ap (cast_signed w64) (from_be_bytes-to_be_bytes_8 (cast_unsigned w64 z) (below_64 z fits))
+    ∙ to_z-of_z w64 z fits
 
 -- ---- read and written
 
@@ -83,30 +91,39 @@ from_below_2 : (bs : List ℕ) → AreOctets bs → from_be_bytes w16 bs < 2 ^ 1
 from_below_2 bs fits = let a = fits 0 in let b = fits 1 in omega arith
 
 from_below_4 : (bs : List ℕ) → AreOctets bs → from_be_bytes w32 bs < 2 ^ 32
-from_below_4 bs fits = let a = fits 0 in let b = fits 1 in let d = fits 2 in let e = fits 3 in omega arith
+from_below_4 bs fits = let a = fits 0 in let b = fits 1 in let d = fits 2 in let e =
+    fits 3 in omega arith
 
 from_below_8 : (bs : List ℕ) → AreOctets bs → from_be_bytes w64 bs < 2 ^ 64
-from_below_8 bs fits = let a = fits 0 in let b = fits 1 in let d = fits 2 in let e = fits 3 in let f = fits 4 in let g = fits 5 in let h = fits 6 in let i = fits 7 in omega arith
+from_below_8 bs fits = let a = fits 0 in let b = fits 1 in let d = fits 2 in let e =
+    fits 3 in let f = fits 4 in let g = fits 5 in let h = fits 6 in let i = fits 7 in omega arith
 
 only_octet : (bs : List ℕ) → length bs ≡ 1 → get_or bs 0 0 ∷ [] ≡ bs
 only_octet [] size = absurd (omega arith)
 only_octet (a ∷ []) size = refl
 only_octet (a ∷ b ∷ bs) size = absurd (omega arith)
 
-pub read_number : (bs : List ℕ) → length bs ≡ 2 → AreOctets bs → number_octets (from_be_bytes w16 bs) ≡ bs
+pub read_number : (bs : List ℕ) → length bs ≡ 2 → AreOctets bs
+    → number_octets (from_be_bytes w16 bs) ≡ bs
 read_number bs size fits = be_bytes_2 bs (from_be_bytes w16 bs) size fits refl
 
-pub read_signed : (size : Size) (bs : List ℕ) → length bs ≡ octet_count size → AreOctets bs → signed_octets size (cast_signed (bits_of_size size) (from_be_bytes (bits_of_size size) bs)) ≡ bs
-read_signed One bs size fits = ap (λ (x : ℕ). x ∷ []) (high_1 (get_or bs 0 0) (fits 0)) ∙ only_octet bs size
+pub read_signed : (size : Size) (bs : List ℕ) → length bs ≡ octet_count size → AreOctets bs
+    → signed_octets size (cast_signed (bits_of_size size) (from_be_bytes (bits_of_size size) bs))
+    ≡ bs
+read_signed One bs size fits =
+    ap (λ (x : ℕ). x ∷ []) (high_1 (get_or bs 0 0) (fits 0)) ∙ only_octet bs size
 read_signed Two bs size fits =
     let m = from_be_bytes w16 bs in
-    lowest_2 (cast_unsigned w64 (cast_signed w16 m)) ∙ ap (bytes_high_first 2) (high_2 m (from_below_2 bs fits)) ∙ be_bytes_2 bs m size fits refl
+    lowest_2 (cast_unsigned w64 (cast_signed w16 m))
+    ∙ ap (bytes_high_first 2) (high_2 m (from_below_2 bs fits)) ∙ be_bytes_2 bs m size fits refl
 read_signed Four bs size fits =
     let m = from_be_bytes w32 bs in
-    lowest_4 (cast_unsigned w64 (cast_signed w32 m)) ∙ ap (bytes_high_first 4) (high_4 m (from_below_4 bs fits)) ∙ be_bytes_4 bs m size fits refl
+    lowest_4 (cast_unsigned w64 (cast_signed w32 m))
+    ∙ ap (bytes_high_first 4) (high_4 m (from_below_4 bs fits)) ∙ be_bytes_4 bs m size fits refl
 read_signed Eight bs size fits =
     let m = from_be_bytes w64 bs in
-    ap (bytes_high_first 8) (of_z-to_z w64 m (from_below_8 bs fits)) ∙ be_bytes_8 bs m size fits refl
+    ap (bytes_high_first 8) (of_z-to_z w64 m (from_below_8 bs fits))
+    ∙ be_bytes_8 bs m size fits refl
 
 pub number_below : (bs : List ℕ) → AreOctets bs → from_be_bytes w16 bs < 2 ^ 16
 number_below = from_below_2

@@ -22,7 +22,8 @@ pub record Placed (code : List ℕ) (place : ℕ) (i : Instr) (next : ℕ) : Typ
 some_same : {A : Type 0} (x y : A) → Some x ≡ Some y → x ≡ y
 some_same x y e = cc
 
-placed_is : (size : ℕ) (r : Read Instr) (i : Instr) (next : ℕ) → placed size r ≡ Some (i, next) → (rest : List ℕ) × (r ≡ Ok (i, rest)) × (next ≡ size - length rest)
+placed_is : (size : ℕ) (r : Read Instr) (i : Instr) (next : ℕ) → placed size r ≡ Some (i, next)
+    → (rest : List ℕ) × (r ≡ Ok (i, rest)) × (next ≡ size - length rest)
 placed_is size (Err e) i next h = absurd cc
 placed_is size (Ok r) i next h =
     let pair = some_same (r.0, size - length r.1) (i, next) h in
@@ -30,9 +31,12 @@ placed_is size (Ok r) i next h =
     let second : size - length r.1 ≡ next = ap (λ q. q.1) pair in
     (r.1, ap (λ (j : Instr). Ok (j, r.1)) first, sym second)
 
-pub read_at : (code : List ℕ) (place : ℕ) (i : Instr) (next : ℕ) → instr_at code place ≡ Some (i, next) → Placed code place i next
+pub read_at : (code : List ℕ) (place : ℕ) (i : Instr) (next : ℕ)
+    → instr_at code place ≡ Some (i, next) → Placed code place i next
 unfolding instr_at
-read_at code place i next e = let h = placed_is (length code) (instr_from Two (drop place code)) i next e in record { rest = h.0; read = h.1; is = h.2 }
+read_at code place i next e = let h =
+    placed_is (length code) (instr_from Two (drop place code)) i next e in
+    record { rest = h.0; read = h.1; is = h.2 }
 
 -- what is read behind a front leads forward, to a place of the code or its end
 pub record Forward (code : List ℕ) (place : ℕ) (i : Instr) (rest : List ℕ) : Type 0 where
@@ -40,26 +44,36 @@ pub record Forward (code : List ℕ) (place : ℕ) (i : Instr) (rest : List ℕ)
   pub within : place + length (spelling i) ≤ length code
   pub small : length rest ≤ length code
 
-pub forward : (code : List ℕ) (place : ℕ) (i : Instr) (rest : List ℕ) → instr_from Two (drop place code) ≡ Ok (i, rest) → Forward code place i rest
+pub forward : (code : List ℕ) (place : ℕ) (i : Instr) (rest : List ℕ)
+    → instr_from Two (drop place code) ≡ Ok (i, rest) → Forward code place i rest
 forward code place i rest e =
     let took = took_instr Two (drop place code) i rest e in
-    let all : length (drop place code) ≡ length took.front.front + length rest = ap length took.front.parts ∙ length-append took.front.front rest in
+    let all : length (drop place code) ≡ length took.front.front + length rest =
+    ap length took.front.parts ∙ length-append took.front.front rest in
     let cut : length (drop place code) ≡ length code - place = length-drop place code in
     let size = took.front.len in
     record { next = omega arith; within = omega arith; small = omega arith }
 
-behind : (place n next : ℕ) (code front rest : List ℕ) → drop place code ≡ front ++ rest → length front ≡ n → next ≡ place + n → drop next code ≡ rest
-behind place n next code front rest e size is = ap (λ (m : ℕ). drop m code) (is ∙ ap (λ (k : ℕ). place + k) (sym size)) ∙ sym (drop-drop (length front) place code) ∙ ap (drop (length front)) e ∙ drop-append_seam front rest
+behind : (place n next : ℕ) (code front rest : List ℕ) → drop place code ≡ front ++ rest
+    → length front ≡ n → next ≡ place + n → drop next code ≡ rest
+behind place n next code front rest e size is =
+    ap (λ (m : ℕ). drop m code) (is ∙ ap (λ (k : ℕ). place + k) (sym size))
+    ∙ sym (drop-drop (length front) place code) ∙ ap (drop (length front)) e
+    ∙ drop-append_seam front rest
 
-pub stands : (code : List ℕ) (place : ℕ) (i : Instr) (next : ℕ) → AreOctets code → instr_at code place ≡ Some (i, next) → StandsAt code place i next
+pub stands : (code : List ℕ) (place : ℕ) (i : Instr) (next : ℕ) → AreOctets code
+    → instr_at code place ≡ Some (i, next) → StandsAt code place i next
 stands code place i next fits e =
     let p = read_at code place i next e in
     let f = forward code place i p.rest p.read in
     let took = took_instr Two (drop place code) i p.rest p.read in
     let octets = drop_octets place code fits in
-    let is : drop place code ≡ spelling i ++ p.rest = took.front.parts ∙ ap (λ (xs : List ℕ). xs ++ p.rest) (took.front.is octets) in
+    let is : drop place code ≡ spelling i ++ p.rest =
+    took.front.parts ∙ ap (λ (xs : List ℕ). xs ++ p.rest) (took.front.is octets) in
     let size : next ≡ place + length (spelling i) = p.is ∙ f.next in
-    let rest : drop next code ≡ p.rest = behind place (length (spelling i)) next code took.front.front p.rest took.front.parts took.front.len size in
+    let rest : drop next code ≡ p.rest =
+    behind place (length (spelling i)) next code took.front.front p.rest took.front.parts
+    took.front.len size in
     record {
       is_instr = took.good octets;
       spelled = is ∙ ap (λ (xs : List ℕ). spelling i ++ xs) (sym rest);
@@ -67,12 +81,14 @@ stands code place i next fits e =
       within = subst (λ (n : ℕ). n ≤ length code) (sym size) f.within;
     }
 
-pub stood : (code : List ℕ) (place : ℕ) (i : Instr) (next : ℕ) → StandsAt code place i next → instr_at code place ≡ Some (i, next)
+pub stood : (code : List ℕ) (place : ℕ) (i : Instr) (next : ℕ) → StandsAt code place i next
+    → instr_at code place ≡ Some (i, next)
 unfolding instr_at
 stood code place i next s =
     let back = back_instr i (drop next code) s.is_instr in
     let within = s.within in
-    let left : length code - length (drop next code) ≡ next = omega (arith, length-drop next code) in
+    let left : length code - length (drop next code) ≡ next =
+    omega (arith, length-drop next code) in
     rw (s.spelled, back, left) refl
 
 -- past the end there is none
@@ -80,10 +96,12 @@ pub none_past_end : (code : List ℕ) (place : ℕ) → length code ≤ place �
 unfolding instr_at instr_from
 none_past_end code place past = rw (drop_of_length-le code past) refl
 
-pub shorter : (octets : List ℕ) (i : Instr) (rest : List ℕ) → instr_from Two octets ≡ Ok (i, rest) → length rest ≤ length octets
+pub shorter : (octets : List ℕ) (i : Instr) (rest : List ℕ) → instr_from Two octets ≡ Ok (i, rest)
+    → length rest ≤ length octets
 shorter octets i rest e = (forward octets 0 i rest e).small
 
-pub goes_forward : (code : List ℕ) (place : ℕ) (i : Instr) (next : ℕ) → instr_at code place ≡ Some (i, next) → (place < next) × (next ≤ length code)
+pub goes_forward : (code : List ℕ) (place : ℕ) (i : Instr) (next : ℕ)
+    → instr_at code place ≡ Some (i, next) → (place < next) × (next ≤ length code)
 goes_forward code place i next e =
     let p = read_at code place i next e in
     let f = forward code place i p.rest p.read in
@@ -93,25 +111,36 @@ goes_forward code place i next e =
 
 -- the octets from a place on
 whole : (code : List ℕ) (place : ℕ) → take (length code - place) (drop place code) ≡ drop place code
-whole code place = ap (λ (n : ℕ). take n (drop place code)) (sym (length-drop place code)) ∙ take-length (drop place code)
+whole code place =
+    ap (λ (n : ℕ). take n (drop place code)) (sym (length-drop place code))
+    ∙ take-length (drop place code)
 
-pub from_place : (code : List ℕ) (place : ℕ) (found : Option (Instr × ℕ)) → found ≡ placed (length code) (instr_from Two (take (length code - place) (drop place code))) → found ≡ instr_at code place
+pub from_place : (code : List ℕ) (place : ℕ) (found : Option (Instr × ℕ))
+    → found ≡ placed (length code) (instr_from Two (take (length code - place) (drop place code)))
+    → found ≡ instr_at code place
 unfolding instr_at
-from_place code place found e = e ∙ ap (λ (xs : List ℕ). placed (length code) (instr_from Two xs)) (whole code place)
+from_place code place found e =
+    e ∙ ap (λ (xs : List ℕ). placed (length code) (instr_from Two xs)) (whole code place)
 
-pub found_forward : (code : List ℕ) (place : ℕ) (found : Option (Instr × ℕ)) → found ≡ instr_at code place → IfSome found (λ r. (place < r.1) × (r.1 ≤ length code))
+pub found_forward : (code : List ℕ) (place : ℕ) (found : Option (Instr × ℕ))
+    → found ≡ instr_at code place → IfSome found (λ r. (place < r.1) × (r.1 ≤ length code))
 found_forward code place None e = tt
 found_forward code place (Some r) e = goes_forward code place r.0 r.1 (sym e)
 
-pub stands_or_none : (code : List ℕ) (place : ℕ) (i : Instr) (next : ℕ) → AreOctets code → (instr_at code place ≡ Some (i, next)) ↔ StandsAt code place i next
+pub stands_or_none : (code : List ℕ) (place : ℕ) (i : Instr) (next : ℕ) → AreOctets code
+    → (instr_at code place ≡ Some (i, next)) ↔ StandsAt code place i next
 stands_or_none code place i next fits = (stands code place i next fits, stood code place i next)
 
 -- what was read of octets is spelled by their front
-pub spelled_so : (version : Version) (octets : List ℕ) (i : Instr) (rest : List ℕ) → AreOctets octets → instr_from version octets ≡ Ok (i, rest) → IsInstr i × (octets ≡ spelling i ++ rest)
+pub spelled_so : (version : Version) (octets : List ℕ) (i : Instr) (rest : List ℕ)
+    → AreOctets octets → instr_from version octets ≡ Ok (i, rest)
+    → IsInstr i × (octets ≡ spelling i ++ rest)
 spelled_so version octets i rest fits e =
     let took = took_instr version octets i rest e in
     (took.good fits, took.front.parts ∙ ap (λ (xs : List ℕ). xs ++ rest) (took.front.is fits))
 
 -- what version 1 reads version 2 reads
-pub newer_reads : (octets : List ℕ) (i : Instr) (rest : List ℕ) → AreOctets octets → instr_from One octets ≡ Ok (i, rest) → instr_from Two octets ≡ Ok (i, rest)
-newer_reads octets i rest fits e = let s = spelled_so One octets i rest fits e in rw s.1 (back_instr i rest s.0)
+pub newer_reads : (octets : List ℕ) (i : Instr) (rest : List ℕ) → AreOctets octets
+    → instr_from One octets ≡ Ok (i, rest) → instr_from Two octets ≡ Ok (i, rest)
+newer_reads octets i rest fits e = let s =
+    spelled_so One octets i rest fits e in rw s.1 (back_instr i rest s.0)

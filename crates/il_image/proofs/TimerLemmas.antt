@@ -4,16 +4,26 @@ use Rattle.std.specs.Prelude.{◌↔◌}
 use Rattle.std.proofs.lemmas.Bool.{leb-true, le-leb, ltb-true, lt-ltb}
 use Rattle.il_image.specs.declared.timer.TimerPhase.{TimerPhase}
 use Rattle.il_image.specs.declared.timer.TimerPhase.TheVariants.{Idle, Held, Since}
-use Rattle.il_image.specs.declared.timer.TimerKind.{TimerKind}
-use Rattle.il_image.specs.declared.timer.TimerKind.TheVariants.{OnDelay, OffDelay}
+use Rattle.bay_base.specs.declared.types.TimerKind.{TimerKind}
+use Rattle.bay_base.specs.declared.types.TimerKind.TheVariants.{OnDelay, OffDelay}
 use Rattle.il_image.specs.Timers.{Call, AllHave, SomeHas, after, phase_after, output_of, IsBroken, LastRun, HasPassed, HasNotPassed}
 
 -- ---- unbroken runs
 
-one_run : (input : Bool) (c : Call) (before : List Call) → c.input ≡ input → IsBroken input before → LastRun input (c ∷ before) c
-one_run input c before has begins = record { later = []; before = before; parts = refl; first_has = has; later_have = tt; begins = begins }
+one_run : (input : Bool) (c : Call) (before : List Call) → c.input ≡ input → IsBroken input before
+    → LastRun input (c ∷ before) c
+one_run input c before has begins =
+    record {
+      later = [];
+      before = before;
+      parts = refl;
+      first_has = has;
+      later_have = tt;
+      begins = begins;
+    }
 
-longer : (input : Bool) (c first : Call) (calls : List Call) → c.input ≡ input → LastRun input calls first → LastRun input (c ∷ calls) first
+longer : (input : Bool) (c first : Call) (calls : List Call) → c.input ≡ input
+    → LastRun input calls first → LastRun input (c ∷ calls) first
 longer input c first calls has run = record {
   later = c ∷ run.later;
   before = run.before;
@@ -24,11 +34,14 @@ longer input c first calls has run = record {
 }
 
 -- The list after a first call that is no part of an unbroken run is not broken there.
-not_broken : (input : Bool) (later before : List Call) (first : Call) → first.input ≡ input → AllHave input later → IsBroken input (later ++ first ∷ before) → ⊥
+not_broken : (input : Bool) (later before : List Call) (first : Call) → first.input ≡ input
+    → AllHave input later → IsBroken input (later ++ first ∷ before) → ⊥
 not_broken input [] before first has all broken = broken has
 not_broken input (c ∷ later) before first has all broken = broken all.0
 
-same_first : (input : Bool) (xs bs ys ds : List Call) (a d : Call) → xs ++ a ∷ bs ≡ ys ++ d ∷ ds → a.input ≡ input → d.input ≡ input → AllHave input xs → AllHave input ys → IsBroken input bs → IsBroken input ds → a ≡ d
+same_first : (input : Bool) (xs bs ys ds : List Call) (a d : Call) → xs ++ a ∷ bs ≡ ys ++ d ∷ ds
+    → a.input ≡ input → d.input ≡ input → AllHave input xs → AllHave input ys → IsBroken input bs
+    → IsBroken input ds → a ≡ d
 same_first input [] bs [] ds a d e p q all every begins starts = cc
 same_first input [] bs (y ∷ ys) ds a d e p q all every begins starts =
     let same : bs ≡ ys ++ d ∷ ds = cc in
@@ -40,8 +53,11 @@ same_first input (x ∷ xs) bs (y ∷ ys) ds a d e p q all every begins starts =
     let same : xs ++ a ∷ bs ≡ ys ++ d ∷ ds = cc in
     same_first input xs bs ys ds a d same p q all.1 every.1 begins starts
 
-pub one_first : (input : Bool) (calls : List Call) (a d : Call) → LastRun input calls a → LastRun input calls d → a ≡ d
-one_first input calls a d r s = same_first input r.later r.before s.later s.before a d (sym r.parts ∙ s.parts) r.first_has s.first_has r.later_have s.later_have r.begins s.begins
+pub one_first : (input : Bool) (calls : List Call) (a d : Call) → LastRun input calls a
+    → LastRun input calls d → a ≡ d
+one_first input calls a d r s =
+    same_first input r.later r.before s.later s.before a d (sym r.parts ∙ s.parts) r.first_has
+    s.first_has r.later_have s.later_have r.begins s.begins
 
 -- ---- the on-delay timer
 
@@ -51,7 +67,8 @@ Delays Idle calls = IsBroken true calls
 Delays Held calls = ⊥
 Delays (Since start) calls = (first : Call) × LastRun true calls first × (first.moment ≡ start)
 
-on_step : (c : Call) (calls : List Call) (input : Bool) (phase : TimerPhase) → c.input ≡ input → Delays phase calls → Delays (phase_after OnDelay input phase c.moment) (c ∷ calls)
+on_step : (c : Call) (calls : List Call) (input : Bool) (phase : TimerPhase) → c.input ≡ input
+    → Delays phase calls → Delays (phase_after OnDelay input phase c.moment) (c ∷ calls)
 on_step c calls false phase is h = λ e. absurd cc
 on_step c calls true Idle is h = (c, one_run true c calls is h, refl)
 on_step c calls true Held is h = absurd h
@@ -63,18 +80,38 @@ kind_kept kind (c ∷ calls) = kind_kept kind calls
 
 on_phase : (calls : List Call) → Delays (after OnDelay calls).phase calls
 on_phase [] = tt
-on_phase (c ∷ calls) = rw (kind_kept OnDelay calls) (on_step c calls c.input (after OnDelay calls).phase refl (on_phase calls))
+on_phase (c ∷ calls) =
+    rw (kind_kept OnDelay calls)
+    (on_step c calls c.input (after OnDelay calls).phase refl (on_phase calls))
 
-on_output : (c : Call) (calls : List Call) (phase : TimerPhase) → Delays phase (c ∷ calls) → (output_of OnDelay c.preset phase c.moment ≡ true) ↔ HasPassed c calls
-on_output c calls Idle h = ((λ e. absurd cc), (λ p. absurd (not_broken true p.run.later p.run.before p.first p.run.first_has p.run.later_have (subst (IsBroken true) p.run.parts h))))
+on_output : (c : Call) (calls : List Call) (phase : TimerPhase) → Delays phase (c ∷ calls)
+    → (output_of OnDelay c.preset phase c.moment ≡ true) ↔ HasPassed c calls
+on_output c calls Idle h = (
+  (λ e. absurd cc),
+  (λ p. absurd
+      (not_broken true p.run.later p.run.before p.first p.run.first_has p.run.later_have
+      (subst (IsBroken true) p.run.parts h))),
+)
 on_output c calls Held h = absurd h
 on_output c calls (Since start) h = (
-  (λ e. record { first = h.0; run = h.1; passed = rw h.2 (leb-true c.preset (c.moment - start) e) }),
-  (λ p. le-leb c.preset (c.moment - start) (let same : p.first.moment ≡ start = ap (λ (d : Call). d.moment) (one_first true (c ∷ calls) p.first h.0 p.run h.1) ∙ h.2 in omega (arith, p.passed))),
+  (λ e. record {
+    first = h.0;
+    run = h.1;
+    passed = rw h.2 (leb-true c.preset (c.moment - start) e);
+  }),
+  (λ p. le-leb c.preset (c.moment - start)
+      (let same : p.first.moment ≡ start =
+      ap (λ (d : Call). d.moment) (one_first true (c ∷ calls) p.first h.0 p.run h.1) ∙ h.2 in
+      omega (arith, p.passed))),
 )
 
-pub on_delay : (last : Call) (earlier : List Call) → ((after OnDelay (last ∷ earlier)).output ≡ true) ↔ HasPassed last earlier
-on_delay last earlier = rw (kind_kept OnDelay earlier) (on_output last earlier (phase_after OnDelay last.input (after OnDelay earlier).phase last.moment) (on_step last earlier last.input (after OnDelay earlier).phase refl (on_phase earlier)))
+pub on_delay : (last : Call) (earlier : List Call)
+    → ((after OnDelay (last ∷ earlier)).output ≡ true) ↔ HasPassed last earlier
+on_delay last earlier =
+    rw (kind_kept OnDelay earlier)
+    (on_output last earlier (phase_after OnDelay last.input (after OnDelay earlier).phase
+    last.moment) (on_step last earlier last.input (after OnDelay earlier).phase refl
+    (on_phase earlier)))
 
 -- ---- the off-delay timer
 
@@ -91,41 +128,76 @@ LastIs input (c ∷ calls) = c.input ≡ input
 abbrev Holds : TimerPhase → List Call → Type 0
 Holds Idle calls = AllHave false calls
 Holds Held calls = LastIs true calls
-Holds (Since start) calls = ((first : Call) × LastRun false calls first × (first.moment ≡ start)) × SomeHas true calls
+Holds (Since start) calls =
+    ((first : Call) × LastRun false calls first × (first.moment ≡ start)) × SomeHas true calls
 
 broken_last : (calls : List Call) → LastIs true calls → IsBroken false calls × SomeHas true calls
 broken_last [] h = absurd h
 broken_last (c ∷ calls) h = ((λ e. absurd cc), inl h)
 
-off_step : (c : Call) (calls : List Call) (input : Bool) (phase : TimerPhase) → c.input ≡ input → Holds phase calls → Holds (phase_after OffDelay input phase c.moment) (c ∷ calls)
+off_step : (c : Call) (calls : List Call) (input : Bool) (phase : TimerPhase) → c.input ≡ input
+    → Holds phase calls → Holds (phase_after OffDelay input phase c.moment) (c ∷ calls)
 off_step c calls true phase is h = is
 off_step c calls false Idle is h = (is, h)
-off_step c calls false Held is h = let b = broken_last calls h in ((c, one_run false c calls is b.0, refl), inr b.1)
-off_step c calls false (Since start) is h = ((h.0.0, longer false c h.0.0 calls is h.0.1, h.0.2), inr h.1)
+off_step c calls false Held is h = let b =
+    broken_last calls h in ((c, one_run false c calls is b.0, refl), inr b.1)
+off_step c calls false (Since start) is h =
+    ((h.0.0, longer false c h.0.0 calls is h.0.1, h.0.2), inr h.1)
 
 off_phase : (calls : List Call) → Holds (after OffDelay calls).phase calls
 off_phase [] = tt
-off_phase (c ∷ calls) = rw (kind_kept OffDelay calls) (off_step c calls c.input (after OffDelay calls).phase refl (off_phase calls))
+off_phase (c ∷ calls) =
+    rw (kind_kept OffDelay calls)
+    (off_step c calls c.input (after OffDelay calls).phase refl (off_phase calls))
 
-run_is_false : (c : Call) (calls later before : List Call) (first : Call) → c ∷ calls ≡ later ++ first ∷ before → first.input ≡ false → AllHave false later → c.input ≡ false
+run_is_false : (c : Call) (calls later before : List Call) (first : Call)
+    → c ∷ calls ≡ later ++ first ∷ before → first.input ≡ false → AllHave false later
+    → c.input ≡ false
 run_is_false c calls [] before first parts has all = cc
 run_is_false c calls (d ∷ later) before first parts has all = let e = all.0 in cc
 
 not_false : (b : Bool) → b ≡ true → b ≡ false → ⊥
 not_false b e d = absurd cc
 
-off_output : (c : Call) (calls : List Call) (phase : TimerPhase) → Holds phase (c ∷ calls) → (output_of OffDelay c.preset phase c.moment ≡ true) ↔ ((c.input ≡ true) ⊎ HasNotPassed c calls)
-off_output c calls Idle h = ((λ e. absurd cc), (λ p. elim p [ inl e ↦ absurd (not_false c.input e h.0) | inr q ↦ absurd (all_or_some calls h.1 q.held) ]))
+off_output : (c : Call) (calls : List Call) (phase : TimerPhase) → Holds phase (c ∷ calls)
+    → (output_of OffDelay c.preset phase c.moment ≡ true)
+    ↔ ((c.input ≡ true) ⊎ HasNotPassed c calls)
+off_output c calls Idle h = (
+  (λ e. absurd cc),
+  (λ p.
+      elim p [
+        | inl e ↦ absurd (not_false c.input e h.0)
+        | inr q ↦ absurd (all_or_some calls h.1 q.held)
+      ]),
+)
 off_output c calls Held h = ((λ e. inl h), (λ p. refl))
 off_output c calls (Since start) h =
-    let no : c.input ≡ true → ⊥ = λ e. not_false c.input e (run_is_false c calls h.0.1.later h.0.1.before h.0.0 h.0.1.parts h.0.1.first_has h.0.1.later_have) in
+    let no : c.input ≡ true → ⊥ =
+    λ e. not_false c.input e
+    (run_is_false c calls h.0.1.later h.0.1.before h.0.0 h.0.1.parts h.0.1.first_has
+    h.0.1.later_have) in
     let held : SomeHas true calls = elim h.1 [ inl e ↦ absurd (no e) | inr some ↦ some ] in (
-      (λ e. inr (record { first = h.0.0; run = h.0.1; held = held; less = rw h.0.2 (ltb-true (c.moment - start) c.preset e) })),
+      (λ e. inr
+          (record {
+            first = h.0.0;
+            run = h.0.1;
+            held = held;
+            less = rw h.0.2 (ltb-true (c.moment - start) c.preset e);
+          })),
       (λ p. elim p [
         | inl e ↦ absurd (no e)
-        | inr q ↦ lt-ltb (c.moment - start) c.preset (let same : q.first.moment ≡ start = ap (λ (d : Call). d.moment) (one_first false (c ∷ calls) q.first h.0.0 q.run h.0.1) ∙ h.0.2 in omega (arith, q.less))
+        | inr q ↦ lt-ltb (c.moment - start) c.preset
+            (let same : q.first.moment ≡ start =
+            ap (λ (d : Call). d.moment) (one_first false (c ∷ calls) q.first h.0.0 q.run h.0.1)
+            ∙ h.0.2 in omega (arith, q.less))
       ]),
     )
 
-pub off_delay : (last : Call) (earlier : List Call) → ((after OffDelay (last ∷ earlier)).output ≡ true) ↔ ((last.input ≡ true) ⊎ HasNotPassed last earlier)
-off_delay last earlier = rw (kind_kept OffDelay earlier) (off_output last earlier (phase_after OffDelay last.input (after OffDelay earlier).phase last.moment) (off_step last earlier last.input (after OffDelay earlier).phase refl (off_phase earlier)))
+pub off_delay : (last : Call) (earlier : List Call)
+    → ((after OffDelay (last ∷ earlier)).output ≡ true)
+    ↔ ((last.input ≡ true) ⊎ HasNotPassed last earlier)
+off_delay last earlier =
+    rw (kind_kept OffDelay earlier)
+    (off_output last earlier
+    (phase_after OffDelay last.input (after OffDelay earlier).phase last.moment)
+    (off_step last earlier last.input (after OffDelay earlier).phase refl (off_phase earlier)))

@@ -18,11 +18,13 @@ use Rattle.il_image.specs.declared.opcode.Widening.TheVariants.{IntToDint, DintT
 use Rattle.il_image.specs.declared.value.Value.{Value}
 use Rattle.il_image.specs.declared.value.Value.TheVariants.{Short, Long, Wide}
 
+-- the elementary type of a width
 abbrev pub type_of_width : Width → ElementaryType
 type_of_width width.Int = elementary.Int
 type_of_width width.Dint = elementary.Dint
 type_of_width width.Lint = elementary.Lint
 
+-- how many bits a width has
 abbrev pub bits_of : Width → Bits
 bits_of width.Int = w16
 bits_of width.Dint = w32
@@ -40,6 +42,7 @@ exact Mul a b = a *ℤ b
 exact Div a b = int_div a b
 exact Mod a b = a -ℤ (int_div a b *ℤ b)
 
+-- the result of an operation: the exact integer, reduced into the width
 abbrev pub computed : Operation → Width → ℤ → ℤ → ℤ
 computed operation width a b = wrapped width (exact operation a b)
 
@@ -51,6 +54,7 @@ DividesBy Mul b = Unit {0}
 DividesBy Div b = b ≡ pos 0 → ⊥
 DividesBy Mod b = b ≡ pos 0 → ⊥
 
+-- the comparison of the numbers holds
 abbrev pub compared : Comparison → ℤ → ℤ → Bool
 compared Gt a b = int_lt b a
 compared Ge a b = int_le b a

@@ -3,6 +3,7 @@ use Rattle.std.specs.Prelude.{ℕ, Option, Some, None}
 use Rattle.il_image.specs.declared.fault.ImageFault.{ImageFault}
 use Rattle.il_image.specs.declared.fault.ImageFault.TheVariants.{BadMagic, BadVersion, BadOpcode, Truncated, OutOfMemory}
 
+-- the fault's number; want of memory has none
 abbrev pub code_of : ImageFault → Option ℕ
 code_of BadMagic = Some 80
 code_of BadVersion = Some 81

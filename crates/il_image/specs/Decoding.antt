@@ -1,6 +1,7 @@
 -- Reading an image from the left, up to its first fault.
 use Rattle.std.specs.Prelude.{ℕ, zero, suc, ◌≡◌, ◌<◌, ◌≤◌, ◌++◌, ◌==◌, ◌||◌, Bool, true, false, List, [], ◌∷◌, length, take, drop, Option, Some, None, Result, Ok, Err, nat_lt, if◌then◌else◌}
 use Rattle.std.specs.List.{list_all}
+use Rattle.bay_base.specs.Results.{◌>>=◌}
 use Rattle.bay_base.specs.declared.types.ElementaryType.{ElementaryType}
 use Rattle.bay_base.specs.declared.types.ElementaryType.TheVariants as elementary
 use Rattle.il_image.specs.declared.fault.ImageFault.{ImageFault}
@@ -9,11 +10,11 @@ use Rattle.il_image.specs.declared.image.ImagePoint.{ImagePoint}
 use Rattle.il_image.specs.declared.instr.Instr.{Instr}
 use Rattle.il_image.specs.declared.opcode.Version.{Version}
 use Rattle.il_image.specs.declared.opcode.Version.TheVariants.{One, Two}
-use Rattle.il_image.specs.declared.timer.TimerKind.{TimerKind}
-use Rattle.il_image.specs.declared.timer.TimerKind.TheVariants.{OnDelay, OffDelay}
+use Rattle.bay_base.specs.declared.types.TimerKind.{TimerKind}
+use Rattle.bay_base.specs.declared.types.TimerKind.TheVariants.{OnDelay, OffDelay}
 use Rattle.il_image.specs.declared.value.Value.{Value}
 use Rattle.il_image.specs.Images.{Image, is_name_octet, mark, value_size}
-use Rattle.il_image.specs.Reading.{Read, ◌>>=◌, instr_from, known, number_at, octet_at, value_at}
+use Rattle.il_image.specs.Reading.{Read, instr_from, known, number_at, octet_at, value_at}
 
 -- the octets behind these, each of which has to be there
 abbrev pub behind : List ℕ → List ℕ → Result (List ℕ) ImageFault
@@ -21,9 +22,12 @@ behind [] octets = Ok octets
 behind (m ∷ marks) [] = Err Truncated
 behind (m ∷ marks) (octet ∷ octets) = if octet == m then behind marks octets else Err BadMagic
 
+-- the version behind the mark
 abbrev pub version_at : List ℕ → Read Version
 version_at [] = Err Truncated
-version_at (octet ∷ rest) = if octet == 0x01 then Ok (One, rest) else (if octet == 0x02 then Ok (Two, rest) else Err BadVersion)
+version_at (octet ∷ rest) =
+    if octet == 0x01 then Ok (One, rest)
+    else (if octet == 0x02 then Ok (Two, rest) else Err BadVersion)
 
 -- LINT is new in version 2.
 abbrev pub newest_type : Version → Option ElementaryType
@@ -39,6 +43,7 @@ type_of_octet version octet =
     else (if octet == 0x04 then Some elementary.Time
     else (if octet == 0x05 then newest_type version else None))))
 
+-- a type of the version
 abbrev pub type_at : Version → List ℕ → Read ElementaryType
 type_at version octets = do
   octet ← octet_at octets
@@ -49,6 +54,7 @@ type_at version octets = do
 abbrev pub access_of : ℕ → Option Bool
 access_of octet = if octet == 0x00 then Some false else (if octet == 0x01 then Some true else None)
 
+-- the octet that says whether a point may be written
 abbrev pub access_at : List ℕ → Read Bool
 access_at octets = do
   octet ← octet_at octets
@@ -58,14 +64,17 @@ access_at octets = do
 -- a name of this length: its first octet that is none of a name comes before its missing end
 abbrev pub name_of_length : ℕ → List ℕ → Read (List ℕ)
 name_of_length n octets =
-    if list_all is_name_octet (take n octets) then (if nat_lt (length octets) n then Err Truncated else Ok (take n octets, drop n octets))
+    if list_all is_name_octet (take n octets)
+    then (if nat_lt (length octets) n then Err Truncated else Ok (take n octets, drop n octets))
     else Err BadOpcode
 
+-- a name behind its length, which is 1 to 64
 abbrev pub name_at : List ℕ → Read (List ℕ)
 name_at octets = do
   n ← octet_at octets
   if (n.0 == 0) || nat_lt 64 n.0 then Err BadOpcode else name_of_length n.0 n.1
 
+-- a point: its type, whether it may be written, and its name
 unfoldable pub point_at : Version → List ℕ → Read ImagePoint
 point_at version octets = do
   t ← type_at version octets
@@ -73,14 +82,18 @@ point_at version octets = do
   name ← name_at writable.1
   Ok (record { name = name.0; elementary = t.0; writable = writable.0 }, name.1)
 
+-- a variable: its type and its initial value
 unfoldable pub variable_at : Version → List ℕ → Read Value
 variable_at version octets = do
   t ← type_at version octets
   value_at (value_size version) t.0 t.1
 
+-- the kind of timer that an octet stands for
 abbrev pub kind_of_octet : ℕ → Option TimerKind
-kind_of_octet octet = if octet == 0x01 then Some OnDelay else (if octet == 0x02 then Some OffDelay else None)
+kind_of_octet octet =
+    if octet == 0x01 then Some OnDelay else (if octet == 0x02 then Some OffDelay else None)
 
+-- a timer, of which version 1 says nothing: there all are TON
 unfoldable pub timer_at : Version → List ℕ → Read TimerKind
 timer_at One octets = Ok (OnDelay, octets)
 timer_at Two octets = do
@@ -112,8 +125,10 @@ fault_behind (Err fault) fault_of = Some fault
 abbrev pub code_fault : Version → ℕ → List ℕ → Option ImageFault
 code_fault version zero octets = None
 code_fault version (suc most) [] = None
-code_fault version (suc most) (octet ∷ octets) = fault_behind (instr_from version (octet ∷ octets)) (λ rest. code_fault version most rest)
+code_fault version (suc most) (octet ∷ octets) =
+    fault_behind (instr_from version (octet ∷ octets)) (λ rest. code_fault version most rest)
 
+-- the fault, if there is one, or else the result
 abbrev pub unless : {A : Type 0} → Option ImageFault → Result A ImageFault → Result A ImageFault
 unless None r = r
 unless (Some fault) r = Err fault
@@ -121,13 +136,16 @@ unless (Some fault) r = Err fault
 -- octets that are code: a fault in them comes before a length that is not theirs
 abbrev pub code_of_length : Version → ℕ → List ℕ → Result (List ℕ) ImageFault
 code_of_length version n octets =
-    unless (code_fault version (length (take n octets)) (take n octets)) (if length octets == n then Ok octets else Err Truncated)
+    unless (code_fault version (length (take n octets)) (take n octets))
+    (if length octets == n then Ok octets else Err Truncated)
 
+-- the octets of the code behind their number, with nothing behind them
 unfoldable pub code_at : Version → List ℕ → Result (List ℕ) ImageFault
 code_at version octets = do
   n ← number_at octets
   code_of_length version n.0 n.1
 
+-- the image that octets spell, or their first fault from the left
 unfoldable pub decoded : List ℕ → Result Image ImageFault
 decoded octets = do
   rest ← behind mark octets

@@ -1,8 +1,10 @@
--- What an instruction does to the kinds on the stack, the top first, where it is allowed.
+-- The transfer function: what an instruction does to the kinds on the stack, the top first, where
+-- it is allowed.
 use Rattle.std.specs.Prelude.{ℕ, ℤ, pos, ◌&&◌, ◌||◌, Bool, not, List, [], ◌∷◌, nat_lt, slice_get, Option, Some, None, if◌then◌else◌}
 use Rattle.std.specs.Ordering.{int_eq}
 use Rattle.bay_base.specs.declared.types.ElementaryType.{ElementaryType}
 use Rattle.bay_base.specs.declared.types.ElementaryType.TheVariants as elementary
+use Rattle.bay_base.specs.Options.{◌>>=◌}
 use Rattle.bay_base.specs.Types.{same_type}
 use Rattle.il_image.specs.declared.arithmetic.Width.{Width}
 use Rattle.il_image.specs.declared.arithmetic.Width.TheVariants as width
@@ -10,8 +12,8 @@ use Rattle.il_image.specs.declared.arithmetic.Operation.{Operation}
 use Rattle.il_image.specs.declared.arithmetic.Comparison.{Comparison}
 use Rattle.il_image.specs.declared.instr.Instr.{Instr}
 use Rattle.il_image.specs.declared.instr.Instr.TheVariants.{Halt, Push, Drop, Slot, Not, Combine, Compute, Compare, Widen, Jump, Timer}
-use Rattle.il_image.specs.declared.kind.Kind.{Kind}
-use Rattle.il_image.specs.declared.kind.Kind.TheVariants.{Any, Plain, NotZero}
+use Rattle.il_image.specs.declared.kind.CellKind.{CellKind}
+use Rattle.il_image.specs.declared.kind.CellKind.TheVariants.{Any, Plain, NotZero}
 use Rattle.il_image.specs.declared.opcode.SlotUse.TheVariants.{Load, Store, SetIf, ResetIf}
 use Rattle.il_image.specs.declared.opcode.Widening.TheVariants.{IntToDint, DintToLint}
 use Rattle.il_image.specs.declared.opcode.When.TheVariants.{Always, IfTrue, IfFalse}
@@ -22,29 +24,26 @@ use Rattle.il_image.specs.Arithmetic.{type_of_width}
 use Rattle.il_image.specs.Kinds.{is_within}
 use Rattle.il_image.specs.Machine.{divides, tells_equality}
 
-infixl 10 ◌>>=◌
-abbrev pub ◌>>=◌ : {A B : Type 0} → Option A → (A → Option B) → Option B
-None >>= f = None
-(Some x) >>= f = f x
-
 -- what lies below a top that is within the wanted kind
-abbrev pub below : Kind → List Kind → Option (List Kind)
+abbrev pub below : CellKind → List CellKind → Option (List CellKind)
 below wanted [] = None
 below wanted (top ∷ rest) = if is_within top wanted then Some rest else None
 
 -- the kinds stay, where the top is within the wanted kind
-abbrev pub looks_at : Kind → List Kind → Option (List Kind)
+abbrev pub looks_at : CellKind → List CellKind → Option (List CellKind)
 looks_at wanted kinds = below wanted kinds >>= (λ rest. Some kinds)
 
 -- two cells within the wanted kinds, the first of them the top, become one
-abbrev pub two : Kind → Kind → Kind → List Kind → Option (List Kind)
-two top second gives kinds = below top kinds >>= (λ more. below second more >>= (λ rest. Some (gives ∷ rest)))
+abbrev pub two : CellKind → CellKind → CellKind → List CellKind → Option (List CellKind)
+two top second gives kinds =
+    below top kinds >>= (λ more. below second more >>= (λ rest. Some (gives ∷ rest)))
 
-abbrev pub kind_of_number : Width → ℤ → Kind
+-- a number of a width: whether it is not zero is known
+abbrev pub kind_of_number : Width → ℤ → CellKind
 kind_of_number w z = if int_eq z (pos 0) then Plain (type_of_width w) else NotZero w
 
 -- what is known of a value: a number other than 0 is not zero
-abbrev pub kind_of : Value → Kind
+abbrev pub kind_of : Value → CellKind
 kind_of (Truth b) = Plain elementary.Bool
 kind_of (Short z) = kind_of_number width.Int z
 kind_of (Long z) = kind_of_number width.Dint z
@@ -52,41 +51,49 @@ kind_of (Wide z) = kind_of_number width.Lint z
 kind_of (Span n) = Plain elementary.Time
 
 -- what an operation wants on top
-abbrev pub second_kind : Operation → Width → Kind
+abbrev pub second_kind : Operation → Width → CellKind
 second_kind o w = if divides o then NotZero w else Plain (type_of_width w)
 
 -- the type that a kind shows
-abbrev pub type_of_kind : Kind → Option ElementaryType
+abbrev pub type_of_kind : CellKind → Option ElementaryType
 type_of_kind Any = None
 type_of_kind (Plain t) = Some t
 type_of_kind (NotZero w) = Some (type_of_width w)
 
+-- values of these types may be compared: of one type, BOOLs for equality alone
 abbrev pub are_compared : Comparison → ElementaryType → ElementaryType → Bool
 are_compared c t u = same_type t u && (not (same_type t elementary.Bool) || tells_equality c)
 
 -- two cells that show one type become a BOOL
-abbrev pub compares : Comparison → List Kind → Option (List Kind)
+abbrev pub compares : Comparison → List CellKind → Option (List CellKind)
 compares c (top ∷ second ∷ rest) =
-    type_of_kind top >>= (λ t. type_of_kind second >>= (λ u. if are_compared c u t then Some (Plain elementary.Bool ∷ rest) else None))
+    type_of_kind top >>= (λ t. type_of_kind second
+    >>= (λ u. if are_compared c u t then Some (Plain elementary.Bool ∷ rest) else None))
 compares c (top ∷ []) = None
 compares c [] = None
 
 -- the top becomes one of a wider type, and stays not zero
-abbrev pub widens : Width → Width → List Kind → Option (List Kind)
+abbrev pub widens : Width → Width → List CellKind → Option (List CellKind)
 widens from to [] = None
 widens from to (top ∷ rest) =
-    if is_within top (NotZero from) then Some (NotZero to ∷ rest) else (if is_within top (Plain (type_of_width from)) then Some (Plain (type_of_width to) ∷ rest) else None)
+    if is_within top (NotZero from)
+    then Some (NotZero to ∷ rest)
+    else (if is_within top (Plain (type_of_width from))
+    then Some (Plain (type_of_width to) ∷ rest) else None)
 
 -- a slot's type, which has to be BOOL
-abbrev pub with_truth : List ElementaryType → ℕ → List Kind → Option (List Kind)
-with_truth slots n kinds = slice_get slots n >>= (λ t. if same_type t elementary.Bool then looks_at (Plain elementary.Bool) kinds else None)
+abbrev pub with_truth : List ElementaryType → ℕ → List CellKind → Option (List CellKind)
+with_truth slots n kinds =
+    slice_get slots n >>= (λ t. if same_type t elementary.Bool
+    then looks_at (Plain elementary.Bool) kinds else None)
 
-abbrev pub with_timer : ℕ → ℕ → Option (List Kind) → Option (List Kind)
+-- the kinds, where there is a timer of the number
+abbrev pub with_timer : ℕ → ℕ → Option (List CellKind) → Option (List CellKind)
 with_timer timers n kinds = if nat_lt n timers then kinds else None
 
 -- the kinds after an instruction, where it is allowed, for the types of the slots and the number of
 -- timers
-abbrev pub effect : List ElementaryType → ℕ → Instr → List Kind → Option (List Kind)
+abbrev pub effect : List ElementaryType → ℕ → Instr → List CellKind → Option (List CellKind)
 effect slots timers Halt kinds = Some kinds
 effect slots timers (Push v) kinds = Some (kind_of v ∷ kinds)
 effect slots timers Drop kinds = below Any kinds
@@ -94,17 +101,24 @@ effect slots timers (Slot Load n) kinds = slice_get slots n >>= (λ t. Some (Pla
 effect slots timers (Slot Store n) kinds = slice_get slots n >>= (λ t. looks_at (Plain t) kinds)
 effect slots timers (Slot SetIf n) kinds = with_truth slots n kinds
 effect slots timers (Slot ResetIf n) kinds = with_truth slots n kinds
-effect slots timers Not kinds = below (Plain elementary.Bool) kinds >>= (λ rest. Some (Plain elementary.Bool ∷ rest))
-effect slots timers (Combine c) kinds = two (Plain elementary.Bool) (Plain elementary.Bool) (Plain elementary.Bool) kinds
-effect slots timers (Compute o w) kinds = two (second_kind o w) (Plain (type_of_width w)) (Plain (type_of_width w)) kinds
+effect slots timers Not kinds =
+    below (Plain elementary.Bool) kinds >>= (λ rest. Some (Plain elementary.Bool ∷ rest))
+effect slots timers (Combine c) kinds =
+    two (Plain elementary.Bool) (Plain elementary.Bool) (Plain elementary.Bool) kinds
+effect slots timers (Compute o w) kinds =
+    two (second_kind o w) (Plain (type_of_width w)) (Plain (type_of_width w)) kinds
 effect slots timers (Compare c) kinds = compares c kinds
 effect slots timers (Widen IntToDint) kinds = widens width.Int width.Dint kinds
 effect slots timers (Widen DintToLint) kinds = widens width.Dint width.Lint kinds
 effect slots timers (Jump Always distance) kinds = Some kinds
 effect slots timers (Jump IfTrue distance) kinds = looks_at (Plain elementary.Bool) kinds
 effect slots timers (Jump IfFalse distance) kinds = looks_at (Plain elementary.Bool) kinds
-effect slots timers (Timer SetInput n) kinds = with_timer timers n (below (Plain elementary.Bool) kinds)
-effect slots timers (Timer SetPreset n) kinds = with_timer timers n (below (Plain elementary.Time) kinds)
+effect slots timers (Timer SetInput n) kinds =
+    with_timer timers n (below (Plain elementary.Bool) kinds)
+effect slots timers (Timer SetPreset n) kinds =
+    with_timer timers n (below (Plain elementary.Time) kinds)
 effect slots timers (Timer Run n) kinds = with_timer timers n (Some kinds)
-effect slots timers (Timer LoadOutput n) kinds = with_timer timers n (Some (Plain elementary.Bool ∷ kinds))
-effect slots timers (Timer LoadElapsed n) kinds = with_timer timers n (Some (Plain elementary.Time ∷ kinds))
+effect slots timers (Timer LoadOutput n) kinds =
+    with_timer timers n (Some (Plain elementary.Bool ∷ kinds))
+effect slots timers (Timer LoadElapsed n) kinds =
+    with_timer timers n (Some (Plain elementary.Time ∷ kinds))

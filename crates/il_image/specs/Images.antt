@@ -7,8 +7,8 @@ use Rattle.il_image.specs.declared.image.ImagePoint.{ImagePoint}
 use Rattle.il_image.specs.declared.instr.Instr.{Instr}
 use Rattle.il_image.specs.declared.opcode.Version.{Version}
 use Rattle.il_image.specs.declared.opcode.Version.TheVariants.{One, Two}
-use Rattle.il_image.specs.declared.timer.TimerKind.{TimerKind}
-use Rattle.il_image.specs.declared.timer.TimerKind.TheVariants.{OnDelay, OffDelay}
+use Rattle.bay_base.specs.declared.types.TimerKind.{TimerKind}
+use Rattle.bay_base.specs.declared.types.TimerKind.TheVariants.{OnDelay, OffDelay}
 use Rattle.il_image.specs.declared.value.Value.{Value}
 use Rattle.il_image.specs.declared.write.Size.{Size}
 use Rattle.il_image.specs.declared.write.Size.TheVariants as size
@@ -26,13 +26,16 @@ pub record Image : Type 0 where
 
 -- ---- what an image keeps
 
+-- Each item of the list has the property.
 abbrev pub Each : {A : Type 0} → (A → Type 0) → List A → Type 0
 Each P [] = Unit {0}
 Each P (x ∷ xs) = P x × Each P xs
 
 -- an upper-case letter, a digit or an underscore
 abbrev pub is_name_octet : ℕ → Bool
-is_name_octet octet = (nat_le 0x41 octet && nat_le octet 0x5A) || (nat_le 0x30 octet && nat_le octet 0x39) || (octet == 0x5F)
+is_name_octet octet =
+    (nat_le 0x41 octet && nat_le octet 0x5A) || (nat_le 0x30 octet && nat_le octet 0x39)
+    || (octet == 0x5F)
 
 -- The name has 1 to 64 such octets.
 pub record IsName (name : List ℕ) : Type 0 where
@@ -40,6 +43,7 @@ pub record IsName (name : List ℕ) : Type 0 where
   pub few : length name ≤ 64
   pub octets : IsTrue (list_all is_name_octet name)
 
+-- The point has a name of the format.
 abbrev pub HasName : ImagePoint → Type 0
 HasName p = IsName p.name
 
@@ -47,6 +51,7 @@ HasName p = IsName p.name
 abbrev pub IsValue : Value → Type 0
 IsValue v = IsSome (value_of (type_of v) (number_of v))
 
+-- spellings of instructions, one behind the other
 abbrev pub all_spelled : List Instr → List ℕ
 all_spelled [] = []
 all_spelled (i ∷ is) = spelling i ++ all_spelled is
@@ -70,6 +75,7 @@ pub record IsImage (i : Image) : Type 0 where
 
 -- ---- the spelling
 
+-- the octet of a type
 abbrev pub type_octet : ElementaryType → ℕ
 type_octet elementary.Bool = 0x01
 type_octet elementary.Int = 0x02
@@ -77,16 +83,20 @@ type_octet elementary.Dint = 0x03
 type_octet elementary.Time = 0x04
 type_octet elementary.Lint = 0x05
 
+-- a point: its type, whether it may be written, and its name behind its length
 abbrev pub point_octets : ImagePoint → List ℕ
-point_octets p = type_octet p.elementary ∷ (if p.writable then 0x01 else 0x00) ∷ length p.name ∷ p.name
+point_octets p =
+    type_octet p.elementary ∷ (if p.writable then 0x01 else 0x00) ∷ length p.name ∷ p.name
 
 -- the size of initial values
 abbrev pub value_size : Version → Size
 value_size One = size.Four
 value_size Two = size.Eight
 
+-- a variable: its type and its initial value
 abbrev pub variable_octets : Version → Value → List ℕ
-variable_octets version v = type_octet (type_of v) ∷ signed_octets (value_size version) (number_of v)
+variable_octets version v =
+    type_octet (type_of v) ∷ signed_octets (value_size version) (number_of v)
 
 -- In version 1 all timers are TON, and nothing is said of them.
 abbrev pub timer_octets : Version → TimerKind → List ℕ
@@ -94,6 +104,7 @@ timer_octets One kind = []
 timer_octets Two OnDelay = 0x01 ∷ []
 timer_octets Two OffDelay = 0x02 ∷ []
 
+-- the octets of each item, one behind the other
 abbrev pub each_spelled : {A : Type 0} → (A → List ℕ) → List A → List ℕ
 each_spelled spell [] = []
 each_spelled spell (x ∷ xs) = spell x ++ each_spelled spell xs
@@ -106,11 +117,14 @@ counted spell xs = number_octets (length xs) ++ each_spelled spell xs
 abbrev pub mark : List ℕ
 mark = 0x49 ∷ 0x4C ∷ 0x42 ∷ 0x43 ∷ []
 
+-- the octet of a version
 abbrev pub version_octet : Version → ℕ
 version_octet One = 0x01
 version_octet Two = 0x02
 
+-- the octets of an image in a version of the format
 unfoldable pub encoded : Version → Image → List ℕ
 encoded version i =
-    mark ++ (version_octet version ∷ (counted point_octets i.points ++ (counted (variable_octets version) i.variables ++
+    mark ++ (version_octet version
+    ∷ (counted point_octets i.points ++ (counted (variable_octets version) i.variables ++
     (counted (timer_octets version) i.timers ++ (number_octets (length i.code) ++ i.code)))))

@@ -14,7 +14,7 @@ use Rattle.il_image.specs.declared.opcode.Widening.{Widening}
 use Rattle.il_image.specs.declared.opcode.SlotUse.TheVariants.{Load, Store, SetIf, ResetIf}
 use Rattle.il_image.specs.declared.opcode.When.TheVariants.{Always, IfTrue, IfFalse}
 use Rattle.il_image.specs.declared.opcode.TimerUse.TheVariants.{SetInput, SetPreset, Run, LoadOutput, LoadElapsed}
-use Rattle.il_image.specs.declared.timer.Timer.{Timer as TimerState}
+use Rattle.il_image.specs.declared.timer.TimerState.{TimerState}
 use Rattle.il_image.specs.declared.value.Value.{Value}
 use Rattle.il_image.specs.declared.value.Value.TheVariants.{Truth, Short, Long, Wide, Span}
 use Rattle.bay_base.specs.declared.types.ElementaryType.TheVariants as elementary
@@ -32,6 +32,7 @@ pub record State : Type 0 where
   pub slots : List Value
   pub timers : List TimerState
 
+-- why an instruction has no meaning
 pub data Trap : Type 0 where
   EmptyStack : Trap
   FullStack : Trap
@@ -58,6 +59,7 @@ goes to cells s = Goes (record s { place = to; cells = cells })
 abbrev pub pushes : Value → ℕ → State → Turn
 pushes v to s = if nat_lt (length s.cells) 32 then goes to (v ∷ s.cells) s else Traps FullStack
 
+-- the top, and the cells below it
 abbrev pub with_top : List Value → (Value → List Value → Turn) → Turn
 with_top [] act = Traps EmptyStack
 with_top (top ∷ below) act = act top below
@@ -68,47 +70,59 @@ with_two [] act = Traps EmptyStack
 with_two (top ∷ []) act = Traps EmptyStack
 with_two (second ∷ first ∷ below) act = act first second below
 
+-- a cell that has to be a BOOL
 abbrev pub as_truth : Value → (Bool → Turn) → Turn
 as_truth (Truth b) act = act b
 as_truth v act = Traps WrongKind
 
+-- a cell that has to be a TIME
 abbrev pub as_span : Value → (ℕ → Turn) → Turn
 as_span (Span n) act = act n
 as_span v act = Traps WrongKind
 
+-- a cell that has to be a number of the width
 abbrev pub as_number : Width → Value → (ℤ → Turn) → Turn
 as_number width.Int (Short z) act = act z
 as_number width.Dint (Long z) act = act z
 as_number width.Lint (Wide z) act = act z
 as_number w v act = Traps WrongKind
 
+-- the slot of a number
 abbrev pub with_slot : ℕ → State → (Value → Turn) → Turn
 with_slot n s act = elim (slice_get s.slots n) [ None ↦ Traps MissingSlot | Some v ↦ act v ]
 
+-- the timer of a number
 abbrev pub with_timer : ℕ → State → (TimerState → Turn) → Turn
 with_timer n s act = elim (slice_get s.timers n) [ None ↦ Traps MissingTimer | Some t ↦ act t ]
 
 -- the top and a slot, which are BOOLs
 abbrev pub with_truths : ℕ → State → (Bool → Bool → Turn) → Turn
-with_truths n s act = with_slot n s (λ slot. with_top s.cells (λ top below. as_truth top (λ b. as_truth slot (λ old. act b old))))
+with_truths n s act =
+    with_slot n s (λ slot. with_top s.cells
+    (λ top below. as_truth top (λ b. as_truth slot (λ old. act b old))))
 
 -- two numbers of a width
 abbrev pub with_numbers : Width → State → (ℤ → ℤ → List Value → Turn) → Turn
-with_numbers w s act = with_two s.cells (λ first second below. as_number w second (λ b. as_number w first (λ a. act a b below)))
+with_numbers w s act =
+    with_two s.cells (λ first second below. as_number w second
+    (λ b. as_number w first (λ a. act a b below)))
 
--- a slot or a timer changes
+-- a slot changes
 abbrev pub stores : ℕ → Value → ℕ → State → Turn
 stores n v to s = Goes (record s { place = to; slots = slice_set s.slots n v })
 
+-- a timer changes, and the cells with it
 abbrev pub changes : ℕ → TimerState → ℕ → List Value → State → Turn
-changes n t to cells s = Goes (record s { place = to; cells = cells; timers = slice_set s.timers n t })
+changes n t to cells s =
+    Goes (record s { place = to; cells = cells; timers = slice_set s.timers n t })
 
 -- the number of a width as a value
-abbrev pub value_in : Width → ℤ → Value
-value_in width.Int z = Short z
-value_in width.Dint z = Long z
-value_in width.Lint z = Wide z
+abbrev pub value_of_width : Width → ℤ → Value
+value_of_width width.Int z = Short z
+value_of_width width.Dint z = Long z
+value_of_width width.Lint z = Wide z
 
+-- the operation has a divisor
 abbrev pub divides : Operation → Bool
 divides Div = true
 divides Mod = true
@@ -116,6 +130,7 @@ divides Add = false
 divides Sub = false
 divides Mul = false
 
+-- the comparison asks only whether values are equal
 abbrev pub tells_equality : Comparison → Bool
 tells_equality Eq = true
 tells_equality Ne = true
@@ -126,62 +141,90 @@ tells_equality Lt = false
 
 -- Values of one type are compared, BOOLs for equality alone.
 abbrev pub is_comparable : Comparison → Value → Value → Bool
-is_comparable c a b = same_type (type_of a) (type_of b) && (not (same_type (type_of a) elementary.Bool) || tells_equality c)
+is_comparable c a b =
+    same_type (type_of a) (type_of b)
+    && (not (same_type (type_of a) elementary.Bool) || tells_equality c)
 
 -- ---- what each instruction does, with the place behind it
 
+-- The top goes.
 abbrev pub drops : ℕ → State → Turn
 drops next s = with_top s.cells (λ top below. goes next below s)
 
+-- The slot's value is put on the stack.
 abbrev pub loads : ℕ → ℕ → State → Turn
 loads n next s = with_slot n s (λ slot. pushes slot next s)
 
 -- The slot takes the top, which is of its type.
 abbrev pub stores_top : ℕ → ℕ → State → Turn
 stores_top n next s =
-    with_slot n s (λ slot. with_top s.cells (λ top below. if same_type (type_of top) (type_of slot) then stores n top next s else Traps WrongKind))
+    with_slot n s (λ slot. with_top s.cells
+    (λ top below. if same_type (type_of top) (type_of slot) then stores n top next s
+    else Traps WrongKind))
 
--- The slot becomes TRUE, or FALSE, where the top is TRUE.
+-- The slot becomes TRUE where the top is TRUE.
 abbrev pub sets : ℕ → ℕ → State → Turn
 sets n next s = with_truths n s (λ top old. stores n (Truth (top || old)) next s)
 
+-- The slot becomes FALSE where the top is TRUE.
 abbrev pub resets : ℕ → ℕ → State → Turn
 resets n next s = with_truths n s (λ top old. stores n (Truth (not top && old)) next s)
 
+-- The top is negated.
 abbrev pub inverts : ℕ → State → Turn
-inverts next s = with_top s.cells (λ top below. as_truth top (λ b. goes next (Truth (not b) ∷ below) s))
+inverts next s =
+    with_top s.cells (λ top below. as_truth top (λ b. goes next (Truth (not b) ∷ below) s))
 
+-- Two BOOLs become one.
 abbrev pub connects : Connective → ℕ → State → Turn
 connects c next s =
-    with_two s.cells (λ first second below. as_truth second (λ b. as_truth first (λ a. goes next (Truth (connected c a b) ∷ below) s)))
+    with_two s.cells (λ first second below. as_truth second
+    (λ b. as_truth first (λ a. goes next (Truth (connected c a b) ∷ below) s)))
 
+-- Two numbers become their result; the divisor is not 0.
 abbrev pub computes : Operation → Width → ℕ → State → Turn
 computes o w next s =
-    with_numbers w s (λ a b below. if divides o && int_eq b (pos 0) then Traps ZeroDivisor else goes next (value_in w (computed o w a b) ∷ below) s)
+    with_numbers w s (λ a b below. if divides o && int_eq b (pos 0) then Traps ZeroDivisor
+    else goes next (value_of_width w (computed o w a b) ∷ below) s)
 
+-- Two values become a BOOL.
 abbrev pub compares : Comparison → ℕ → State → Turn
 compares c next s =
-    with_two s.cells (λ a b below. if is_comparable c a b then goes next (Truth (compared c (number_of a) (number_of b)) ∷ below) s else Traps WrongKind)
+    with_two s.cells (λ a b below. if is_comparable c a b
+    then goes next (Truth (compared c (number_of a) (number_of b)) ∷ below) s
+    else Traps WrongKind)
 
+-- The top becomes a value of the wider type.
 abbrev pub widens : Widening → ℕ → State → Turn
-widens w next s = with_top s.cells (λ top below. elim (widened w top) [ None ↦ Traps WrongKind | Some v ↦ goes next (v ∷ below) s ])
+widens w next s =
+    with_top s.cells (λ top below.
+    elim (widened w top) [ None ↦ Traps WrongKind | Some v ↦ goes next (v ∷ below) s ])
 
 -- A jump looks at the top, and leaves it.
 abbrev pub jumps_where : (Bool → ℕ) → State → Turn
 jumps_where to s = with_top s.cells (λ top below. as_truth top (λ b. goes (to b) s.cells s))
 
+-- The top becomes IN of the timer.
 abbrev pub takes_input : ℕ → ℕ → State → Turn
-takes_input n next s = with_timer n s (λ t. with_top s.cells (λ top below. as_truth top (λ b. changes n (record t { input = b }) next below s)))
+takes_input n next s =
+    with_timer n s (λ t. with_top s.cells
+    (λ top below. as_truth top (λ b. changes n (record t { input = b }) next below s)))
 
+-- The top becomes PT of the timer.
 abbrev pub takes_preset : ℕ → ℕ → State → Turn
-takes_preset n next s = with_timer n s (λ t. with_top s.cells (λ top below. as_span top (λ preset. changes n (record t { preset = preset }) next below s)))
+takes_preset n next s =
+    with_timer n s (λ t. with_top s.cells
+    (λ top below. as_span top (λ preset. changes n (record t { preset = preset }) next below s)))
 
+-- The timer is called at the moment.
 abbrev pub runs_timer : ℕ → ℕ → ℕ → State → Turn
 runs_timer now n next s = with_timer n s (λ t. changes n (called t now) next s.cells s)
 
+-- Q is put on the stack.
 abbrev pub loads_output : ℕ → ℕ → State → Turn
 loads_output n next s = with_timer n s (λ t. pushes (Truth t.output) next s)
 
+-- ET is put on the stack.
 abbrev pub loads_elapsed : ℕ → ℕ → State → Turn
 loads_elapsed n next s = with_timer n s (λ t. pushes (Span t.elapsed) next s)
 
@@ -210,6 +253,7 @@ act now (Timer LoadElapsed n) next s = loads_elapsed n next s
 
 -- ---- a step, and a run
 
+-- the step of the instruction that was read, if one stands there
 abbrev pub turn_of : ℕ → Option (Instr × ℕ) → State → Turn
 turn_of now None s = Traps OutsideCode
 turn_of now (Some read) s = act now read.0 read.1 s
@@ -225,6 +269,7 @@ pub data Ending : Type 0 where
   Trapped : Trap → Ending
   Unfinished : Ending
 
+-- the end of a run by its next step
 abbrev pub ending_of : Turn → State → ℕ → (State → Ending) → Ending
 ending_of (Goes after) s steps rest = rest after
 ending_of Halts s steps rest = Halted s.slots s.timers steps
@@ -233,8 +278,9 @@ ending_of (Traps trap) s steps rest = Trapped trap
 -- a run of at most so many steps from a state, after this many
 unfoldable pub run : List ℕ → ℕ → ℕ → State → ℕ → Ending
 run code now zero s steps = Unfinished
-run code now (suc most) s steps = ending_of (turn code now s) s (steps + 1) (λ after. run code now most after (steps + 1))
+run code now (suc most) s steps =
+    ending_of (turn code now s) s (steps + 1) (λ after. run code now most after (steps + 1))
 
 -- A run begins at place 0 without cells.
-abbrev pub start : List Value → List TimerState → State
-start slots timers = record { place = 0; cells = []; slots = slots; timers = timers }
+abbrev pub initial_state : List Value → List TimerState → State
+initial_state slots timers = record { place = 0; cells = []; slots = slots; timers = timers }

@@ -10,12 +10,14 @@ use Rattle.il_image.specs.declared.write.Size.TheVariants.{One, Two, Four, Eight
 abbrev pub AreOctets : List ℕ → Type 0
 AreOctets octets = (i : ℕ) → slice_index octets i < 256
 
+-- how many octets a size has
 abbrev pub octet_count : Size → ℕ
 octet_count One = 1
 octet_count Two = 2
 octet_count Four = 4
 octet_count Eight = 8
 
+-- how many bits it has
 abbrev pub bits_of_size : Size → Bits
 bits_of_size One = w8
 bits_of_size Two = w16

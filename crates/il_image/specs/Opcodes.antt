@@ -15,6 +15,7 @@ use Rattle.il_image.specs.declared.opcode.Opcode.TheVariants.{Halt, Push, Drop, 
 use Rattle.il_image.specs.declared.opcode.Version.{Version}
 use Rattle.il_image.specs.declared.opcode.Version.TheVariants.{One, Two}
 
+-- the octet of an opcode
 abbrev pub octet_of : Opcode → ℕ
 octet_of Halt = 0x01
 octet_of (Push elementary.Bool) = 0x02
@@ -56,8 +57,10 @@ octet_of (Timer LoadElapsed) = 0x22
 -- every opcode
 abbrev pub opcodes : List Opcode
 opcodes =
-    Halt ∷ Push elementary.Bool ∷ Push elementary.Int ∷ Push elementary.Dint ∷ Push elementary.Time ∷ Drop ∷
-    Slot Load ∷ Slot Store ∷ Slot SetIf ∷ Slot ResetIf ∷ Not ∷ Combine And ∷ Combine Or ∷ Combine Xor ∷
+    Halt ∷ Push elementary.Bool ∷ Push elementary.Int ∷ Push elementary.Dint ∷ Push elementary.Time
+    ∷ Drop ∷
+    Slot Load ∷ Slot Store ∷ Slot SetIf ∷ Slot ResetIf ∷ Not ∷ Combine And ∷ Combine Or
+    ∷ Combine Xor ∷
     Compute Add ∷ Compute Sub ∷ Compute Mul ∷ Compute Div ∷ Compute Mod ∷
     Compare Gt ∷ Compare Ge ∷ Compare Eq ∷ Compare Ne ∷ Compare Le ∷ Compare Lt ∷ Widen IntToDint ∷
     Jump Always ∷ Jump IfTrue ∷ Jump IfFalse ∷
@@ -74,11 +77,17 @@ is_known One (Push elementary.Lint) = false
 is_known One (Widen DintToLint) = false
 is_known version opcode = true
 
+-- the octet of a width
 abbrev pub width_octet : Width → ℕ
 width_octet width.Int = 0x02
 width_octet width.Dint = 0x03
 width_octet width.Lint = 0x05
 
+-- the width that has an octet in a version
 abbrev pub width_of : Version → ℕ → Option Width
-width_of One octet = if octet == 0x02 then Some width.Int else (if octet == 0x03 then Some width.Dint else None)
-width_of Two octet = if octet == 0x02 then Some width.Int else (if octet == 0x03 then Some width.Dint else (if octet == 0x05 then Some width.Lint else None))
+width_of One octet =
+    if octet == 0x02 then Some width.Int else (if octet == 0x03 then Some width.Dint else None)
+width_of Two octet =
+    if octet == 0x02 then Some width.Int
+    else (if octet == 0x03 then Some width.Dint
+    else (if octet == 0x05 then Some width.Lint else None))

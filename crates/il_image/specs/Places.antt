@@ -1,8 +1,10 @@
--- Where the instructions of code begin.
+-- Where the instructions of code begin: the place of an instruction is the offset of its first
+-- octet in the code.
 use Rattle.std.specs.Prelude.{ℕ, zero, suc, ◌≡◌, ◌<◌, ◌==◌, ◌&&◌, ◌||◌, Bool, false, List, length, nat_lt, Option, Some, None, option_map, if◌then◌else◌}
 use Rattle.il_image.specs.declared.instr.Instr.{Instr}
 use Rattle.il_image.specs.Reading.{instr_at}
 
+-- the place behind the instruction at a place
 abbrev pub behind_place : List ℕ → Option ℕ → Option ℕ
 behind_place code None = None
 behind_place code (Some place) = option_map (λ r. r.1) (instr_at code place)
@@ -18,6 +20,7 @@ IsPlace code place = (place < length code) × ((n : ℕ) × (place_of code n ≡
 
 -- ---- the same as a test
 
+-- the place is this one
 abbrev pub is_there : Option ℕ → ℕ → Bool
 is_there None place = false
 is_there (Some start) place = start == place

@@ -2,6 +2,7 @@
 -- from the left.
 use Rattle.std.specs.Prelude.{ℕ, ℤ, ◌≡◌, ◌+◌, ◌-◌, ◌≤◌, ◌++◌, List, [], ◌∷◌, length, drop, Option, Some, None, Result, Ok, Err, nat_lt, if◌then◌else◌}
 use Rattle.std.specs.Int.{w16, cast_signed, from_be_bytes}
+use Rattle.bay_base.specs.Results.{◌>>=◌}
 use Rattle.bay_base.specs.declared.types.ElementaryType.{ElementaryType}
 use Rattle.il_image.specs.declared.arithmetic.Width.{Width}
 use Rattle.il_image.specs.declared.fault.ImageFault.{ImageFault}
@@ -19,36 +20,33 @@ use Rattle.il_image.specs.Opcodes.{is_known, opcode_of, width_of}
 use Rattle.il_image.specs.Spelling.{IsInstr, spelling}
 use Rattle.il_image.specs.Values.{value_of}
 
+-- an item and the octets behind it, or the first fault
 abbrev pub Read : Type 0 → Type 0
 Read A = Result (A × List ℕ) ImageFault
-
-infixl 10 ◌>>=◌
-abbrev pub ◌>>=◌ : {A B : Type 0} → Result A ImageFault → (A → Result B ImageFault) → Result B ImageFault
-(Ok x) >>= f = f x
-(Err e) >>= f = Err e
-
--- What a function answered, seen by view, is what reading gives.
-abbrev pub IsRead : {X Y : Type 0} → (X → Y) → Result X ImageFault → Result Y ImageFault → Type 0
-IsRead view (Ok x) read = read ≡ Ok (view x)
-IsRead view (Err e) read = read ≡ Err e
 
 -- what an octet or a number stands for, where it stands for something
 abbrev pub known : {A : Type 0} → Option A → Result A ImageFault
 known (Some x) = Ok x
 known None = Err BadOpcode
 
+-- one octet
 abbrev pub octet_at : List ℕ → Read ℕ
 octet_at [] = Err Truncated
 octet_at (octet ∷ rest) = Ok (octet, rest)
 
+-- a number of 16 bits without a sign
 abbrev pub number_at : List ℕ → Read ℕ
-number_at octets = if nat_lt (length octets) 2 then Err Truncated else Ok (from_be_bytes w16 octets, drop 2 octets)
+number_at octets =
+    if nat_lt (length octets) 2 then Err Truncated else Ok (from_be_bytes w16 octets, drop 2 octets)
 
 -- a number in two's complement
 abbrev pub signed_at : Size → List ℕ → Read ℤ
 signed_at size octets =
     if nat_lt (length octets) (octet_count size) then Err Truncated
-    else Ok (cast_signed (bits_of_size size) (from_be_bytes (bits_of_size size) octets), drop (octet_count size) octets)
+    else Ok (
+      cast_signed (bits_of_size size) (from_be_bytes (bits_of_size size) octets),
+      drop (octet_count size) octets,
+    )
 
 -- a value, whose number has to be one of its type
 abbrev pub value_at : Size → ElementaryType → List ℕ → Read Value
@@ -57,17 +55,20 @@ value_at size t octets = do
   v ← known (value_of t z.0)
   Ok (v, z.1)
 
+-- a width of the version
 abbrev pub width_at : Version → List ℕ → Read Width
 width_at version octets = do
   octet ← octet_at octets
   width ← known (width_of version octet.0)
   Ok (width, octet.1)
 
+-- an instruction with a number of 16 bits
 abbrev pub with_number : (ℕ → Instr) → List ℕ → Read Instr
 with_number make octets = do
   n ← number_at octets
   Ok (make n.0, n.1)
 
+-- the instruction of an opcode, whose operand stands first
 abbrev pub operand_from : Version → Opcode → List ℕ → Read Instr
 operand_from version Halt octets = Ok (instr.Halt, octets)
 operand_from version (Push t) octets = do
@@ -90,6 +91,7 @@ abbrev pub known_opcode : Version → Option Opcode → Result Opcode ImageFault
 known_opcode version None = Err BadOpcode
 known_opcode version (Some opcode) = if is_known version opcode then Ok opcode else Err BadOpcode
 
+-- an instruction of the version
 unfoldable pub instr_from : Version → List ℕ → Read Instr
 instr_from version octets = do
   octet ← octet_at octets

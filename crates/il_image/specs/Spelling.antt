@@ -8,6 +8,7 @@ use Rattle.il_image.specs.Octets.{number_octets, signed_octets, size_of}
 use Rattle.il_image.specs.Opcodes.{octet_of, width_octet}
 use Rattle.il_image.specs.Values.{number_of, type_of, value_of}
 
+-- the opcode of an instruction
 abbrev pub opcode_of_instr : Instr → Opcode
 opcode_of_instr Halt = opcode.Halt
 opcode_of_instr (Push v) = opcode.Push (type_of v)
@@ -35,6 +36,7 @@ operand_of (Combine c) = []
 operand_of (Compare c) = []
 operand_of (Widen w) = []
 
+-- the octets of an instruction
 abbrev pub spelling : Instr → List ℕ
 spelling i = octet_of (opcode_of_instr i) ∷ operand_of i
 

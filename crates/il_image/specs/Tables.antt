@@ -3,7 +3,7 @@ use Rattle.std.specs.Prelude.{ℕ, zero, suc, ◌≡◌, ◌≢◌, ◌+◌, ◌
 use Rattle.bay_base.specs.declared.types.ElementaryType.{ElementaryType}
 use Rattle.il_image.specs.declared.instr.Instr.{Instr}
 use Rattle.il_image.specs.declared.instr.Instr.TheVariants.{Halt, Push, Drop, Slot, Not, Combine, Compute, Compare, Widen, Jump, Timer}
-use Rattle.il_image.specs.declared.kind.Kind.{Kind}
+use Rattle.il_image.specs.declared.kind.CellKind.{CellKind}
 use Rattle.il_image.specs.declared.opcode.When.TheVariants.{Always, IfTrue, IfFalse}
 use Rattle.il_image.specs.Effects.{effect}
 use Rattle.il_image.specs.Images.{Image}
@@ -45,18 +45,19 @@ pub record IsSuccessor (code : List ℕ) (place to : ℕ) : Type 0 where
 
 -- the kinds on the stack before the instruction at each place
 abbrev pub Table : Type 0
-Table = ℕ → Option (List Kind)
+Table = ℕ → Option (List CellKind)
 
 -- The table has kinds at the place, and these are within them, one by one.
-abbrev pub Enters : Table → ℕ → List Kind → Type 0
-Enters table place kinds = (most : List Kind) × (table place ≡ Some most) × AreWithin kinds most
+abbrev pub Enters : Table → ℕ → List CellKind → Type 0
+Enters table place kinds = (most : List CellKind) × (table place ≡ Some most) × AreWithin kinds most
 
 -- The instruction at the place is allowed on these kinds, and what it gives enters each of its
 -- successors.
-pub record IsAllowed (image : Image) (table : Table) (place : ℕ) (kinds : List Kind) : Type 0 where
+pub record IsAllowed (image : Image) (table : Table) (place : ℕ) (kinds : List CellKind)
+    : Type 0 where
   pub instr : Instr
   pub next : ℕ
-  pub after : List Kind
+  pub after : List CellKind
   pub here : instr_at image.code place ≡ Some (instr, next)
   pub effect : effect (slot_types image) (length image.timers) instr kinds ≡ Some after
   pub enters : (to : ℕ) → LeadsTo instr next to → Enters table to after
@@ -67,10 +68,13 @@ pub record IsAllowed (image : Image) (table : Table) (place : ℕ) (kinds : List
 pub record Agrees (image : Image) (table : Table) : Type 0 where
   pub starts : table 0 ≡ Some []
   pub places : (place : ℕ) → IsSome (table place) ↔ IsPlace image.code place
-  pub allowed : (place : ℕ) (kinds : List Kind) → table place ≡ Some kinds → IsAllowed image table place kinds
-  pub room : (place : ℕ) (kinds : List Kind) → table place ≡ Some kinds → length kinds ≤ 32
-  pub reached : (place : ℕ) → IsPlace image.code place → place ≢ 0 → (from : ℕ) × IsPlace image.code from × IsSuccessor image.code from place
+  pub allowed : (place : ℕ) (kinds : List CellKind) → table place ≡ Some kinds
+      → IsAllowed image table place kinds
+  pub room : (place : ℕ) (kinds : List CellKind) → table place ≡ Some kinds → length kinds ≤ 32
+  pub reached : (place : ℕ) → IsPlace image.code place → place ≢ 0
+      → (from : ℕ) × IsPlace image.code from × IsSuccessor image.code from place
 
+-- Some table agrees with the image's code.
 abbrev pub HasTable : Image → Type 0
 HasTable image = (table : Table) × Agrees image table
 

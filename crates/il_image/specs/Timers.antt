@@ -2,12 +2,14 @@
 use Rattle.std.specs.Prelude.{ℕ, ◌≡◌, ◌-◌, ◌<◌, ◌≤◌, ◌⊎◌, Bool, true, false, List, [], ◌∷◌, ◌++◌, min, nat_le, nat_lt}
 use Rattle.il_image.specs.declared.timer.TimerPhase.{TimerPhase}
 use Rattle.il_image.specs.declared.timer.TimerPhase.TheVariants.{Idle, Held, Since}
-use Rattle.il_image.specs.declared.timer.Timer.{Timer}
-use Rattle.il_image.specs.declared.timer.TimerKind.{TimerKind}
-use Rattle.il_image.specs.declared.timer.TimerKind.TheVariants.{OnDelay, OffDelay}
+use Rattle.il_image.specs.declared.timer.TimerState.{TimerState}
+use Rattle.bay_base.specs.declared.types.TimerKind.{TimerKind}
+use Rattle.bay_base.specs.declared.types.TimerKind.TheVariants.{OnDelay, OffDelay}
 
-abbrev pub first_state : TimerKind → Timer
-first_state kind = record { kind = kind; input = false; preset = 0; phase = Idle; output = false; elapsed = 0 }
+-- a timer before its first call
+abbrev pub first_state : TimerKind → TimerState
+first_state kind =
+    record { kind = kind; input = false; preset = 0; phase = Idle; output = false; elapsed = 0 }
 
 -- the phase after a call with this IN at the moment m
 abbrev pub phase_after : TimerKind → Bool → TimerPhase → ℕ → TimerPhase
@@ -34,27 +36,35 @@ elapsed_of preset Held m = 0
 elapsed_of preset (Since start) m = min (m - start) preset
 
 -- one call at the moment m, with the IN and PT that the timer holds
-abbrev pub called : Timer → ℕ → Timer
+abbrev pub called : TimerState → ℕ → TimerState
 called t m =
     let phase = phase_after t.kind t.input t.phase m in
-    record t { phase = phase; output = output_of t.kind t.preset phase m; elapsed = elapsed_of t.preset phase m }
+    record t {
+      phase = phase;
+      output = output_of t.kind t.preset phase m;
+      elapsed = elapsed_of t.preset phase m;
+    }
 
 -- ---- lists of calls
 
+-- one call: IN, PT in milliseconds, and its moment
 pub record Call : Type 0 where
   pub input : Bool
   pub preset : ℕ
   pub moment : ℕ
 
 -- a timer after calls, the last of them first in the list
-abbrev pub after : TimerKind → List Call → Timer
+abbrev pub after : TimerKind → List Call → TimerState
 after kind [] = first_state kind
-after kind (c ∷ earlier) = called (record (after kind earlier) { input = c.input; preset = c.preset }) c.moment
+after kind (c ∷ earlier) =
+    called (record (after kind earlier) { input = c.input; preset = c.preset }) c.moment
 
+-- Each of the calls has this IN.
 abbrev pub AllHave : Bool → List Call → Type 0
 AllHave input [] = Unit {0}
 AllHave input (c ∷ earlier) = (c.input ≡ input) × AllHave input earlier
 
+-- One of the calls has this IN.
 abbrev pub SomeHas : Bool → List Call → Type 0
 SomeHas input [] = ⊥
 SomeHas input (c ∷ earlier) = (c.input ≡ input) ⊎ SomeHas input earlier

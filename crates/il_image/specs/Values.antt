@@ -5,6 +5,7 @@ use Rattle.bay_base.specs.declared.types.ElementaryType.TheVariants as elementar
 use Rattle.il_image.specs.declared.value.Value.{Value}
 use Rattle.il_image.specs.declared.value.Value.TheVariants.{Truth, Short, Long, Wide, Span}
 
+-- the type of a value
 abbrev pub type_of : Value → ElementaryType
 type_of (Truth b) = elementary.Bool
 type_of (Short z) = elementary.Int
@@ -20,12 +21,22 @@ number_of (Long z) = z
 number_of (Wide z) = z
 number_of (Span n) = pos n
 
+-- what a value of the type is where none is given: FALSE, 0, or T#0ms
+abbrev pub default_value : ElementaryType → Value
+default_value elementary.Bool = Truth false
+default_value elementary.Int = Short (pos 0)
+default_value elementary.Dint = Long (pos 0)
+default_value elementary.Lint = Wide (pos 0)
+default_value elementary.Time = Span 0
+
+-- the number is in the range, both ends too
 abbrev pub is_between : ℤ → ℤ → ℤ → Bool
 is_between low high z = int_le low z && int_le z high
 
 -- the values of BOOL
 abbrev pub truth_of : ℤ → Option Value
-truth_of (pos n) = if n == 0 then Some (Truth false) else (if n == 1 then Some (Truth true) else None)
+truth_of (pos n) =
+    if n == 0 then Some (Truth false) else (if n == 1 then Some (Truth true) else None)
 truth_of (negsuc n) = None
 
 -- the values of TIME: 0 to 2,147,483,647 milliseconds
@@ -36,7 +47,11 @@ span_of (negsuc n) = None
 -- the value of a type that has the number, if there is one
 abbrev pub value_of : ElementaryType → ℤ → Option Value
 value_of elementary.Bool z = truth_of z
-value_of elementary.Int z = if is_between (negsuc 0x7FFF) (pos 0x7FFF) z then Some (Short z) else None
-value_of elementary.Dint z = if is_between (negsuc 0x7FFF_FFFF) (pos 0x7FFF_FFFF) z then Some (Long z) else None
-value_of elementary.Lint z = if is_between (negsuc 0x7FFF_FFFF_FFFF_FFFF) (pos 0x7FFF_FFFF_FFFF_FFFF) z then Some (Wide z) else None
+value_of elementary.Int z =
+    if is_between (negsuc 0x7FFF) (pos 0x7FFF) z then Some (Short z) else None
+value_of elementary.Dint z =
+    if is_between (negsuc 0x7FFF_FFFF) (pos 0x7FFF_FFFF) z then Some (Long z) else None
+value_of elementary.Lint z =
+    if is_between (negsuc 0x7FFF_FFFF_FFFF_FFFF) (pos 0x7FFF_FFFF_FFFF_FFFF) z then Some (Wide z)
+    else None
 value_of elementary.Time z = span_of z

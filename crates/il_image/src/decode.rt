@@ -2,22 +2,21 @@
 ghost use Rattle.std.specs.Prelude.{◌≡◌, ◌≤◌, ◌^◌, ◌<◌, length, IsErrOf, IsTrue, MatchResult, None, Some};
 ghost use Rattle.std.specs.List.{list_all};
 ghost use Rattle.bay_base.specs.Exact.{Gives};
+ghost use Rattle.bay_base.specs.Results.{IsRead};
 ghost use Rattle.il_image.specs.Decoding.{TakesMemory, access_of, behind, code_fault, counted_at, decoded, kind_of_octet};
 ghost use Rattle.il_image.specs.Decoding as spec;
 ghost use Rattle.il_image.specs.Images.{mark};
 ghost use Rattle.il_image.specs.Images as spec_images;
-ghost use Rattle.il_image.specs.Reading.{IsRead};
 
 use crate::fault::ImageFault;
 use crate::image::{Image, ImagePoint};
 use crate::opcode::Version;
 use crate::read::{instr_from, number_at, octet_at, value_at};
-use crate::timer::TimerKind;
 use crate::value::Value;
 use crate::write::Size;
 use bay_base::listing::Listing;
 use bay_base::text::Text;
-use bay_base::types::ElementaryType;
+use bay_base::types::{ElementaryType, TimerKind};
 use std::alloc::Global;
 
 // The octets behind the mark.
@@ -140,7 +139,8 @@ fn point_at(
     version: Version,
     octets: &[u8],
 ) -> Result<(ImagePoint, &[u8]), ImageFault>
-    ensures { Gives ImageFault.OutOfMemory (λ r. (r.0, r.1.now)) result (spec.point_at version octets.now) }
+    ensures { Gives ImageFault.OutOfMemory (λ r. (r.0, r.1.now)) result
+        (spec.point_at version octets.now) }
 {
     let (elementary, rest) = type_at(version, octets)?;
     let (writable, rest) = access_at(rest)?;
@@ -197,7 +197,8 @@ fn points_at(
     version: Version,
     octets: &[u8],
 ) -> Result<(Listing<ImagePoint>, &[u8]), ImageFault>
-    ensures read { Gives ImageFault.OutOfMemory (λ r. (r.0, r.1.now)) result (counted_at (spec.point_at version) octets.now) }
+    ensures read { Gives ImageFault.OutOfMemory (λ r. (r.0, r.1.now)) result
+        (counted_at (spec.point_at version) octets.now) }
     ensures memory { IsErrOf result ImageFault.OutOfMemory → 2 ≤ length octets.now }
 {
     let (count, mut rest) = number_at(octets)?;
@@ -216,7 +217,8 @@ fn variables_at(
     version: Version,
     octets: &[u8],
 ) -> Result<(Listing<Value>, &[u8]), ImageFault>
-    ensures { Gives ImageFault.OutOfMemory (λ r. (r.0, r.1.now)) result (counted_at (spec.variable_at version) octets.now) }
+    ensures { Gives ImageFault.OutOfMemory (λ r. (r.0, r.1.now)) result
+        (counted_at (spec.variable_at version) octets.now) }
 {
     let (count, mut rest) = number_at(octets)?;
     let mut variables = Vec::new(alloc);
@@ -234,7 +236,8 @@ fn timers_at(
     version: Version,
     octets: &[u8],
 ) -> Result<(Listing<TimerKind>, &[u8]), ImageFault>
-    ensures { Gives ImageFault.OutOfMemory (λ r. (r.0, r.1.now)) result (counted_at (spec.timer_at version) octets.now) }
+    ensures { Gives ImageFault.OutOfMemory (λ r. (r.0, r.1.now)) result
+        (counted_at (spec.timer_at version) octets.now) }
 {
     let (count, mut rest) = number_at(octets)?;
     let mut timers = Vec::new(alloc);
@@ -248,7 +251,8 @@ fn timers_at(
 
 // Refuses octets that are not instructions one behind the other.
 fn check_code(version: Version, code: &[u8]) -> Result<(), ImageFault>
-    ensures { MatchResult result (λ _. code_fault version (length code.now) code.now ≡ None) (λ fault. code_fault version (length code.now) code.now ≡ Some fault) }
+    ensures { MatchResult result (λ _. code_fault version (length code.now) code.now ≡ None)
+        (λ fault. code_fault version (length code.now) code.now ≡ Some fault) }
 {
     let mut rest = code;
     while rest.len() > 0 {

@@ -5,10 +5,9 @@ ghost use Rattle.il_image.specs.Images as spec;
 
 use crate::image::{Image, ImagePoint};
 use crate::opcode::Version;
-use crate::timer::TimerKind;
 use crate::value::Value;
 use crate::write::{Size, push_number, push_octet, push_signed};
-use bay_base::types::ElementaryType;
+use bay_base::types::{ElementaryType, TimerKind};
 use std::alloc::{AllocError, Global};
 
 // The octet of a type.
@@ -61,7 +60,8 @@ fn push_variable(octets: &mut Vec<u8>, value: Value) -> Result<(), AllocError>
 // Appends the variables behind their count.
 fn push_variables(octets: &mut Vec<u8>, values: &[Value]) -> Result<(), AllocError>
     requires { length values.now ≤ 65_535 }
-    ensures { OnOk result (octets.new.items ≡ octets.old.items ++ counted (variable_octets Version.Two) values.now) }
+    ensures { OnOk result (octets.new.items
+        ≡ octets.old.items ++ counted (variable_octets Version.Two) values.now) }
 {
     push_number(octets, values.len() as u16)?;
     for value in values {
@@ -83,7 +83,8 @@ fn push_timer(octets: &mut Vec<u8>, kind: TimerKind) -> Result<(), AllocError>
 // Appends the timers behind their count.
 fn push_timers(octets: &mut Vec<u8>, kinds: &[TimerKind]) -> Result<(), AllocError>
     requires { length kinds.now ≤ 65_535 }
-    ensures { OnOk result (octets.new.items ≡ octets.old.items ++ counted (timer_octets Version.Two) kinds.now) }
+    ensures { OnOk result (octets.new.items
+        ≡ octets.old.items ++ counted (timer_octets Version.Two) kinds.now) }
 {
     push_number(octets, kinds.len() as u16)?;
     for kind in kinds {

@@ -1,11 +1,10 @@
 // Images: compiled code with the points, variables and timers that it uses.
 ghost use Rattle.std.specs.Prelude.{◌≡◌};
 
-use crate::timer::TimerKind;
 use crate::value::Value;
 use bay_base::listing::Listing;
 use bay_base::text::Text;
-use bay_base::types::ElementaryType;
+use bay_base::types::{ElementaryType, TimerKind};
 use std::marker::Model;
 
 /// A point that the code reads, or reads and writes.
@@ -35,9 +34,15 @@ impl Model for Image {
 
     ghost Value = { Image };
 
-    ghost view = { λ i. record { points = i.points; variables = i.variables; timers = i.timers; code = i.code } };
+    ghost view = { λ i. record {
+      points = i.points;
+      variables = i.variables;
+      timers = i.timers;
+      code = i.code;
+    } };
 
-    ghost invariant = { λ i. IsImage (record { points = i.points; variables = i.variables; timers = i.timers; code = i.code }) };
+    ghost invariant = { λ i. IsImage
+        (record { points = i.points; variables = i.variables; timers = i.timers; code = i.code }) };
 }
 
 impl Image {
@@ -50,8 +55,10 @@ impl Image {
         timers: Listing<TimerKind>,
         code: Listing<u8>,
     ) -> Self
-        requires { IsImage (record { points = points; variables = variables; timers = timers; code = code }) }
-        ensures { result ≡ record { points = points; variables = variables; timers = timers; code = code } }
+        requires { IsImage
+            (record { points = points; variables = variables; timers = timers; code = code }) }
+        ensures { result ≡ record
+            { points = points; variables = variables; timers = timers; code = code } }
     {
         Image {
             points,

@@ -8,7 +8,7 @@ use bay_base::types::ElementaryType;
 /// What is known of a value on the operand stack. That a number is not zero says more than its
 /// type, and a type more than nothing.
 #[derive(Clone, Copy, PartialEq, Eq)]
-pub enum Kind {
+pub enum CellKind {
     /// Some value.
     Any,
     /// A value of the type.
@@ -18,20 +18,20 @@ pub enum Kind {
 }
 
 /// Whether each value of the kind `lower` is one of the kind `upper`.
-pub fn is_within(lower: Kind, upper: Kind) -> bool
+pub fn is_within(lower: CellKind, upper: CellKind) -> bool
     ensures { result ≡ spec.is_within lower upper }
 {
     match (lower, upper) {
-        (_, Kind::Any) => true,
-        (Kind::Plain(first), Kind::Plain(second)) => first == second,
-        (Kind::NotZero(width), Kind::Plain(elementary)) => width.elementary() == elementary,
-        (Kind::NotZero(first), Kind::NotZero(second)) => first == second,
+        (_, CellKind::Any) => true,
+        (CellKind::Plain(first), CellKind::Plain(second)) => first == second,
+        (CellKind::NotZero(width), CellKind::Plain(elementary)) => width.elementary() == elementary,
+        (CellKind::NotZero(first), CellKind::NotZero(second)) => first == second,
         _ => false,
     }
 }
 
 /// The least kind above both.
-pub fn join(first: Kind, second: Kind) -> Kind
+pub fn join(first: CellKind, second: CellKind) -> CellKind
     ensures { result ≡ spec.join first second }
 {
     if is_within(first, second) {
@@ -40,5 +40,5 @@ pub fn join(first: Kind, second: Kind) -> Kind
     if is_within(second, first) {
         return first;
     }
-    Kind::Any
+    CellKind::Any
 }

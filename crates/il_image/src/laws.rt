@@ -9,36 +9,42 @@ ghost use Rattle.il_image.specs.Reading.{StandsAt, instr_at, instr_from};
 ghost use Rattle.il_image.specs.Spelling.{IsInstr, spelling};
 ghost use Rattle.il_image.specs.declared.fault.ImageFault.TheVariants.{BadMagic, BadOpcode, BadVersion, Truncated};
 ghost use Rattle.il_image.specs.declared.instr.Instr.{Instr};
-ghost use Rattle.il_image.specs.declared.kind.Kind.{Kind};
+ghost use Rattle.il_image.specs.declared.kind.CellKind.{CellKind};
 ghost use Rattle.il_image.specs.declared.value.Value.{Value};
 ghost use Rattle.il_image.specs.declared.opcode.Version.{Version};
 ghost use Rattle.il_image.specs.declared.opcode.Version.TheVariants.{One, Two};
 ghost use Rattle.il_image.specs.Timers.{Call, HasNotPassed, HasPassed, after};
-ghost use Rattle.il_image.specs.declared.timer.TimerKind.TheVariants.{OnDelay, OffDelay};
+ghost use Rattle.bay_base.specs.declared.types.TimerKind.TheVariants.{OnDelay, OffDelay};
 
 /// After any calls, of which the list has the last one first, Q of a TON is TRUE exactly where the
 /// last call has IN TRUE and its PT has passed since the first call of the last unbroken run of
 /// calls with IN TRUE.
 pub fn on_delay_timer()
-    ensures { (last : Call) (earlier : List Call) → IsTrue (after OnDelay (last ∷ earlier)).output ↔ HasPassed last earlier }
+    ensures { (last : Call) (earlier : List Call) → IsTrue (after OnDelay (last ∷ earlier)).output
+        ↔ HasPassed last earlier }
 {}
 
 /// After any calls, of which the list has the last one first, Q of a TOF is TRUE exactly where the
 /// last call has IN TRUE, or an earlier one has and less than the last call's PT has passed since
 /// the first call of the last unbroken run of calls with IN FALSE.
 pub fn off_delay_timer()
-    ensures { (last : Call) (earlier : List Call) → IsTrue (after OffDelay (last ∷ earlier)).output ↔ ((last.input ≡ true) ⊎ HasNotPassed last earlier) }
+    ensures { (last : Call) (earlier : List Call) → IsTrue (after OffDelay (last ∷ earlier)).output
+        ↔ ((last.input ≡ true) ⊎ HasNotPassed last earlier) }
 {}
 
 /// Each instruction has one spelling, which is read back whatever follows it: what is read is
 /// spelled by the front of the octets, and at a place of code stands the one instruction that is
 /// spelled there.
 pub fn one_spelling_of_instructions()
-    ensures written { (i : Instr) (rest : List ℕ) → IsInstr i → instr_from Two (spelling i ++ rest) ≡ Ok (i, rest) }
-    ensures read { (version : Version) (octets : List ℕ) (i : Instr) (rest : List ℕ) → AreOctets octets →
+    ensures written { (i : Instr) (rest : List ℕ) → IsInstr i
+        → instr_from Two (spelling i ++ rest) ≡ Ok (i, rest) }
+    ensures read { (version : Version) (octets : List ℕ) (i : Instr) (rest : List ℕ)
+        → AreOctets octets →
         instr_from version octets ≡ Ok (i, rest) → IsInstr i × (octets ≡ spelling i ++ rest) }
-    ensures newer { (octets : List ℕ) (i : Instr) (rest : List ℕ) → AreOctets octets → instr_from One octets ≡ Ok (i, rest) → instr_from Two octets ≡ Ok (i, rest) }
-    ensures places { (code : List ℕ) (place : ℕ) (i : Instr) (next : ℕ) → AreOctets code → (instr_at code place ≡ Some (i, next)) ↔ StandsAt code place i next }
+    ensures newer { (octets : List ℕ) (i : Instr) (rest : List ℕ) → AreOctets octets
+        → instr_from One octets ≡ Ok (i, rest) → instr_from Two octets ≡ Ok (i, rest) }
+    ensures places { (code : List ℕ) (place : ℕ) (i : Instr) (next : ℕ) → AreOctets code
+        → (instr_at code place ≡ Some (i, next)) ↔ StandsAt code place i next }
 {}
 
 /// The machine goes on at a place exactly where it is that of one of the code's instructions, each
@@ -52,26 +58,34 @@ pub fn a_place_is_told()
 /// version, that are read as the same image are the same.
 pub fn one_spelling_of_images()
     ensures written { (i : Image) → IsImage i → decoded (encoded Two i) ≡ Ok i }
-    ensures read { (octets : List ℕ) (i : Image) → AreOctets octets → decoded octets ≡ Ok i → IsImage i × ((version : Version) × (octets ≡ encoded version i)) }
+    ensures read { (octets : List ℕ) (i : Image) → AreOctets octets → decoded octets ≡ Ok i
+        → IsImage i × ((version : Version) × (octets ≡ encoded version i)) }
     ensures one { (octets others : List ℕ) (i : Image) → AreOctets octets → AreOctets others →
-        decoded octets ≡ Ok i → decoded others ≡ Ok i → slice_index octets 4 ≡ slice_index others 4 → octets ≡ others }
+        decoded octets ≡ Ok i → decoded others ≡ Ok i → slice_index octets 4 ≡ slice_index others 4
+        → octets ≡ others }
 {}
 
 /// The kinds are in order, by the values that they have, and the join of two is the least kind
 /// above both.
 pub fn join_is_least()
-    ensures same { (a : Kind) → IsTrue (is_within a a) }
-    ensures along { (a b c : Kind) → IsTrue (is_within a b) → IsTrue (is_within b c) → IsTrue (is_within a c) }
-    ensures values { (v : Value) (a b : Kind) → IsTrue (is_within a b) → HasKind v a → HasKind v b }
-    ensures above { (a b : Kind) → IsTrue (is_within a (join a b)) × IsTrue (is_within b (join a b)) }
-    ensures least { (a b top : Kind) → IsTrue (is_within a top) → IsTrue (is_within b top) → IsTrue (is_within (join a b) top) }
+    ensures same { (a : CellKind) → IsTrue (is_within a a) }
+    ensures along { (a b c : CellKind) → IsTrue (is_within a b) → IsTrue (is_within b c)
+        → IsTrue (is_within a c) }
+    ensures values { (v : Value) (a b : CellKind) → IsTrue (is_within a b) → HasKind v a
+        → HasKind v b }
+    ensures above { (a b : CellKind)
+        → IsTrue (is_within a (join a b)) × IsTrue (is_within b (join a b)) }
+    ensures least { (a b top : CellKind) → IsTrue (is_within a top) → IsTrue (is_within b top)
+        → IsTrue (is_within (join a b) top) }
 {}
 
 /// What the first octets decide, whatever follows them: another octet among the first four, and
 /// another version behind the mark.
 pub fn first_octets_decide()
-    ensures mark { (octets : List ℕ) (k : ℕ) → k < 4 → k < length octets → (slice_index octets k ≡ slice_index mark k → ⊥) → decoded octets ≡ Err BadMagic }
-    ensures version { (octet : ℕ) (rest : List ℕ) → (octet ≡ 1 → ⊥) → (octet ≡ 2 → ⊥) → decoded (mark ++ octet ∷ rest) ≡ Err BadVersion }
+    ensures mark { (octets : List ℕ) (k : ℕ) → k < 4 → k < length octets
+        → (slice_index octets k ≡ slice_index mark k → ⊥) → decoded octets ≡ Err BadMagic }
+    ensures version { (octet : ℕ) (rest : List ℕ) → (octet ≡ 1 → ⊥) → (octet ≡ 2 → ⊥)
+        → decoded (mark ++ octet ∷ rest) ≡ Err BadVersion }
 {}
 
 /// An image ends where its octets end: with octets behind them, and with some of the last ones
@@ -79,7 +93,9 @@ pub fn first_octets_decide()
 /// type, is the first that is wrong: the octets before it are only cut short, and with it they are
 /// wrong whatever follows.
 pub fn images_end()
-    ensures behind { (octets more : List ℕ) (i : Image) → decoded octets ≡ Ok i → 0 < length more → decoded (octets ++ more) ≡ Err Truncated }
-    ensures front { (octets : List ℕ) (i : Image) (n : ℕ) → decoded octets ≡ Ok i → n < length octets → decoded (take n octets) ≡ Err Truncated }
+    ensures behind { (octets more : List ℕ) (i : Image) → decoded octets ≡ Ok i → 0 < length more
+        → decoded (octets ++ more) ≡ Err Truncated }
+    ensures front { (octets : List ℕ) (i : Image) (n : ℕ) → decoded octets ≡ Ok i
+        → n < length octets → decoded (take n octets) ≡ Err Truncated }
     ensures first { (octets : List ℕ) → decoded octets ≡ Err BadOpcode → IsFirstBad octets }
 {}

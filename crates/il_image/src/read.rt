@@ -1,7 +1,8 @@
 // Readers of one item at the front of octets. Each answers the item and the octets behind it, or
 // the first fault from the left, and takes no memory.
 ghost use Rattle.std.specs.Prelude.{◌≡◌, ◌+◌, ◌<◌, ◌≤◌, IfOk, IfSome, length};
-ghost use Rattle.il_image.specs.Reading.{IsRead, placed};
+ghost use Rattle.bay_base.specs.Results.{IsRead};
+ghost use Rattle.il_image.specs.Reading.{placed};
 ghost use Rattle.il_image.specs.Reading as spec;
 
 use crate::arithmetic::Width;
@@ -125,8 +126,8 @@ pub(crate) fn instr_from(version: Version, octets: &[u8]) -> Result<(Instr, &[u8
     }
 }
 
-// The instruction that stands first in the last octets of code of this length, and the place behind
-// it.
+// The instruction that stands first in the last octets of code of this length, and the offset
+// behind it.
 fn first_of(size: usize, octets: &[u8]) -> Option<(Instr, usize)>
     requires { length octets.now ≤ size }
     ensures { result ≡ placed size (spec.instr_from Version.Two octets.now) }
@@ -137,13 +138,13 @@ fn first_of(size: usize, octets: &[u8]) -> Option<(Instr, usize)>
     }
 }
 
-/// The instruction that stands at a place of the code, and the place behind it, if there is one.
-pub fn instr_at(code: &[u8], place: usize) -> Option<(Instr, usize)>
-    ensures value { result ≡ spec.instr_at code.now place }
-    ensures forward { IfSome result (λ r. (place < r.1) × (r.1 ≤ length code.now)) }
+/// The instruction that stands at an offset in the code, and the offset behind it, if there is one.
+pub fn instr_at(code: &[u8], offset: usize) -> Option<(Instr, usize)>
+    ensures value { result ≡ spec.instr_at code.now offset }
+    ensures forward { IfSome result (λ r. (offset < r.1) × (r.1 ≤ length code.now)) }
 {
-    if place >= code.len() {
+    if offset >= code.len() {
         return None;
     }
-    first_of(code.len(), &code[place..])
+    first_of(code.len(), &code[offset..])
 }

@@ -4,14 +4,7 @@ ghost use Rattle.std.specs.Prelude.{◌≡◌};
 ghost use Rattle.il_image.specs.Timers.{called, first_state, phase_after};
 ghost use Rattle.il_image.specs.Timers as spec;
 
-/// A kind of timer.
-#[derive(Clone, Copy, Debug, PartialEq, Eq)]
-pub enum TimerKind {
-    /// TON: Q follows a TRUE of IN after the time PT.
-    OnDelay,
-    /// TOF: Q follows a FALSE of IN after the time PT.
-    OffDelay,
-}
+use bay_base::types::TimerKind;
 
 /// Where a timer stands in its delay.
 #[derive(Clone, Copy)]
@@ -27,7 +20,7 @@ pub enum TimerPhase {
 
 /// A timer: what its next call finds, and what its last call gave.
 #[derive(Clone, Copy)]
-pub struct Timer {
+pub struct TimerState {
     pub kind: TimerKind,
     /// IN.
     pub input: bool,
@@ -93,12 +86,12 @@ fn elapsed_of(preset: u32, phase: TimerPhase, now: u64) -> u32
     }
 }
 
-impl Timer {
+impl TimerState {
     /// A timer before its first call: IN and Q are FALSE, PT and ET are 0.
-    pub fn new(kind: TimerKind) -> Timer
+    pub fn new(kind: TimerKind) -> TimerState
         ensures { result ≡ first_state kind }
     {
-        Timer {
+        TimerState {
             kind,
             input: false,
             preset: 0,

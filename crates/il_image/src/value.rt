@@ -1,6 +1,6 @@
 // Values of the elementary types, and the numbers that they have.
 ghost use Rattle.std.specs.Prelude.{◌≡◌};
-ghost use Rattle.il_image.specs.Values.{number_of, value_of};
+ghost use Rattle.il_image.specs.Values.{default_value, number_of, value_of};
 ghost use Rattle.il_image.specs.Values as spec;
 
 use bay_base::types::ElementaryType;
@@ -44,6 +44,19 @@ impl Value {
             Value::Long(number) => i64::from(number),
             Value::Wide(number) => number,
             Value::Span(milliseconds) => i64::from(milliseconds),
+        }
+    }
+
+    /// The value of a type where none is given: FALSE, 0, or `T#0ms` (IEC 61131-3:2003, table 13).
+    pub fn default_of(elementary: ElementaryType) -> Value
+        ensures { result ≡ default_value elementary }
+    {
+        match elementary {
+            ElementaryType::Bool => Value::Truth(false),
+            ElementaryType::Int => Value::Short(0),
+            ElementaryType::Dint => Value::Long(0),
+            ElementaryType::Lint => Value::Wide(0),
+            ElementaryType::Time => Value::Span(0),
         }
     }
 

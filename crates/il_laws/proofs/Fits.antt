@@ -26,7 +26,7 @@ use Rattle.il_image.specs.declared.instr.Instr.{Instr}
 use Rattle.il_image.specs.declared.instr.Instr.TheVariants.{Halt, Push, Drop, Slot, Not, Combine, Compute, Compare, Widen, Jump, Timer}
 use Rattle.il_image.specs.declared.opcode.SlotUse.TheVariants.{Load, Store, SetIf, ResetIf}
 use Rattle.il_image.proofs.KindLemmas.{same_is, same_self}
-use Rattle.il_check.specs.Checking.{checked_of, checked_program, faults_of, start}
+use Rattle.il_check.specs.Checking.{checked_of, checked_program, faults_of, initial_standing}
 use Rattle.il_check.specs.Declaring.{declaration_faults, declarations_faults, external_at, external_in, externals_of, is_typed, names_in, point_of as declared_point, is_name}
 use Rattle.il_check.specs.Faults.{fault_if, least_fault}
 use Rattle.il_check.specs.Program.{Checked}
@@ -44,7 +44,6 @@ use Rattle.il_verify.specs.Slots.{point_slot, slots_of, variable_slot}
 use Rattle.il_verify.specs.Verdicts.{IsVerified, KeepsReadOnly}
 use Rattle.il_compile.specs.Code.{program_code}
 use Rattle.il_compile.specs.Compiled.{compiled_of, image_of, image_size, point_of}
-use Rattle.il_compile.specs.Senses.{timer_of}
 use Rattle.il_compile.specs.declared.fault.CompileFault.TheVariants.{CodeTooLong}
 use Rattle.il_compile.proofs.SizeLemmas.{size_is}
 use Rattle.il_compile.proofs.Spellable.{program_are}
@@ -79,7 +78,8 @@ IsBound points e = list_any (λ b. is_point (point_of e) b) points ≡ true
 some_same : {A : Type 0} (x y : A) → Some x ≡ Some y → x ≡ y
 some_same x y e = cc
 
-found_holds : (test : Point → Bool) (points : List Point) (p : Point) → find test points ≡ Some p → test p ≡ true
+found_holds : (test : Point → Bool) (points : List Point) (p : Point) → find test points ≡ Some p
+    → test p ≡ true
 found_holds test [] p e = absurd cc
 found_holds test (q ∷ points) p e =
     elim (test q) as (λ b. test q ≡ b → cond b (Some q) (find test points) ≡ Some p → test p ≡ true) [
@@ -87,11 +87,15 @@ found_holds test (q ∷ points) p e =
       | false ↦ (λ t g. found_holds test points p g)
     ] refl e
 
-found_any : (test other : Point → Bool) (points : List Point) (p : Point) → find test points ≡ Some p → other p ≡ true → list_any other points ≡ true
+found_any : (test other : Point → Bool) (points : List Point) (p : Point)
+    → find test points ≡ Some p → other p ≡ true → list_any other points ≡ true
 found_any test other [] p e h = absurd cc
 found_any test other (q ∷ points) p e h =
-    elim (test q) as (λ b. cond b (Some q) (find test points) ≡ Some p → other q || list_any other points ≡ true) [
-      | true ↦ (λ g. (let same : q ≡ p = some_same q p g in ap (λ b. b || list_any other points) (ap other same ∙ h)))
+    elim (test q) as (λ b. cond b (Some q) (find test points) ≡ Some p
+    → other q || list_any other points ≡ true) [
+      | true ↦
+          (λ g. (let same : q ≡ p = some_same q p g in
+          ap (λ b. b || list_any other points) (ap other same ∙ h)))
       | false ↦ (λ g. either (other q) (list_any other points) (found_any test other points p g h))
     ] e
 
@@ -108,31 +112,46 @@ unfolding same_name
 same_self_name a = (bytes_eq-Decides (upper a) (upper a)).1 refl
 
 -- what is found for a name alone
-of_a_name : (b : Bool) (o : Option Point) (p : Point) → (if b then o else None) ≡ Some p → o ≡ Some p
+of_a_name : (b : Bool) (o : Option Point) (p : Point) → (if b then o else None) ≡ Some p
+    → o ≡ Some p
 of_a_name true o p e = e
 of_a_name false o p e = absurd cc
 
 -- the name of an external is its point's, in upper case
 named_so : (name other : List ℕ) → same_name other name ≡ true → same_name (upper name) other ≡ true
 unfolding same_name
-named_so name other h = (bytes_eq-Decides (upper (upper name)) (upper other)).1 (upper-upper name ∙ sym (same_upper other name h))
+named_so name other h =
+    (bytes_eq-Decides (upper (upper name)) (upper other)).1
+    (upper-upper name ∙ sym (same_upper other name h))
 
-bound_at : (points : List Point) (name : List ℕ) (kind : ElementaryType) (o : Option Point) (es : List External) → declared_point points name ≡ o
-    → is_typed scope.External (type.Elementary kind) o None ≡ true → Each (IsBound points) es → Each (IsBound points) (cons_option (external_at name kind o) es)
+bound_at : (points : List Point) (name : List ℕ) (kind : ElementaryType) (o : Option Point)
+    (es : List External) → declared_point points name ≡ o
+    → is_typed scope.External (type.Elementary kind) o None ≡ true → Each (IsBound points) es
+    → Each (IsBound points) (cons_option (external_at name kind o) es)
 bound_at points name kind None es e t rest = rest
 bound_at points name kind (Some p) es e t rest =
-    let e : find (λ q. same_name q.name name) points ≡ Some p = of_a_name (is_name name) (find (λ q. same_name q.name name) points) p e in
-    let named : same_name (upper name) p.name ≡ true = named_so name p.name (found_holds (λ q. same_name q.name name) points p e) in
-    let typed : same_type kind p.kind ≡ true = subst (λ k. same_type kind k ≡ true) (sym (same_is p.kind kind t)) (same_self kind) in (
-      found_any (λ q. same_name q.name name) (λ b. is_point (point_of (record { name = upper name; kind = kind; writable = p.writable; source = p.source })) b) points p e
-          (both (same_name (upper name) p.name) (same_type kind p.kind && beq p.writable p.writable) named
+    let e : find (λ q. same_name q.name name) points ≡ Some p =
+    of_a_name (is_name name) (find (λ q. same_name q.name name) points) p e in
+    let named : same_name (upper name) p.name ≡ true =
+    named_so name p.name (found_holds (λ q. same_name q.name name) points p e) in
+    let typed : same_type kind p.kind ≡ true =
+    subst (λ k. same_type kind k ≡ true) (sym (same_is p.kind kind t)) (same_self kind) in (
+      found_any (λ q. same_name q.name name)
+          (λ b. is_point (point_of
+          (record { name = upper name; kind = kind; writable = p.writable; source = p.source })) b)
+          points p e
+          (both (same_name (upper name) p.name) (same_type kind p.kind && beq p.writable p.writable)
+          named
           (both (same_type kind p.kind) (beq p.writable p.writable) typed (equal_self p.writable))),
       rest,
     )
 
-bound_in : (points : List Point) (d : text.Declared) (s : Scope) (k : DeclaredType) (given : Option Literal) (es : List External)
-    → is_typed s k (declared_point points d.name) given ≡ true → Each (IsBound points) es → Each (IsBound points) (cons_option (external_in points d s k) es)
-bound_in points d scope.External (type.Elementary kind) given es t rest = bound_at points d.name kind (declared_point points d.name) es refl t rest
+bound_in : (points : List Point) (d : text.Declared) (s : Scope) (k : DeclaredType)
+    (given : Option Literal) (es : List External)
+    → is_typed s k (declared_point points d.name) given ≡ true → Each (IsBound points) es
+    → Each (IsBound points) (cons_option (external_in points d s k) es)
+bound_in points d scope.External (type.Elementary kind) given es t rest =
+    bound_at points d.name kind (declared_point points d.name) es refl t rest
 bound_in points d scope.External (type.Timer kind) given es t rest = rest
 bound_in points d scope.Local (type.Elementary kind) given es t rest = rest
 bound_in points d scope.Local (type.Timer kind) given es t rest = rest
@@ -145,17 +164,23 @@ not_not : (b : Bool) → not b ≡ false → b ≡ true
 not_not true e = refl
 not_not false e = absurd cc
 
-all_bound : (points : List Point) (before ds : List text.Declared) → declarations_faults points before ds ≡ [] → Each (IsBound points) (externals_of points ds)
+all_bound : (points : List Point) (before ds : List text.Declared)
+    → declarations_faults points before ds ≡ [] → Each (IsBound points) (externals_of points ds)
 all_bound points before [] none = tt
 all_bound points before (d ∷ ds) none =
-    let two = append-none (declaration_faults points before d) (declarations_faults points (before ++ d ∷ []) ds) none in
+    let two =
+    append-none (declaration_faults points before d)
+    (declarations_faults points (before ++ d ∷ []) ds) none in
     let typed : is_typed d.scope d.kind (declared_point points d.name) d.initial ≡ true =
     not_not _ (no_fault _ _ (append-none _ _ (append-none _ _ (append-none _ _ two.0).1).1).0) in
-    bound_in points d d.scope d.kind d.initial (externals_of points ds) typed (all_bound points (before ++ d ∷ []) ds two.1)
+    bound_in points d d.scope d.kind d.initial (externals_of points ds) typed
+    (all_bound points (before ++ d ∷ []) ds two.1)
 
 -- ---- no name stands twice
 
-none_alike : (name : List ℕ) (es : List External) (ns : List (List ℕ)) → ((j : ℕ) → j < length (map (λ e. e.name) es ++ ns) → same_name name (name_at (map (λ e. e.name) es ++ ns) j) ≡ false)
+none_alike : (name : List ℕ) (es : List External) (ns : List (List ℕ))
+    → ((j : ℕ) → j < length (map (λ e. e.name) es ++ ns)
+    → same_name name (name_at (map (λ e. e.name) es ++ ns) j) ≡ false)
     → list_any (λ q. bytes_eq q.name name) (map point_of es) ≡ false
 none_alike name [] ns h = refl
 none_alike name (e ∷ es) ns h =
@@ -163,18 +188,25 @@ none_alike name (e ∷ es) ns h =
     (not_true (bytes_eq e.name name) (λ t.
     (let same : e.name ≡ name = (bytes_eq-Decides e.name name).0 t in
     let first : same_name name e.name ≡ false = h 0 (omega arith) in
-    clash (same_name name name) (same_self_name name) (subst (λ x. same_name name x ≡ false) same first))))
+    clash (same_name name name) (same_self_name name)
+    (subst (λ x. same_name name x ≡ false) same first))))
     (none_alike name es ns (λ j lt. h (suc j) (omega arith)))
 
 apart_rest : (x : List ℕ) (xs : List (List ℕ)) → AreApart (x ∷ xs) → AreApart xs
 apart_rest x xs h i j lt within = h (suc i) (suc j) (omega arith) (omega arith)
 
-points_fit : (points : List Point) (es : List External) (ns : List (List ℕ)) → Each (IsBound points) es → AreApart (map (λ e. e.name) es ++ ns) → are_points points (map point_of es) ≡ true
+points_fit : (points : List Point) (es : List External) (ns : List (List ℕ))
+    → Each (IsBound points) es → AreApart (map (λ e. e.name) es ++ ns)
+    → are_points points (map point_of es) ≡ true
 points_fit points [] ns h apart = refl
 points_fit points (e ∷ es) ns h apart =
-    let alone : list_any (λ q. bytes_eq q.name e.name) (map point_of es) ≡ false = none_alike e.name es ns (λ j lt. apart 0 (suc j) (omega arith) (omega arith)) in
-    both (list_any (λ b. is_point (point_of e) b) points && not (list_any (λ q. bytes_eq q.name e.name) (map point_of es))) (are_points points (map point_of es))
-    (both (list_any (λ b. is_point (point_of e) b) points) (not (list_any (λ q. bytes_eq q.name e.name) (map point_of es))) h.0 (ap not alone))
+    let alone : list_any (λ q. bytes_eq q.name e.name) (map point_of es) ≡ false =
+    none_alike e.name es ns (λ j lt. apart 0 (suc j) (omega arith) (omega arith)) in
+    both (list_any (λ b. is_point (point_of e) b) points
+    && not (list_any (λ q. bytes_eq q.name e.name) (map point_of es)))
+    (are_points points (map point_of es))
+    (both (list_any (λ b. is_point (point_of e) b) points)
+    (not (list_any (λ q. bytes_eq q.name e.name) (map point_of es))) h.0 (ap not alone))
     (points_fit points es ns h.1 (apart_rest e.name (map (λ x. x.name) es ++ ns) apart))
 
 -- ---- what is known of a checked program
@@ -186,25 +218,36 @@ passed : (o : Option CheckFault) (x c : Checked) → judged o x ≡ Ok c → (o 
 passed None x c e = (refl, ok_same x c e)
 passed (Some f) x c e = absurd cc
 
-image_fits : (points : List Point) (c : Checked) → IsTyped c → are_points points (map point_of c.externals) ≡ true → fits points (image_of c) ≡ true
+image_fits : (points : List Point) (c : Checked) → IsTyped c
+    → are_points points (map point_of c.externals) ≡ true → fits points (image_of c) ≡ true
 unfolding fits
 image_fits points c ok h =
     let s = ok.slots in
     let t = ok.timers in
     let a = length-map c.externals point_of in
     let b = length-map c.variables (λ v. v.initial) in
-    let d = length-map c.timers (λ x. timer_of x.kind) in
-    both (nat_le (length (map point_of c.externals) + length (map (λ v. v.initial) c.variables)) 512 && nat_le (length (map (λ x. timer_of x.kind) c.timers)) 64) (are_points points (map point_of c.externals))
-    (both (nat_le (length (map point_of c.externals) + length (map (λ v. v.initial) c.variables)) 512) (nat_le (length (map (λ x. timer_of x.kind) c.timers)) 64)
-    (le-leb (length (map point_of c.externals) + length (map (λ v. v.initial) c.variables)) 512 (omega arith)) (le-leb (length (map (λ x. timer_of x.kind) c.timers)) 64 (omega arith))) h
+    let d = length-map c.timers (λ x. x.kind) in
+    both (nat_le (length (map point_of c.externals) + length (map (λ v. v.initial) c.variables)) 512
+    && nat_le (length (map (λ x. x.kind) c.timers)) 64)
+    (are_points points (map point_of c.externals))
+    (both (nat_le (length (map point_of c.externals) + length (map (λ v. v.initial) c.variables))
+    512) (nat_le (length (map (λ x. x.kind) c.timers)) 64)
+    (le-leb (length (map point_of c.externals) + length (map (λ v. v.initial) c.variables)) 512
+    (omega arith)) (le-leb (length (map (λ x. x.kind) c.timers)) 64 (omega arith))) h
 
-checked_fits : (points : List Point) (program : text.PlainProgram) (c : Checked) → checked_of points program ≡ Ok c → IsTyped c → fits points (image_of c) ≡ true
+checked_fits : (points : List Point) (program : text.PlainProgram) (c : Checked)
+    → checked_of points program ≡ Ok c → IsTyped c → fits points (image_of c) ≡ true
 checked_fits points program c e ok =
     let p = passed (least_fault (faults_of points program)) (checked_program points program) c e in
-    let none = (append-none (declarations_faults points [] program.declarations) (items_faults (names_in points program) program.items (start program)) (least_fault-none (faults_of points program) p.0)).0 in
+    let none =
+    (append-none (declarations_faults points [] program.declarations)
+    (items_faults (names_in points program) program.items (initial_standing program))
+    (least_fault-none (faults_of points program) p.0)).0 in
     image_fits points c ok
     (subst (λ x. are_points points (map point_of x.externals) ≡ true) p.1
-    (points_fit points (externals_of points program.declarations) _ (all_bound points [] program.declarations none) (all_apart points program.declarations none)))
+    (points_fit points (externals_of points program.declarations) _
+    (all_bound points [] program.declarations none)
+    (all_apart points program.declarations none)))
 
 -- ---- what the code writes
 
@@ -213,8 +256,10 @@ map_both f [] ys = refl
 map_both f (x ∷ xs) ys = ap (λ l. f x ∷ l) (map_both f xs ys)
 
 -- a slot that may be written is none that may only be read
-not_fixed : (es : List External) (vs : List Variable) (n : ℕ) → slice_get (map (λ e. e.writable) es ++ map (λ v. true) vs) n ≡ Some true
-    → is_read_only (map point_slot (map point_of es) ++ map variable_slot (map (λ v. v.initial) vs)) n ≡ false
+not_fixed : (es : List External) (vs : List Variable) (n : ℕ)
+    → slice_get (map (λ e. e.writable) es ++ map (λ v. true) vs) n ≡ Some true
+    → is_read_only (map point_slot (map point_of es) ++ map variable_slot (map (λ v. v.initial) vs))
+    n ≡ false
 not_fixed [] [] n h = refl
 not_fixed [] (v ∷ vs) zero h = refl
 not_fixed [] (v ∷ vs) (suc n) h = not_fixed [] vs n h
@@ -222,7 +267,8 @@ not_fixed (e ∷ es) vs zero h = (let w : e.writable ≡ true = some_same e.writ
 not_fixed (e ∷ es) vs (suc n) h = not_fixed es vs n h
 
 module _ (c : Checked) where
-  may_be_written : (n : ℕ) → slice_get (writable c) n ≡ Some true → is_read_only (slots_of (image_of c)) n ≡ false
+  may_be_written : (n : ℕ) → slice_get (writable c) n ≡ Some true
+      → is_read_only (slots_of (image_of c)) n ≡ false
   unfolding slots_of
   may_be_written n h = not_fixed c.externals c.variables n h
 
@@ -247,12 +293,19 @@ module _ (c : Checked) where
 
 -- ---- all of it
 
-short : (c : Checked) (image : Image) → compiled_of c ≡ Ok image → (image_size c ≤ 65_535) × (image_of c ≡ image)
+short : (c : Checked) (image : Image) → compiled_of c ≡ Ok image
+    → (image_size c ≤ 65_535) × (image_of c ≡ image)
 short c image e =
-    elim (nat_le (image_size c) 65_535) as (λ b. nat_le (image_size c) 65_535 ≡ b → (if b then Ok (image_of c) else Err CodeTooLong) ≡ Ok image → (image_size c ≤ 65_535) × (image_of c ≡ image))
-    [ true ↦ (λ t g. (leb-true (image_size c) 65_535 t, ok_same (image_of c) image g)) | false ↦ (λ t g. absurd cc) ] refl e
+    elim (nat_le (image_size c) 65_535) as
+    (λ b. nat_le (image_size c) 65_535 ≡ b
+    → (if b then Ok (image_of c) else Err CodeTooLong) ≡ Ok image
+    → (image_size c ≤ 65_535) × (image_of c ≡ image)) [
+      | true ↦ (λ t g. (leb-true (image_size c) 65_535 t, ok_same (image_of c) image g))
+      | false ↦ (λ t g. absurd cc)
+    ] refl e
 
-pub verified : (points : List Point) (program : text.PlainProgram) (c : Checked) → checked_of points program ≡ Ok c → IsTyped c
+pub verified : (points : List Point) (program : text.PlainProgram) (c : Checked)
+    → checked_of points program ≡ Ok c → IsTyped c
     → (image : Image) → compiled_of c ≡ Ok image → IsVerified points image
 verified points program c e ok image compiled =
     let s = short c image compiled in

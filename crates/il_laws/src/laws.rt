@@ -2,7 +2,7 @@
 ghost use Rattle.std.specs.Prelude.{◌≡◌, ℕ, List, Ok};
 ghost use Rattle.bay_config.specs.declared.bay.Point.{Point};
 ghost use Rattle.il_text.specs.Listing as text;
-ghost use Rattle.il_image.specs.declared.timer.Timer.{Timer};
+ghost use Rattle.il_image.specs.declared.timer.TimerState.{TimerState};
 ghost use Rattle.il_image.specs.declared.value.Value.{Value};
 ghost use Rattle.il_check.specs.Checking.{checked_of};
 ghost use Rattle.il_check.specs.Declaring.{names_in};
@@ -13,7 +13,8 @@ ghost use Rattle.il_laws.specs.Verified.{Verifies};
 /// Compiled code verifies: the image of a program that was checked with points fits these points, a
 /// table of kinds agrees with its code, and it writes no point that may only be read.
 pub fn compiled_code_verifies()
-    ensures { (points : List Point) (program : text.PlainProgram) (c : Checked) → checked_of points program ≡ Ok c → Verifies points c }
+    ensures { (points : List Point) (program : text.PlainProgram) (c : Checked)
+        → checked_of points program ≡ Ok c → Verifies points c }
 {}
 
 /// A program's meaning goes by names: in the memory in which each external, variable and timer has
@@ -21,6 +22,7 @@ pub fn compiled_code_verifies()
 /// the map has for this name, and what it writes there changes the map at this name and nowhere
 /// else.
 pub fn meaning_goes_by_names()
-    ensures { (points : List Point) (program : text.PlainProgram) (c : Checked) (values : List ℕ → Value) (timers : List ℕ → Timer) →
+    ensures { (points : List Point) (program : text.PlainProgram) (c : Checked)
+        (values : List ℕ → Value) (timers : List ℕ → TimerState) →
         checked_of points program ≡ Ok c → GoesByNames (names_in points program) c values timers }
 {}

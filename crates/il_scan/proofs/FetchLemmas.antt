@@ -31,7 +31,9 @@ is_ok_of (Err f) x e = absurd cc
 -- ---- numbers that are whole
 
 whole : (n at : ℕ) (code : List ℕ) → at + n ≤ length code → ltb (length (drop at code)) n ≡ false
-whole n at code h = le-ltb (length (drop at code)) n (let d : length (drop at code) ≡ length code - at = length-drop at code in omega arith)
+whole n at code h =
+    le-ltb (length (drop at code)) n
+    (let d : length (drop at code) ≡ length code - at = length-drop at code in omega arith)
 
 -- an operand that is a number of two octets
 pub record Numbered (make : ℕ → Instr) (code : List ℕ) (at n : ℕ) : Type 0 where
@@ -43,82 +45,111 @@ enough make [] h = absurd cc
 enough make (x ∷ []) h = absurd cc
 enough make (x ∷ y ∷ octets) h = omega arith
 
-pub numbered : (make : ℕ → Instr) (code : List ℕ) (at n : ℕ) → at ≤ length code → IsOk (with_number make (drop at code)) → n ≡ from_be_bytes w16 (drop at code) → Numbered make code at n
+pub numbered : (make : ℕ → Instr) (code : List ℕ) (at n : ℕ) → at ≤ length code
+    → IsOk (with_number make (drop at code)) → n ≡ from_be_bytes w16 (drop at code)
+    → Numbered make code at n
 numbered make code at n below h is =
     let two = enough make (drop at code) h in
     let d : length (drop at code) ≡ length code - at = length-drop at code in
     let fits : at + 2 ≤ length code = omega arith in
     record {
-      value = rw (whole 2 at code fits) (ap (λ (xs : List ℕ). Ok (make (from_be_bytes w16 (drop at code)), xs)) (drop-drop 2 at code) ∙ ap (λ (m : ℕ). Ok (make m, drop (at + 2) code)) (sym is));
+      value = rw (whole 2 at code fits)
+          (ap (λ (xs : List ℕ). Ok (make (from_be_bytes w16 (drop at code)), xs))
+          (drop-drop 2 at code) ∙ ap (λ (m : ℕ). Ok (make m, drop (at + 2) code)) (sym is));
       within = fits;
     }
 
-pub signed_there : (t : ElementaryType) (code : List ℕ) (at : ℕ) (z : ℤ) → at + octet_count (size_of t) ≤ length code → z ≡ cast_signed (bits_of_size (size_of t)) (from_be_bytes (bits_of_size (size_of t)) (drop at code))
+pub signed_there : (t : ElementaryType) (code : List ℕ) (at : ℕ) (z : ℤ)
+    → at + octet_count (size_of t) ≤ length code
+    → z ≡ cast_signed (bits_of_size (size_of t))
+    (from_be_bytes (bits_of_size (size_of t)) (drop at code))
     → signed_at (size_of t) (drop at code) ≡ Ok (z, drop (at + octet_count (size_of t)) code)
 signed_there t code at z h is =
     let n = octet_count (size_of t) in
     let w = bits_of_size (size_of t) in
     rw (whole n at code h)
-    (ap (λ (xs : List ℕ). Ok (cast_signed w (from_be_bytes w (drop at code)), xs)) (drop-drop n at code) ∙ ap (λ (x : ℤ). Ok (x, drop (at + n) code)) (sym is))
+    (ap (λ (xs : List ℕ). Ok (cast_signed w (from_be_bytes w (drop at code)), xs))
+    (drop-drop n at code) ∙ ap (λ (x : ℤ). Ok (x, drop (at + n) code)) (sym is))
 
 -- ---- the instruction
 
-operand_is : (o : Opcode) (rest : List ℕ) → instr_from Two (octet_of o ∷ rest) ≡ operand_from Two o rest
+operand_is : (o : Opcode) (rest : List ℕ)
+    → instr_from Two (octet_of o ∷ rest) ≡ operand_from Two o rest
 unfolding instr_from
 operand_is o rest = rw (opcode_back o) refl
 
-behind_first : (code : List ℕ) (place x : ℕ) (xs : List ℕ) → drop place code ≡ x ∷ xs → drop (place + 1) code ≡ xs
+behind_first : (code : List ℕ) (place x : ℕ) (xs : List ℕ) → drop place code ≡ x ∷ xs
+    → drop (place + 1) code ≡ xs
 behind_first code place x xs e = sym (drop-drop 1 place code) ∙ ap (drop 1) e
 
 -- What stands at the place: its opcode's operand, read behind the first octet.
 pub record Found (code : List ℕ) (place : ℕ) (i : Instr) (next : ℕ) : Type 0 where
   pub here : instr_at code place ≡ Some (i, next)
   pub opcode : opcode_of (get_or code place 0) ≡ Some (opcode_of_instr i)
-  pub operand : operand_from Two (opcode_of_instr i) (drop (place + 1) code) ≡ Ok (i, drop next code)
+  pub operand : operand_from Two (opcode_of_instr i) (drop (place + 1) code)
+      ≡ Ok (i, drop next code)
   pub forward : place < next
   pub within : next ≤ length code
 
-pub found_at : (code : List ℕ) (place : ℕ) (i : Instr) (next : ℕ) → AreOctets code → instr_at code place ≡ Some (i, next) → Found code place i next
+pub found_at : (code : List ℕ) (place : ℕ) (i : Instr) (next : ℕ) → AreOctets code
+    → instr_at code place ≡ Some (i, next) → Found code place i next
 found_at code place i next fits e =
     let s = stands code place i next fits e in
     let size : next ≡ place + suc (length (operand_of i)) = s.size in
     record {
       here = e;
       opcode = opcode_there code place 0 i next fits e;
-      operand = ap (operand_from Two (opcode_of_instr i)) (behind_first code place (octet_of (opcode_of_instr i)) (operand_of i ++ drop next code) s.spelled)
-          ∙ sym (operand_is (opcode_of_instr i) (operand_of i ++ drop next code)) ∙ back_instr i (drop next code) s.is_instr;
+      operand =
+          ap (operand_from Two (opcode_of_instr i))
+          (behind_first code place (octet_of (opcode_of_instr i)) (operand_of i ++ drop next code)
+          s.spelled)
+          ∙ sym (operand_is (opcode_of_instr i) (operand_of i ++ drop next code))
+          ∙ back_instr i (drop next code) s.is_instr;
       forward = omega arith;
       within = s.within;
     }
 
-pub found : (code : List ℕ) (place : ℕ) → AreOctets code → IsSome (instr_at code place) → (i : Instr) × (next : ℕ) × Found code place i next
-found code place fits h = let t = there (instr_at code place) h in (t.0.0, t.0.1, found_at code place t.0.0 t.0.1 fits t.1)
+pub found : (code : List ℕ) (place : ℕ) → AreOctets code → IsSome (instr_at code place)
+    → (i : Instr) × (next : ℕ) × Found code place i next
+found code place fits h = let t =
+    there (instr_at code place) h in (t.0.0, t.0.1, found_at code place t.0.0 t.0.1 fits t.1)
 
-module _ (code : List ℕ) (place : ℕ) (fits : AreOctets code) (h : IsSome (instr_at code place)) where
-  pub place_within : place < length code
-  place_within = let f = found code place fits h in let a : place < f.1 = f.2.forward in let b : f.1 ≤ length code = f.2.within in omega arith
+module _ (code : List ℕ) (place : ℕ) (fits : AreOctets code) (h : IsSome (instr_at code place))
+  where
+    pub place_within : place < length code
+    place_within = let f = found code place fits h in let a : place < f.1 =
+        f.2.forward in let b : f.1 ≤ length code = f.2.within in omega arith
 
-  pub no_opcode : opcode_of (get_or code place 0) ≡ None → ⊥
-  no_opcode e = let f = found code place fits h in not_both (opcode_of (get_or code place 0)) (opcode_of_instr f.0) e f.2.opcode
+    pub no_opcode : opcode_of (get_or code place 0) ≡ None → ⊥
+    no_opcode e = let f = found code place fits h in
+        not_both (opcode_of (get_or code place 0)) (opcode_of_instr f.0) e f.2.opcode
 
-  module _ (o : Opcode) (is : opcode_of (get_or code place 0) ≡ Some o) where
-    same_opcode : opcode_of_instr (found code place fits h).0 ≡ o
-    same_opcode = let f = found code place fits h in some_same (opcode_of_instr f.0) o (sym f.2.opcode ∙ is)
+    module _ (o : Opcode) (is : opcode_of (get_or code place 0) ≡ Some o) where
+      same_opcode : opcode_of_instr (found code place fits h).0 ≡ o
+      same_opcode = let f =
+          found code place fits h in some_same (opcode_of_instr f.0) o (sym f.2.opcode ∙ is)
 
-    operand_there : operand_from Two o (drop (place + 1) code) ≡ Ok ((found code place fits h).0, drop (found code place fits h).1 code)
-    operand_there = let f = found code place fits h in ap (λ (p : Opcode). operand_from Two p (drop (place + 1) code)) (sym same_opcode) ∙ f.2.operand
+      operand_there : operand_from Two o (drop (place + 1) code)
+          ≡ Ok ((found code place fits h).0, drop (found code place fits h).1 code)
+      operand_there = let f = found code place fits h in
+          ap (λ (p : Opcode). operand_from Two p (drop (place + 1) code)) (sym same_opcode)
+          ∙ f.2.operand
 
-    pub whole_operand : IsOk (operand_from Two o (drop (place + 1) code))
-    whole_operand = let f = found code place fits h in is_ok_of (operand_from Two o (drop (place + 1) code)) (f.0, drop f.1 code) operand_there
+      pub whole_operand : IsOk (operand_from Two o (drop (place + 1) code))
+      whole_operand = let f = found code place fits h in
+          is_ok_of (operand_from Two o (drop (place + 1) code)) (f.0, drop f.1 code) operand_there
 
-    pub fetched : (r : Instr × ℕ) → operand_from Two o (drop (place + 1) code) ≡ Ok (r.0, drop r.1 code) → r.1 ≤ length code → instr_at code place ≡ Some r
-    fetched r e within =
-        let f = found code place fits h in
-        let same = ok_same (f.0, drop f.1 code) (r.0, drop r.1 code) (sym operand_there ∙ e) in
-        let i : f.0 ≡ r.0 = ap (λ (q : Instr × List ℕ). q.0) same in
-        let left : length (drop f.1 code) ≡ length (drop r.1 code) = ap (λ (q : Instr × List ℕ). length q.1) same in
-        let a : length (drop f.1 code) ≡ length code - f.1 = length-drop f.1 code in
-        let b : length (drop r.1 code) ≡ length code - r.1 = length-drop r.1 code in
-        let c : f.1 ≤ length code = f.2.within in
-        let n : f.1 ≡ r.1 = omega arith in
-        f.2.here ∙ ap (λ (m : ℕ). Some (f.0, m)) n ∙ ap (λ (j : Instr). Some (j, r.1)) i
+      pub fetched : (r : Instr × ℕ)
+          → operand_from Two o (drop (place + 1) code) ≡ Ok (r.0, drop r.1 code) → r.1 ≤ length code
+          → instr_at code place ≡ Some r
+      fetched r e within =
+          let f = found code place fits h in
+          let same = ok_same (f.0, drop f.1 code) (r.0, drop r.1 code) (sym operand_there ∙ e) in
+          let i : f.0 ≡ r.0 = ap (λ (q : Instr × List ℕ). q.0) same in
+          let left : length (drop f.1 code) ≡ length (drop r.1 code) =
+          ap (λ (q : Instr × List ℕ). length q.1) same in
+          let a : length (drop f.1 code) ≡ length code - f.1 = length-drop f.1 code in
+          let b : length (drop r.1 code) ≡ length code - r.1 = length-drop r.1 code in
+          let c : f.1 ≤ length code = f.2.within in
+          let n : f.1 ≡ r.1 = omega arith in
+          f.2.here ∙ ap (λ (m : ℕ). Some (f.0, m)) n ∙ ap (λ (j : Instr). Some (j, r.1)) i

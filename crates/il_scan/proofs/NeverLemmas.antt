@@ -1,6 +1,6 @@
 -- Verified code ends in each scan.
 use Rattle.std.proofs.Common.{◌≡◌, ℕ, zero, suc, ◌+◌, ◌<◌, ◌≤◌, ℤ, List, length, refl, sym, subst, arith, Option, Some, None, map}
-use Rattle.il_image.specs.declared.timer.Timer.{Timer}
+use Rattle.il_image.specs.declared.timer.TimerState.{TimerState}
 use Rattle.il_image.specs.declared.value.Value.{Value}
 use Rattle.il_image.specs.Images.{Image}
 use Rattle.il_image.specs.Octets.{AreOctets}
@@ -20,15 +20,18 @@ use Rattle.il_scan.proofs.StandLemmas.{held_by, stand_again}
 use Rattle.il_scan.proofs.TurnLemmas.{place_within, turned}
 
 -- the run from these slots and timers ends somewhere
-record RunEnds (image : Image) (now : ℕ) (slots : List ℤ) (timers : List Timer) : Type 0 where
+record RunEnds (image : Image) (now : ℕ) (slots : List ℤ) (timers : List TimerState) : Type 0 where
   new_slots : List ℤ
-  new_timers : List Timer
+  new_timers : List TimerState
   steps : ℕ
   runs : RunsTo image now slots timers new_slots new_timers steps
 
-module _ (image : Image) (now : ℕ) (slots : List ℤ) (timers : List Timer) (safe : IsSafe image) (is_held : IsHeld image slots timers) where
+module _ (image : Image) (now : ℕ) (slots : List ℤ) (timers : List TimerState) (safe : IsSafe image)
+    (is_held : IsHeld image slots timers) where
   -- a run that has come to a place goes on to its end
-  goes_on : (left place steps : ℕ) (w : Words) (c : Comes image now (first_state image slots timers) place steps w) → length image.code ≤ place + left → RunEnds image now slots timers
+  goes_on : (left place steps : ℕ) (w : Words)
+      (c : Comes image now (first_state image slots timers) place steps w)
+      → length image.code ≤ place + left → RunEnds image now slots timers
   goes_on zero place steps w c past =
       let within = place_within image now c.state c.stands.standing in
       let there : c.state.place ≡ place = c.stands.there in
@@ -40,11 +43,19 @@ module _ (image : Image) (now : ℕ) (slots : List ℤ) (timers : List Timer) (s
       let there : c.state.place ≡ place = c.stands.there in
       let less : place < length image.code = omega arith in
       let after : Words = worked now a.instr (words_at c.state) in
-      let turn = turned image now c.state h a.instr a.next a.here c.octets (leads a.instr a.next (words_at c.state).stack) after refl refl in
-      next_turn left place steps w c past less after (leads a.instr a.next (words_at c.state).stack) turn (λ to later. goes_on left to (steps + 1) after later)
+      let turn =
+      turned image now c.state h a.instr a.next a.here c.octets
+      (leads a.instr a.next (words_at c.state).stack) after refl refl in
+      next_turn left place steps w c past less after (leads a.instr a.next (words_at c.state).stack)
+      turn (λ to later. goes_on left to (steps + 1) after later)
     where
-      next_turn : (left place steps : ℕ) (w : Words) (c : Comes image now (first_state image slots timers) place steps w) → length image.code ≤ place + suc left → place < length image.code → (after : Words) (to : Option ℕ) → Turns image now c.state to after
-          → ((q : ℕ) → Comes image now (first_state image slots timers) q (steps + 1) after → length image.code ≤ q + left → RunEnds image now slots timers) → RunEnds image now slots timers
+      next_turn : (left place steps : ℕ) (w : Words)
+          (c : Comes image now (first_state image slots timers) place steps w)
+          → length image.code ≤ place + suc left → place < length image.code
+          → (after : Words) (to : Option ℕ) → Turns image now c.state to after
+          → ((q : ℕ) → Comes image now (first_state image slots timers) q (steps + 1) after
+          → length image.code ≤ q + left → RunEnds image now slots timers)
+          → RunEnds image now slots timers
       next_turn left place steps w c past less after None turn more = record {
         new_slots = after.slots;
         new_timers = after.timers;
@@ -52,26 +63,41 @@ module _ (image : Image) (now : ℕ) (slots : List ℤ) (timers : List Timer) (s
         runs = run_ends image now slots timers place steps w c less safe is_held after turn;
       }
       next_turn left place steps w c past less after (Some to) turn more =
-          let on : place < to = forward image now (first_state image slots timers) place steps w c less to after turn in
-          more to (comes_next image now (first_state image slots timers) place steps w c less to after turn) (omega arith)
+          let on : place < to =
+          forward image now (first_state image slots timers) place steps w c less to after turn
+          in
+          more to (comes_next image now (first_state image slots timers) place steps w c less to
+          after turn) (omega arith)
 
   run_ends_somewhere : AreOctets image.code → RunEnds image now slots timers
-  run_ends_somewhere octets = goes_on (length image.code) 0 0 _ (starts image now slots timers octets safe is_held) (omega arith)
+  run_ends_somewhere octets =
+      goes_on (length image.code) 0 0 _ (starts image now slots timers octets safe is_held)
+      (omega arith)
 
 -- a scan of words, from words that are held
-scan_ends : (image : Image) (inputs : List Value) (now : ℕ) (slots : List ℤ) (timers : List Timer) → AreOctets image.code → IsSafe image → IsHeld image slots timers → AreInputs image.points inputs → Ends (held image slots timers) inputs now
+scan_ends : (image : Image) (inputs : List Value) (now : ℕ) (slots : List ℤ)
+    (timers : List TimerState) → AreOctets image.code → IsSafe image → IsHeld image slots timers
+    → AreInputs image.points inputs → Ends (held image slots timers) inputs now
 scan_ends image inputs now slots timers octets safe is_held are =
     let taken : List ℤ = with_inputs image.points (words_of inputs) slots in
-    let before : IsHeld image taken timers = held_taken image image.points refl inputs now slots timers is_held are taken refl in
+    let before : IsHeld image taken timers =
+    held_taken image image.points refl inputs now slots timers is_held are taken refl in
     let e = run_ends_somewhere image now taken timers safe before octets in
     record {
       new = held image e.new_slots e.new_timers;
       steps = e.steps;
-      scans = scanned image image.points refl inputs now slots timers is_held are taken refl e.new_slots e.new_timers e.steps _ e.runs (sym (outputs_are image.points (map type_of image.variables) e.new_slots));
+      scans = scanned image image.points refl inputs now slots timers is_held are taken refl
+          e.new_slots e.new_timers e.steps _ e.runs
+          (sym (outputs_are image.points (map type_of image.variables) e.new_slots));
     }
 
 pub never_goes_wrong : NeverGoesWrong
 never_goes_wrong image slots timers inputs now octets safe typed are =
-    let is_held : IsHeld image (words_of slots) timers = held_by image (words_of slots) slots timers refl typed in
-    let same : values_of (slot_types image) (words_of slots) ≡ slots = stand_again (slot_types image) (words_of slots) slots (record { are = refl; typed = typed.of_types }) in
-    subst (λ (values : List Value). Ends (record { image = image; slots = values; timers = timers }) inputs now) same (scan_ends image inputs now (words_of slots) timers octets safe is_held are)
+    let is_held : IsHeld image (words_of slots) timers =
+    held_by image (words_of slots) slots timers refl typed in
+    let same : values_of (slot_types image) (words_of slots) ≡ slots =
+    stand_again (slot_types image) (words_of slots) slots
+    (record { are = refl; typed = typed.of_types }) in
+    subst (λ (values : List Value). Ends (record { image = image; slots = values; timers = timers })
+    inputs now) same (scan_ends image inputs now (words_of slots) timers octets safe is_held
+    are)

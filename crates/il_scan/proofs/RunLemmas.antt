@@ -1,7 +1,7 @@
 -- Runs of the machine of typed values.
 use Rattle.std.proofs.Common.{◌≡◌, ℕ, zero, suc, ◌+◌, ◌-◌, ◌<◌, ◌≤◌, ℤ, List, [], length, refl, sym, ap, subst, ◌∙◌, arith, Option, Some, None}
 use Rattle.std.specs.Prelude.{slice_get}
-use Rattle.il_image.specs.declared.timer.Timer.{Timer}
+use Rattle.il_image.specs.declared.timer.TimerState.{TimerState}
 use Rattle.il_image.specs.declared.value.Value.{Value}
 use Rattle.il_image.specs.Images.{Image}
 use Rattle.il_image.specs.Machine.{Goes, Halted, Halts, State, Traps, Turn, ending_of, run, turn}
@@ -16,81 +16,123 @@ use Rattle.il_scan.specs.Working.{Words, words, worked, leads}
 use Rattle.il_scan.proofs.StandLemmas.{held_by, held_typed, stand_again}
 use Rattle.il_scan.proofs.TurnLemmas.{cells_room, turned}
 
-run_goes : (code : List ℕ) (now most : ℕ) (s after : State) (steps : ℕ) → turn code now s ≡ Goes after → run code now (suc most) s steps ≡ run code now most after (steps + 1)
+run_goes : (code : List ℕ) (now most : ℕ) (s after : State) (steps : ℕ)
+    → turn code now s ≡ Goes after
+    → run code now (suc most) s steps ≡ run code now most after (steps + 1)
 unfolding run
-run_goes code now most s after steps e = ap (λ (t : Turn). ending_of t s (steps + 1) (λ a. run code now most a (steps + 1))) e
+run_goes code now most s after steps e =
+    ap (λ (t : Turn). ending_of t s (steps + 1) (λ a. run code now most a (steps + 1))) e
 
-run_halts : (code : List ℕ) (now most : ℕ) (s : State) (steps : ℕ) → turn code now s ≡ Halts → run code now (suc most) s steps ≡ Halted s.slots s.timers (steps + 1)
+run_halts : (code : List ℕ) (now most : ℕ) (s : State) (steps : ℕ) → turn code now s ≡ Halts
+    → run code now (suc most) s steps ≡ Halted s.slots s.timers (steps + 1)
 unfolding run
-run_halts code now most s steps e = ap (λ (t : Turn). ending_of t s (steps + 1) (λ a. run code now most a (steps + 1))) e
+run_halts code now most s steps e =
+    ap (λ (t : Turn). ending_of t s (steps + 1) (λ a. run code now most a (steps + 1))) e
 
-counts_of : (code : List ℕ) (now most : ℕ) (t : Turn) (s : State) (slots : List Value) (timers : List Timer) (k n : ℕ) → ((a : State) → run code now most a (k + 1) ≡ Halted slots timers n → k + 1 < n)
+counts_of : (code : List ℕ) (now most : ℕ) (t : Turn) (s : State) (slots : List Value)
+    (timers : List TimerState) (k n : ℕ)
+    → ((a : State) → run code now most a (k + 1) ≡ Halted slots timers n → k + 1 < n)
     → ending_of t s (k + 1) (λ a. run code now most a (k + 1)) ≡ Halted slots timers n → k < n
-counts_of code now most (Goes a) s slots timers k n more e = let h : k + 1 < n = more a e in omega arith
+counts_of code now most (Goes a) s slots timers k n more e = let h : k + 1 < n =
+    more a e in omega arith
 counts_of code now most Halts s slots timers k n more e = let same : k + 1 ≡ n = cc in omega arith
 counts_of code now most (Traps trap) s slots timers k n more e = absurd cc
 
-run_counts : (code : List ℕ) (now most : ℕ) (s : State) (k : ℕ) (slots : List Value) (timers : List Timer) (n : ℕ) → run code now most s k ≡ Halted slots timers n → k < n
+run_counts : (code : List ℕ) (now most : ℕ) (s : State) (k : ℕ) (slots : List Value)
+    (timers : List TimerState) (n : ℕ) → run code now most s k ≡ Halted slots timers n → k < n
 unfolding run
 run_counts code now zero s k slots timers n e = absurd cc
-run_counts code now (suc most) s k slots timers n e = counts_of code now most (turn code now s) s slots timers k n (λ after. run_counts code now most after (k + 1) slots timers n) e
+run_counts code now (suc most) s k slots timers n e =
+    counts_of code now most (turn code now s) s slots timers k n
+    (λ after. run_counts code now most after (k + 1) slots timers n) e
 
-enough_of : (code : List ℕ) (now most other : ℕ) (t : Turn) (s : State) (slots : List Value) (timers : List Timer) (k n : ℕ)
-    → ((a : State) → run code now most a (k + 1) ≡ Halted slots timers n → run code now other a (k + 1) ≡ Halted slots timers n)
-    → ending_of t s (k + 1) (λ a. run code now most a (k + 1)) ≡ Halted slots timers n → ending_of t s (k + 1) (λ a. run code now other a (k + 1)) ≡ Halted slots timers n
+enough_of : (code : List ℕ) (now most other : ℕ) (t : Turn) (s : State) (slots : List Value)
+    (timers : List TimerState) (k n : ℕ)
+    → ((a : State) → run code now most a (k + 1) ≡ Halted slots timers n
+    → run code now other a (k + 1) ≡ Halted slots timers n)
+    → ending_of t s (k + 1) (λ a. run code now most a (k + 1)) ≡ Halted slots timers n
+    → ending_of t s (k + 1) (λ a. run code now other a (k + 1)) ≡ Halted slots timers n
 enough_of code now most other (Goes a) s slots timers k n more e = more a e
 enough_of code now most other Halts s slots timers k n more e = e
 enough_of code now most other (Traps trap) s slots timers k n more e = e
 
 -- a run that halts does so with any number of steps that lasts
-run_enough : (code : List ℕ) (now most other : ℕ) (s : State) (k : ℕ) (slots : List Value) (timers : List Timer) (n : ℕ) → run code now most s k ≡ Halted slots timers n → n ≤ k + other → run code now other s k ≡ Halted slots timers n
+run_enough : (code : List ℕ) (now most other : ℕ) (s : State) (k : ℕ) (slots : List Value)
+    (timers : List TimerState) (n : ℕ) → run code now most s k ≡ Halted slots timers n
+    → n ≤ k + other → run code now other s k ≡ Halted slots timers n
 unfolding run
 run_enough code now zero other s k slots timers n e least = absurd cc
-run_enough code now (suc most) zero s k slots timers n e least = absurd (let h : k < n = run_counts code now (suc most) s k slots timers n e in omega arith)
+run_enough code now (suc most) zero s k slots timers n e least =
+    absurd (let h : k < n = run_counts code now (suc most) s k slots timers n e in omega arith)
 run_enough code now (suc most) (suc other) s k slots timers n e least =
-    enough_of code now most other (turn code now s) s slots timers k n (λ after f. run_enough code now most other after (k + 1) slots timers n f (omega arith)) e
+    enough_of code now most other (turn code now s) s slots timers k n
+    (λ after f. run_enough code now most other after (k + 1) slots timers n f (omega arith)) e
 
 -- ---- the stack is never deeper
 
 goes_same : (a b : State) → Goes a ≡ Goes b → a ≡ b
 goes_same a b e = cc
 
-standing_of : (image : Image) (now : ℕ) (s next : State) → turn image.code now s ≡ Goes next → (to : Option ℕ) (w : Words) → Turns image now s to w → Standing image next
+standing_of : (image : Image) (now : ℕ) (s next : State) → turn image.code now s ≡ Goes next
+    → (to : Option ℕ) (w : Words) → Turns image now s to w → Standing image next
 standing_of image now s next e None w t = absurd (let no : Halts ≡ Goes next = sym t.0 ∙ e in cc)
-standing_of image now s next e (Some to) w t = subst (Standing image) (goes_same t.1.0 next (sym t.1.1 ∙ e)) t.1.2.standing
+standing_of image now s next e (Some to) w t =
+    subst (Standing image) (goes_same t.1.0 next (sym t.1.1 ∙ e)) t.1.2.standing
 
-next_standing : (image : Image) (now : ℕ) → AreOctets image.code → (s next : State) → Standing image s → turn image.code now s ≡ Goes next → Standing image next
+next_standing : (image : Image) (now : ℕ) → AreOctets image.code → (s next : State)
+    → Standing image s → turn image.code now s ≡ Goes next → Standing image next
 next_standing image now octets s next h e =
     let a = h.agrees.allowed s.place h.kinds h.here in
-    standing_of image now s next e (leads a.instr a.next (words_at s).stack) (worked now a.instr (words_at s))
-    (turned image now s h a.instr a.next a.here octets (leads a.instr a.next (words_at s).stack) (worked now a.instr (words_at s)) refl refl)
+    standing_of image now s next e (leads a.instr a.next (words_at s).stack)
+    (worked now a.instr (words_at s))
+    (turned image now s h a.instr a.next a.here octets (leads a.instr a.next (words_at s).stack)
+    (worked now a.instr (words_at s)) refl refl)
 
-pub never_deeper : (image : Image) (now : ℕ) → AreOctets image.code → (most : ℕ) → IsDepth image most → (count : ℕ) (s : State) → Standing image s → IsWithin image.code now most count s
+pub never_deeper : (image : Image) (now : ℕ) → AreOctets image.code → (most : ℕ)
+    → IsDepth image most → (count : ℕ) (s : State) → Standing image s
+    → IsWithin image.code now most count s
 never_deeper image now octets most d zero s h =
     let deep : length h.kinds ≤ most = (d.each h.table h.agrees).most s.place h.kinds h.here in
     let size : length s.cells ≡ length h.kinds = cells_room image now s h in
     omega arith
 never_deeper image now octets most d (suc count) s h =
     let deep : length h.kinds ≤ most = (d.each h.table h.agrees).most s.place h.kinds h.here in
-    let size : length s.cells ≡ length h.kinds = cells_room image now s h in
-    (omega arith, λ next e. never_deeper image now octets most d count next (next_standing image now octets s next h e))
+    let size : length s.cells ≡ length h.kinds = cells_room image now s h in (
+      omega arith,
+      λ next e. never_deeper image now octets most d count next
+          (next_standing image now octets s next h e),
+    )
 
 -- ---- a run so far
 
 -- The run from the start has come to this place after so many steps.
-pub record Comes (image : Image) (now : ℕ) (first : State) (place steps : ℕ) (w : Words) : Type 0 where
+pub record Comes (image : Image) (now : ℕ) (first : State) (place steps : ℕ) (w : Words)
+    : Type 0 where
   pub state : State
   pub stands : StandsAt image place w state
-  pub same : run image.code now (length image.code) first 0 ≡ run image.code now (length image.code - steps) state steps
+  pub same : run image.code now (length image.code) first 0
+      ≡ run image.code now (length image.code - steps) state steps
   pub few : steps ≤ place
   pub path : Path image.code (steps + 1) place
   pub kept : KeepsSlots image (words_at first) w
   pub octets : AreOctets image.code
 
-start_standing : (image : Image) (slots : List ℤ) (timers : List Timer) → IsSafe image → IsHeld image slots timers → Standing image (first_state image slots timers)
-start_standing image slots timers safe held = record { table = safe.table.0; agrees = safe.table.1; writes = safe.writes; kinds = []; here = safe.table.1.starts; fit = tt; typed = held_typed image slots timers held }
+start_standing : (image : Image) (slots : List ℤ) (timers : List TimerState) → IsSafe image
+    → IsHeld image slots timers → Standing image (first_state image slots timers)
+start_standing image slots timers safe held =
+    record {
+      table = safe.table.0;
+      agrees = safe.table.1;
+      writes = safe.writes;
+      kinds = [];
+      here = safe.table.1.starts;
+      fit = tt;
+      typed = held_typed image slots timers held;
+    }
 
-pub starts : (image : Image) (now : ℕ) (slots : List ℤ) (timers : List Timer) → AreOctets image.code → IsSafe image → IsHeld image slots timers → Comes image now (first_state image slots timers) 0 0 (words [] slots timers)
+pub starts : (image : Image) (now : ℕ) (slots : List ℤ) (timers : List TimerState)
+    → AreOctets image.code → IsSafe image → IsHeld image slots timers
+    → Comes image now (first_state image slots timers) 0 0 (words [] slots timers)
 starts image now slots timers octets safe held = record {
   state = first_state image slots timers;
   stands = record {
@@ -98,7 +140,8 @@ starts image now slots timers octets safe held = record {
     there = refl;
     are = ap (λ (w : List ℤ). words [] w timers) (sym held.stand.are);
   };
-  same = (let e : length image.code ≡ length image.code - 0 = omega arith in ap (λ (n : ℕ). run image.code now n (first_state image slots timers) 0) e);
+  same = (let e : length image.code ≡ length image.code - 0 = omega arith in
+      ap (λ (n : ℕ). run image.code now n (first_state image slots timers) 0) e);
   few = omega arith;
   path = refl;
   kept = λ n only. ap (λ (w : List ℤ). slice_get w n) held.stand.are;
@@ -108,34 +151,43 @@ starts image now slots timers octets safe held = record {
 one_more : (n k : ℕ) → k < n → n - k ≡ suc (n - (k + 1))
 one_more n k h = omega arith
 
-path_on : (code : List ℕ) (n from to : ℕ) → Path code n from → IsSuccessor code from to → Path code (n + 1) to
+path_on : (code : List ℕ) (n from to : ℕ) → Path code n from → IsSuccessor code from to
+    → Path code (n + 1) to
 path_on code zero from to p s = absurd p
-path_on code (suc n) from to p s = let e : suc n + 1 ≡ suc (suc n) = omega arith in rw e (from, p, s)
+path_on code (suc n) from to p s = let e : suc n + 1 ≡ suc (suc n) =
+    omega arith in rw e (from, p, s)
 
-module _ (image : Image) (now : ℕ) (first : State) (place steps : ℕ) (w : Words) (c : Comes image now first place steps w) (within : place < length image.code) where
+module _ (image : Image) (now : ℕ) (first : State) (place steps : ℕ) (w : Words)
+    (c : Comes image now first place steps w) (within : place < length image.code) where
   fuel : length image.code - steps ≡ suc (length image.code - (steps + 1))
   fuel = let few : steps ≤ place = c.few in one_more (length image.code) steps (omega arith)
 
-  so_far : run image.code now (length image.code) first 0 ≡ run image.code now (suc (length image.code - (steps + 1))) c.state steps
+  so_far : run image.code now (length image.code) first 0
+      ≡ run image.code now (suc (length image.code - (steps + 1))) c.state steps
   so_far = c.same ∙ ap (λ (n : ℕ). run image.code now n c.state steps) fuel
 
   pub forward : (to : ℕ) (after : Words) → Turns image now c.state (Some to) after → place < to
   forward to after t =
-      let on : c.state.place < to = leads_on image.code c.state.place to t.0.instr t.0.next t.0.here t.0.leads in
+      let on : c.state.place < to =
+      leads_on image.code c.state.place to t.0.instr t.0.next t.0.here t.0.leads in
       let there : c.state.place ≡ place = c.stands.there in
       omega arith
 
-  pub comes_next : (to : ℕ) (after : Words) → Turns image now c.state (Some to) after → Comes image now first to (steps + 1) after
+  pub comes_next : (to : ℕ) (after : Words) → Turns image now c.state (Some to) after
+      → Comes image now first to (steps + 1) after
   comes_next to after t =
       let few : steps ≤ place = c.few in
       let on : place < to = forward to after t in
       record {
         state = t.1.0;
         stands = t.1.2;
-        same = so_far ∙ run_goes image.code now (length image.code - (steps + 1)) c.state t.1.0 steps t.1.1;
+        same = so_far ∙ run_goes image.code now (length image.code - (steps + 1)) c.state t.1.0
+            steps t.1.1;
         few = omega arith;
-        path = path_on image.code (steps + 1) place to c.path (subst (λ (q : ℕ). IsSuccessor image.code q to) c.stands.there t.0);
-        kept = λ n only. t.2 n only ∙ ap (λ (m : Words). slice_get m.slots n) c.stands.are ∙ c.kept n only;
+        path = path_on image.code (steps + 1) place to c.path
+            (subst (λ (q : ℕ). IsSuccessor image.code q to) c.stands.there t.0);
+        kept = λ n only. t.2 n only ∙ ap (λ (m : Words). slice_get m.slots n) c.stands.are
+            ∙ c.kept n only;
         octets = c.octets;
       }
 
@@ -146,9 +198,12 @@ module _ (image : Image) (now : ℕ) (first : State) (place steps : ℕ) (w : Wo
     pub few_steps : (budget : ℕ) → IsBudget image.code budget → steps + 1 ≤ budget
     few_steps budget b = b.most (steps + 1) (place, ends.0, ends.1)
 
-    pub halts_so : (most : ℕ) → steps + 1 ≤ most → run image.code now most first 0 ≡ Halted c.state.slots c.state.timers (steps + 1)
+    pub halts_so : (most : ℕ) → steps + 1 ≤ most
+        → run image.code now most first 0 ≡ Halted c.state.slots c.state.timers (steps + 1)
     halts_so most least =
-        run_enough image.code now (length image.code) most first 0 c.state.slots c.state.timers (steps + 1) (so_far ∙ run_halts image.code now (length image.code - (steps + 1)) c.state steps t.0) (omega arith)
+        run_enough image.code now (length image.code) most first 0 c.state.slots c.state.timers
+        (steps + 1) (so_far ∙ run_halts image.code now (length image.code - (steps + 1)) c.state
+        steps t.0) (omega arith)
 
     slots_are : after.slots ≡ words_of c.state.slots
     slots_are = ap (λ (m : Words). m.slots) t.1
@@ -157,23 +212,35 @@ module _ (image : Image) (now : ℕ) (first : State) (place steps : ℕ) (w : Wo
     timers_are = ap (λ (m : Words). m.timers) t.1
 
     typed : IsHeld image after.slots after.timers
-    typed = subst (λ (x : List Timer). IsHeld image after.slots x) (sym timers_are) (held_by image after.slots c.state.slots c.state.timers slots_are c.stands.standing.typed)
+    typed = subst (λ (x : List TimerState). IsHeld image after.slots x) (sym timers_are)
+        (held_by image after.slots c.state.slots c.state.timers slots_are c.stands.standing.typed)
 
     values_are : values_of (slot_types image) after.slots ≡ c.state.slots
-    values_are = stand_again (slot_types image) after.slots c.state.slots (record { are = slots_are; typed = c.stands.standing.typed.of_types })
+    values_are =
+        stand_again (slot_types image) after.slots c.state.slots
+        (record { are = slots_are; typed = c.stands.standing.typed.of_types })
 
-pub run_ends : (image : Image) (now : ℕ) (slots : List ℤ) (timers : List Timer) (place steps : ℕ) (w : Words) (c : Comes image now (first_state image slots timers) place steps w) → place < length image.code
-    → IsSafe image → IsHeld image slots timers → (after : Words) → Turns image now c.state None after → RunsTo image now slots timers after.slots after.timers (steps + 1)
+pub run_ends : (image : Image) (now : ℕ) (slots : List ℤ) (timers : List TimerState)
+    (place steps : ℕ) (w : Words)
+    (c : Comes image now (first_state image slots timers) place steps w) → place < length image.code
+    → IsSafe image → IsHeld image slots timers → (after : Words)
+    → Turns image now c.state None after
+    → RunsTo image now slots timers after.slots after.timers (steps + 1)
 run_ends image now slots timers place steps w c within safe held after t =
     let first = first_state image slots timers in
     let values = values_are image now first place steps w c within after t in
     let times = timers_are image now first place steps w c within after t in
     record {
       halts = λ most least. halts_so image now first place steps w c within after t most least
-          ∙ ap (λ (v : List Value). Halted v c.state.timers (steps + 1)) (sym values) ∙ ap (λ (x : List Timer). Halted (values_of (slot_types image) after.slots) x (steps + 1)) (sym times);
+          ∙ ap (λ (v : List Value). Halted v c.state.timers (steps + 1)) (sym values)
+          ∙ ap (λ (x : List TimerState). Halted (values_of (slot_types image) after.slots) x
+          (steps + 1)) (sym times);
       within = λ budget b. few_steps image now first place steps w c within after t budget b;
       few = (let few : steps ≤ place = c.few in omega arith);
-      depth = λ most count d. never_deeper image now c.octets most d count first (start_standing image slots timers safe held);
-      keeps = λ n only. ap (λ (m : Words). slice_get m.slots n) t.1 ∙ ap (λ (m : Words). slice_get m.slots n) c.stands.are ∙ c.kept n only ∙ ap (λ (v : List ℤ). slice_get v n) (sym held.stand.are);
+      depth = λ most count d. never_deeper image now c.octets most d count first
+          (start_standing image slots timers safe held);
+      keeps = λ n only. ap (λ (m : Words). slice_get m.slots n) t.1
+          ∙ ap (λ (m : Words). slice_get m.slots n) c.stands.are ∙ c.kept n only
+          ∙ ap (λ (v : List ℤ). slice_get v n) (sym held.stand.are);
       held = typed image now first place steps w c within after t;
     }

@@ -4,7 +4,7 @@ use Rattle.std.specs.Prelude.{IsSome, slice_get, slice_set}
 use Rattle.std.specs.Ordering.{int_eq}
 use Rattle.il_image.specs.declared.instr.Instr.{Instr}
 use Rattle.il_image.specs.declared.instr.Instr.TheVariants.{Halt, Push, Drop, Slot, Not, Combine, Compute, Compare, Widen, Jump, Timer}
-use Rattle.il_image.specs.declared.kind.Kind.{Kind}
+use Rattle.il_image.specs.declared.kind.CellKind.{CellKind}
 use Rattle.il_image.specs.declared.opcode.SlotUse.TheVariants.{Load, Store, SetIf, ResetIf}
 use Rattle.il_image.specs.declared.opcode.When.TheVariants.{Always, IfTrue, IfFalse}
 use Rattle.il_image.specs.declared.opcode.TimerUse.TheVariants.{SetInput, SetPreset, Run, LoadOutput, LoadElapsed}
@@ -37,11 +37,14 @@ chosen false x y to e = inr (sym (some_same y to e))
 turned_round : {A B : Type 0} → A ⊎ B → B ⊎ A
 turned_round h = elim h [ inl a ↦ inr a | inr b ↦ inl b ]
 
-leads_there : (i : Instr) (next : ℕ) (stack : List ℤ) (to : ℕ) → leads i next stack ≡ Some to → LeadsTo i next to
+leads_there : (i : Instr) (next : ℕ) (stack : List ℤ) (to : ℕ) → leads i next stack ≡ Some to
+    → LeadsTo i next to
 leads_there Halt next stack to e = absurd cc
 leads_there (Jump Always distance) next stack to e = sym (some_same (next + distance) to e)
-leads_there (Jump IfTrue distance) next stack to e = chosen (int_eq (top stack) (pos 0)) next (next + distance) to e
-leads_there (Jump IfFalse distance) next stack to e = turned_round (chosen (int_eq (top stack) (pos 0)) (next + distance) next to e)
+leads_there (Jump IfTrue distance) next stack to e =
+    chosen (int_eq (top stack) (pos 0)) next (next + distance) to e
+leads_there (Jump IfFalse distance) next stack to e =
+    turned_round (chosen (int_eq (top stack) (pos 0)) (next + distance) next to e)
 leads_there (Push v) next stack to e = sym (some_same next to e)
 leads_there Drop next stack to e = sym (some_same next to e)
 leads_there (Slot slot_use n) next stack to e = sym (some_same next to e)
@@ -54,7 +57,8 @@ leads_there (Timer timer_use n) next stack to e = sym (some_same next to e)
 
 -- ---- slots of points that may only be read
 
-get_other : {A : Type 0} (xs : List A) (k n : ℕ) (x : A) → (n ≡ k → ⊥) → slice_get (slice_set xs k x) n ≡ slice_get xs n
+get_other : {A : Type 0} (xs : List A) (k n : ℕ) (x : A) → (n ≡ k → ⊥)
+    → slice_get (slice_set xs k x) n ≡ slice_get xs n
 get_other [] k n x ne = refl
 get_other (y ∷ xs) zero zero x ne = absurd (ne refl)
 get_other (y ∷ xs) zero (suc n) x ne = refl
@@ -66,9 +70,12 @@ not_both b e f = absurd cc
 
 module _ (image : Image) (now n : ℕ) (only : is_read_only (slots_of image) n ≡ true) where
   other : (k : ℕ) → is_read_only (slots_of image) k ≡ false → n ≡ k → ⊥
-  other k e same = not_both (is_read_only (slots_of image) k) (ap (λ (j : ℕ). is_read_only (slots_of image) j) (sym same) ∙ only) e
+  other k e same =
+      not_both (is_read_only (slots_of image) k)
+      (ap (λ (j : ℕ). is_read_only (slots_of image) j) (sym same) ∙ only) e
 
-  keeps : (i : Instr) (m : Words) → writes_read_only (slots_of image) i ≡ false → slice_get (worked now i m).slots n ≡ slice_get m.slots n
+  keeps : (i : Instr) (m : Words) → writes_read_only (slots_of image) i ≡ false
+      → slice_get (worked now i m).slots n ≡ slice_get m.slots n
   keeps (Slot Load k) m e = refl
   keeps (Slot Store k) m e = get_other m.slots k n _ (other k e)
   keeps (Slot SetIf k) m e = get_other m.slots k n _ (other k e)
@@ -90,13 +97,15 @@ module _ (image : Image) (now n : ℕ) (only : is_read_only (slots_of image) n �
 
 -- ---- values within other kinds
 
-fit_within : (values : List Value) (xs ys : List Kind) → AreWithin xs ys → Fit values xs → Fit values ys
+fit_within : (values : List Value) (xs ys : List CellKind) → AreWithin xs ys → Fit values xs
+    → Fit values ys
 fit_within [] [] [] h g = tt
 fit_within [] [] (y ∷ ys) h g = absurd h
 fit_within [] (x ∷ xs) ys h g = absurd g
 fit_within (v ∷ values) [] ys h g = absurd g
 fit_within (v ∷ values) (x ∷ xs) [] h g = absurd h
-fit_within (v ∷ values) (x ∷ xs) (y ∷ ys) h g = ((kind_above v x y h.0 g.0.0, g.0.1), fit_within values xs ys h.1 g.1)
+fit_within (v ∷ values) (x ∷ xs) (y ∷ ys) h g =
+    ((kind_above v x y h.0 g.0.0, g.0.1), fit_within values xs ys h.1 g.1)
 
 some_there : {A : Type 0} (o : Option A) (x : A) → o ≡ Some x → IsSome o
 some_there None x e = absurd cc
@@ -105,8 +114,9 @@ some_there (Some y) x e = refl
 -- ---- one turn
 
 -- what the table says of an instruction that stands at the state's place
-record Allows (image : Image) (s : State) (h : Standing image s) (i : Instr) (next : ℕ) : Type 0 where
-  after : List Kind
+record Allows (image : Image) (s : State) (h : Standing image s) (i : Instr) (next : ℕ)
+    : Type 0 where
+  after : List CellKind
   effect_is : effect (slot_types image) (length image.timers) i h.kinds ≡ Some after
   enters : (to : ℕ) → LeadsTo i next to → Enters h.table to after
 
@@ -118,35 +128,48 @@ module _ (image : Image) (now : ℕ) (s : State) (h : Standing image s) where
   place_within = is_place.0
 
   pub read_some : IsSome (instr_at image.code s.place)
-  read_some = let a = h.agrees.allowed s.place h.kinds h.here in some_there (instr_at image.code s.place) (a.instr, a.next) a.here
+  read_some = let a = h.agrees.allowed s.place h.kinds h.here in
+      some_there (instr_at image.code s.place) (a.instr, a.next) a.here
 
   pub cells_room : length s.cells ≡ length h.kinds
   cells_room = fit_length s.cells h.kinds h.fit
 
-  module _ (i : Instr) (next : ℕ) (here : instr_at image.code s.place ≡ Some (i, next)) (octets : AreOctets image.code) where
+  module _ (i : Instr) (next : ℕ) (here : instr_at image.code s.place ≡ Some (i, next))
+      (octets : AreOctets image.code) where
     allows : Allows image s h i next
     allows =
         let a = h.agrees.allowed s.place h.kinds h.here in
         let same = same_instr image.code s.place a.instr i a.next next a.here here in
         record {
           after = a.after;
-          effect_is = ap (λ (j : Instr). effect (slot_types image) (length image.timers) j h.kinds) (sym same.0) ∙ a.effect;
-          enters = λ to way. a.enters to (subst (λ (n : ℕ). LeadsTo a.instr n to) (sym same.1) (subst (λ (j : Instr). LeadsTo j next to) (sym same.0) way));
+          effect_is =
+              ap (λ (j : Instr). effect (slot_types image) (length image.timers) j h.kinds)
+              (sym same.0) ∙ a.effect;
+          enters =
+              λ to way. a.enters to
+              (subst (λ (n : ℕ). LeadsTo a.instr n to) (sym same.1)
+              (subst (λ (j : Instr). LeadsTo j next to) (sym same.0) way));
         }
 
     turn_is : turn image.code now s ≡ act now i next s
-    turn_is = ap (λ (o : Option (Instr × ℕ)). turn_of now o s) (begun image.code s.place is_place ∙ here)
+    turn_is =
+        ap (λ (o : Option (Instr × ℕ)). turn_of now o s) (begun image.code s.place is_place ∙ here)
 
     goes_somewhere : (to : ℕ) → LeadsTo i next to → i ≡ Halt → ⊥
     goes_somewhere to way e = subst (λ (j : Instr). LeadsTo j next to) e way
 
-    doing : (to : ℕ) → LeadsTo i next to → Does (slot_types image) (length image.timers) now i next s.place s.cells s.slots s.timers allows.after
+    doing : (to : ℕ) → LeadsTo i next to
+        → Does (slot_types image) (length image.timers) now i next s.place s.cells s.slots s.timers
+        allows.after
     doing to way =
         let a = allows in
         let e = a.enters to way in
         let most : length e.0 ≤ 32 = h.agrees.room to e.0 e.1 in
         let size : length a.after ≡ length e.0 = within_length a.after e.0 e.2 in
-        does (slot_types image) (length image.timers) now next s.place s.slots s.timers a.after h.typed i s.cells h.kinds a.effect_is (stands image.code s.place i next octets here).is_instr (goes_somewhere to way) h.fit (omega arith)
+        does (slot_types image) (length image.timers) now next s.place s.slots s.timers a.after
+        h.typed i s.cells h.kinds a.effect_is
+        (stands image.code s.place i next octets here).is_instr (goes_somewhere to way) h.fit
+        (omega arith)
 
     halt_ready : i ≡ Halt → IsReady i (words_at s)
     halt_ready e = subst (λ (j : Instr). IsReady j (words_at s)) (sym e) tt
@@ -154,28 +177,47 @@ module _ (image : Image) (now : ℕ) (s : State) (h : Standing image s) where
     pub ready : IsReady i (words_at s)
     ready = elim (some_way i next) [ inl e ↦ halt_ready e | inr way ↦ (doing way.0 way.1).ready ]
 
-    halted : (after : Words) → i ≡ Halt → after ≡ worked now i (words_at s) → Turns image now s None after
+    halted : (after : Words) → i ≡ Halt → after ≡ worked now i (words_at s)
+        → Turns image now s None after
     unfolding act
-    halted after e done =
-        (turn_is ∙ ap (λ (j : Instr). act now j next s) e, done ∙ ap (λ (j : Instr). worked now j (words_at s)) e, (next, here ∙ ap (λ (j : Instr). Some (j, next)) e))
+    halted after e done = (
+      turn_is ∙ ap (λ (j : Instr). act now j next s) e,
+      done ∙ ap (λ (j : Instr). worked now j (words_at s)) e,
+      (next, here ∙ ap (λ (j : Instr). Some (j, next)) e),
+    )
 
     kept : KeepsSlots image (words_at s) (worked now i (words_at s))
     kept n only = keeps image now n only i (words_at s) (h.writes s.place i next is_place here)
 
-    went : (to : ℕ) (after : Words) → leads i next (words_at s).stack ≡ Some to → after ≡ worked now i (words_at s) → Turns image now s (Some to) after
+    went : (to : ℕ) (after : Words) → leads i next (words_at s).stack ≡ Some to
+        → after ≡ worked now i (words_at s) → Turns image now s (Some to) after
     went to after e done =
         let way : LeadsTo i next to = leads_there i next (words_at s).stack to e in
         let d = doing to way in
         let a = allows in
         let enter = a.enters to way in
         let there : d.to ≡ to = some_same d.to to (sym d.leads_to ∙ e) in
-        let t : State = record { place = to; cells = d.new_cells; slots = d.new_slots; timers = d.new_timers } in (
+        let t : State =
+        record { place = to; cells = d.new_cells; slots = d.new_slots; timers = d.new_timers }
+        in (
           record { instr = i; next = next; here = here; leads = way },
           (
             t,
-            turn_is ∙ d.goes_on ∙ ap (λ (n : ℕ). Goes (record { place = n; cells = d.new_cells; slots = d.new_slots; timers = d.new_timers })) there,
+            turn_is ∙ d.goes_on ∙ ap
+                (λ (n : ℕ). Goes (record
+                { place = n; cells = d.new_cells; slots = d.new_slots; timers = d.new_timers }))
+                there,
             record {
-              standing = record { table = h.table; agrees = h.agrees; writes = h.writes; kinds = enter.0; here = enter.1; fit = fit_within d.new_cells a.after enter.0 enter.2 d.fit; typed = d.typed };
+              standing =
+                  record {
+                    table = h.table;
+                    agrees = h.agrees;
+                    writes = h.writes;
+                    kinds = enter.0;
+                    here = enter.1;
+                    fit = fit_within d.new_cells a.after enter.0 enter.2 d.fit;
+                    typed = d.typed;
+                  };
               there = refl;
               are = sym d.words_are ∙ sym done;
             },
@@ -183,33 +225,42 @@ module _ (image : Image) (now : ℕ) (s : State) (h : Standing image s) where
           (λ n only. ap (λ (m : Words). slice_get m.slots n) done ∙ kept n only),
         )
 
-    no_way : (stack : List ℤ) → leads i next stack ≡ None → (to : ℕ) → leads i next stack ≡ Some to → ⊥
+    no_way : (stack : List ℤ) → leads i next stack ≡ None → (to : ℕ) → leads i next stack ≡ Some to
+        → ⊥
     no_way stack e to f = let no : ◌≡◌ {A = Option ℕ} None (Some to) = sym e ∙ f in cc
 
-    pub turned : (to : Option ℕ) (after : Words) → to ≡ leads i next (words_at s).stack → after ≡ worked now i (words_at s) → Turns image now s to after
+    pub turned : (to : Option ℕ) (after : Words) → to ≡ leads i next (words_at s).stack
+        → after ≡ worked now i (words_at s) → Turns image now s to after
     turned (Some to) after e done = went to after (sym e) done
     turned None after e done = elim (some_way i next) [
       | inl is ↦ halted after is done
-      | inr way ↦ absurd (let d = doing way.0 way.1 in no_way (words_at s).stack (sym e) d.to d.leads_to)
+      | inr way ↦ absurd (let d = doing way.0 way.1 in
+          no_way (words_at s).stack (sym e) d.to d.leads_to)
     ]
 
 -- ---- the same at a place where words stand
 
-module _ (image : Image) (now place : ℕ) (w : Words) (s : State) (h : StandsAt image place w s) where
-  at_place : (f : ℕ → Option (Instr × ℕ)) → f s.place ≡ f place
-  at_place f = ap f h.there
+module _ (image : Image) (now place : ℕ) (w : Words) (s : State) (h : StandsAt image place w s)
+  where
+    at_place : (f : ℕ → Option (Instr × ℕ)) → f s.place ≡ f place
+    at_place f = ap f h.there
 
-  pub some_at : IsSome (instr_at image.code place)
-  some_at = subst (λ (p : ℕ). IsSome (instr_at image.code p)) h.there (read_some image now s h.standing)
+    pub some_at : IsSome (instr_at image.code place)
+    some_at =
+        subst (λ (p : ℕ). IsSome (instr_at image.code p)) h.there (read_some image now s h.standing)
 
-  module _ (read : Instr × ℕ) (here : instr_at image.code place ≡ Some read) (octets : AreOctets image.code) where
-    here_so : instr_at image.code s.place ≡ Some (read.0, read.1)
-    here_so = at_place (instr_at image.code) ∙ here
+    module _ (read : Instr × ℕ) (here : instr_at image.code place ≡ Some read)
+        (octets : AreOctets image.code) where
+      here_so : instr_at image.code s.place ≡ Some (read.0, read.1)
+      here_so = at_place (instr_at image.code) ∙ here
 
-    pub ready_at : IsReady read.0 w
-    ready_at = subst (IsReady read.0) h.are (ready image now s h.standing read.0 read.1 here_so octets)
+      pub ready_at : IsReady read.0 w
+      ready_at =
+          subst (IsReady read.0) h.are (ready image now s h.standing read.0 read.1 here_so octets)
 
-    pub turned_at : (to : Option ℕ) (after : Words) → to ≡ leads read.0 read.1 w.stack → after ≡ worked now read.0 w → Turns image now s to after
-    turned_at to after e done =
-        turned image now s h.standing read.0 read.1 here_so octets to after
-        (e ∙ ap (λ (m : Words). leads read.0 read.1 m.stack) (sym h.are)) (done ∙ ap (worked now read.0) (sym h.are))
+      pub turned_at : (to : Option ℕ) (after : Words) → to ≡ leads read.0 read.1 w.stack
+          → after ≡ worked now read.0 w → Turns image now s to after
+      turned_at to after e done =
+          turned image now s h.standing read.0 read.1 here_so octets to after
+          (e ∙ ap (λ (m : Words). leads read.0 read.1 m.stack) (sym h.are))
+          (done ∙ ap (worked now read.0) (sym h.are))

@@ -11,7 +11,7 @@ use Rattle.bay_base.specs.declared.types.ElementaryType.{ElementaryType}
 use Rattle.bay_base.specs.declared.types.ElementaryType.TheVariants as elementary
 use Rattle.il_image.specs.declared.arithmetic.Width.{Width}
 use Rattle.il_image.specs.declared.arithmetic.Width.TheVariants as width
-use Rattle.il_image.specs.declared.kind.Kind.TheVariants.{Plain, NotZero}
+use Rattle.il_image.specs.declared.kind.CellKind.TheVariants.{Plain, NotZero}
 use Rattle.il_image.specs.declared.opcode.Connective.{Connective}
 use Rattle.il_image.specs.declared.opcode.Connective.TheVariants.{And, Or, Xor}
 use Rattle.il_image.specs.declared.value.Value.{Value}
@@ -20,11 +20,11 @@ use Rattle.il_image.specs.Arithmetic.{connected, type_of_width, wrapped}
 use Rattle.il_image.specs.Effects.{kind_of, kind_of_number}
 use Rattle.il_image.specs.Images.{IsValue}
 use Rattle.il_image.specs.Kinds.{HasKind}
-use Rattle.il_image.specs.Machine.{value_in}
+use Rattle.il_image.specs.Machine.{value_of_width}
 use Rattle.il_image.specs.Values.{number_of, type_of, value_of, is_between}
 use Rattle.il_image.proofs.ValueLemmas.{value_back}
 use Rattle.il_scan.specs.Words.{value_at}
-use Rattle.il_scan.specs.Working.{joined, word_of}
+use Rattle.il_scan.specs.Working.{combined, word_of}
 
 pub truth_word : (b : Bool) → number_of (Truth b) ≡ word_of b
 truth_word true = refl
@@ -35,20 +35,26 @@ truth_value true = refl
 truth_value false = refl
 
 -- Two values of one type that have one number are the same.
-pub same_value : (v u : Value) → IsValue v → IsValue u → type_of v ≡ type_of u → number_of v ≡ number_of u → v ≡ u
+pub same_value : (v u : Value) → IsValue v → IsValue u → type_of v ≡ type_of u
+    → number_of v ≡ number_of u → v ≡ u
 same_value v u is its t n =
-    let all : Some v ≡ Some u = sym (value_back v is) ∙ ap (λ (s : ElementaryType). value_of s (number_of v)) t ∙ ap (value_of (type_of u)) n ∙ value_back u its in
+    let all : Some v ≡ Some u =
+    sym (value_back v is) ∙ ap (λ (s : ElementaryType). value_of s (number_of v)) t
+    ∙ ap (value_of (type_of u)) n ∙ value_back u its in
     cc
 
 -- the value of a type that its number stands for
-pub value_again : (t : ElementaryType) (v : Value) → type_of v ≡ t → IsValue v → value_at t (number_of v) ≡ v
+pub value_again : (t : ElementaryType) (v : Value) → type_of v ≡ t → IsValue v
+    → value_at t (number_of v) ≡ v
 value_again t v e is =
-    let back : value_of t (number_of v) ≡ Some v = ap (λ (s : ElementaryType). value_of s (number_of v)) (sym e) ∙ value_back v is in
+    let back : value_of t (number_of v) ≡ Some v =
+    ap (λ (s : ElementaryType). value_of s (number_of v)) (sym e) ∙ value_back v is in
     ap (λ (o : Option Value). unwrap_or o (Truth false)) back
 
 -- ---- ranges
 
-between : (w : Bits) (m : ℕ) (z : ℤ) → 2 ^ hbits w ≡ suc m → FitsSigned w z → is_between (negsuc m) (pos m) z ≡ true
+between : (w : Bits) (m : ℕ) (z : ℤ) → 2 ^ hbits w ≡ suc m → FitsSigned w z
+    → is_between (negsuc m) (pos m) z ≡ true
 between w m (pos n) size fits = let h : n < 2 ^ hbits w = fits.sfits in le-leb n m (omega arith)
 between w m (negsuc n) size fits =
     let h : n < 2 ^ hbits w = fits.sfits in
@@ -59,53 +65,78 @@ some_value : {A : Type 0} (b : Bool) (x : A) → b ≡ true → IsSome (cond b (
 some_value true x e = refl
 some_value false x e = absurd cc
 
-pub wrapped_value : (w : Width) (z : ℤ) → IsValue (value_in w (wrapped w z))
-wrapped_value width.Int z = some_value _ (Short (int_wrap w16 z)) (between w16 0x7FFF (int_wrap w16 z) refl (SFits-int_wrap w16 z))
-wrapped_value width.Dint z = some_value _ (Long (int_wrap w32 z)) (between w32 0x7FFF_FFFF (int_wrap w32 z) refl (SFits-int_wrap w32 z))
-wrapped_value width.Lint z = some_value _ (Wide (int_wrap w64 z)) (between w64 0x7FFF_FFFF_FFFF_FFFF (int_wrap w64 z) refl (SFits-int_wrap w64 z))
+pub wrapped_value : (w : Width) (z : ℤ) → IsValue (value_of_width w (wrapped w z))
+wrapped_value width.Int z =
+    some_value _ (Short (int_wrap w16 z))
+    (between w16 0x7FFF (int_wrap w16 z) refl (SFits-int_wrap w16 z))
+wrapped_value width.Dint z =
+    some_value _ (Long (int_wrap w32 z))
+    (between w32 0x7FFF_FFFF (int_wrap w32 z) refl (SFits-int_wrap w32 z))
+wrapped_value width.Lint z =
+    some_value _ (Wide (int_wrap w64 z))
+    (between w64 0x7FFF_FFFF_FFFF_FFFF (int_wrap w64 z) refl (SFits-int_wrap w64 z))
 
-pub number_in : (w : Width) (z : ℤ) → number_of (value_in w z) ≡ z
+pub number_in : (w : Width) (z : ℤ) → number_of (value_of_width w z) ≡ z
 number_in width.Int z = refl
 number_in width.Dint z = refl
 number_in width.Lint z = refl
 
-pub type_in : (w : Width) (z : ℤ) → type_of (value_in w z) ≡ type_of_width w
+pub type_in : (w : Width) (z : ℤ) → type_of (value_of_width w z) ≡ type_of_width w
 type_in width.Int z = refl
 type_in width.Dint z = refl
 type_in width.Lint z = refl
 
 pub span_value : (n : ℕ) → n ≤ 0x7FFF_FFFF → IsValue (Span n)
-span_value n h = some_value _ (Span n) (let z : leb 0 n ≡ true = le-leb 0 n (omega arith) in let e : leb n 0x7FFF_FFFF ≡ true = le-leb n 0x7FFF_FFFF h in rw (z, e) refl)
+span_value n h =
+    some_value _ (Span n) (let z : leb 0 n ≡ true = le-leb 0 n (omega arith) in
+    let e : leb n 0x7FFF_FFFF ≡ true = le-leb n 0x7FFF_FFFF h in rw (z, e) refl)
 
 some_test : {A : Type 0} (b : Bool) (x : A) → IsSome (cond b (Some x) None) → b ≡ true
 some_test true x h = refl
 some_test false x h = h
 
 pub span_within : (n : ℕ) → IsValue (Span n) → n ≤ 0x7FFF_FFFF
-span_within n is = leb-true n 0x7FFF_FFFF (and_parts (leb 0 n) (leb n 0x7FFF_FFFF) (some_test (is_between (pos 0) (pos 0x7FFF_FFFF) (pos n)) (Span n) is)).1
+span_within n is =
+    leb-true n 0x7FFF_FFFF (and_parts (leb 0 n) (leb n 0x7FFF_FFFF)
+    (some_test (is_between (pos 0) (pos 0x7FFF_FFFF) (pos n)) (Span n) is)).1
 
 -- widening keeps the number in range
 pub widened_short : (z : ℤ) → IsValue (Short z) → IsValue (Long z)
-widened_short z is = some_value _ (Long z) (wider 0x7FFF 0x7FFF_FFFF z (omega arith) (some_test (is_between (negsuc 0x7FFF) (pos 0x7FFF) z) (Short z) is))
+widened_short z is =
+    some_value _ (Long z) (wider 0x7FFF 0x7FFF_FFFF z (omega arith)
+    (some_test (is_between (negsuc 0x7FFF) (pos 0x7FFF) z) (Short z) is))
   where
-    wider : (m k : ℕ) (z : ℤ) → m ≤ k → is_between (negsuc m) (pos m) z ≡ true → is_between (negsuc k) (pos k) z ≡ true
+    wider : (m k : ℕ) (z : ℤ) → m ≤ k → is_between (negsuc m) (pos m) z ≡ true
+        → is_between (negsuc k) (pos k) z ≡ true
     wider m k (pos n) h e = let g : n ≤ m = leb-true n m e in le-leb n k (omega arith)
-    wider m k (negsuc n) h e = let g : n ≤ m = leb-true n m (and_parts (leb n m) true e).0 in let f : leb n k ≡ true = le-leb n k (omega arith) in rw f refl
+    wider m k (negsuc n) h e = let g : n ≤ m = leb-true n m (and_parts (leb n m) true e).0 in
+        let f : leb n k ≡ true = le-leb n k (omega arith) in rw f refl
 
 pub widened_long : (z : ℤ) → IsValue (Long z) → IsValue (Wide z)
-widened_long z is = some_value _ (Wide z) (wider 0x7FFF_FFFF 0x7FFF_FFFF_FFFF_FFFF z (omega arith) (some_test (is_between (negsuc 0x7FFF_FFFF) (pos 0x7FFF_FFFF) z) (Long z) is))
+widened_long z is =
+    some_value _ (Wide z) (wider 0x7FFF_FFFF 0x7FFF_FFFF_FFFF_FFFF z (omega arith)
+    (some_test (is_between (negsuc 0x7FFF_FFFF) (pos 0x7FFF_FFFF) z) (Long z) is))
   where
-    wider : (m k : ℕ) (z : ℤ) → m ≤ k → is_between (negsuc m) (pos m) z ≡ true → is_between (negsuc k) (pos k) z ≡ true
+    wider : (m k : ℕ) (z : ℤ) → m ≤ k → is_between (negsuc m) (pos m) z ≡ true
+        → is_between (negsuc k) (pos k) z ≡ true
     wider m k (pos n) h e = let g : n ≤ m = leb-true n m e in le-leb n k (omega arith)
-    wider m k (negsuc n) h e = let g : n ≤ m = leb-true n m (and_parts (leb n m) true e).0 in let f : leb n k ≡ true = le-leb n k (omega arith) in rw f refl
+    wider m k (negsuc n) h e = let g : n ≤ m = leb-true n m (and_parts (leb n m) true e).0 in
+        let f : leb n k ≡ true = le-leb n k (omega arith) in rw f refl
 
 -- ---- kinds of values
 
-kind_case : (w : Width) (v : Value) (z : ℤ) (b : Bool) → int_eq z (pos 0) ≡ b → type_of v ≡ type_of_width w → number_of v ≡ z → HasKind v (cond b (Plain (type_of_width w)) (NotZero w))
+kind_case : (w : Width) (v : Value) (z : ℤ) (b : Bool) → int_eq z (pos 0) ≡ b
+    → type_of v ≡ type_of_width w → number_of v ≡ z
+    → HasKind v (cond b (Plain (type_of_width w)) (NotZero w))
 kind_case w v z true e t n = t
-kind_case w v z false e t n = (t, λ zero. let yes : int_eq z (pos 0) ≡ true = (Decides-int_eq z (pos 0)).1 (sym n ∙ zero) in let no : false ≡ true = sym e ∙ yes in cc)
+kind_case w v z false e t n = (
+  t,
+  λ zero. let yes : int_eq z (pos 0) ≡ true = (Decides-int_eq z (pos 0)).1 (sym n ∙ zero) in
+      let no : false ≡ true = sym e ∙ yes in cc,
+)
 
-kind_number : (w : Width) (v : Value) (z : ℤ) → type_of v ≡ type_of_width w → number_of v ≡ z → HasKind v (kind_of_number w z)
+kind_number : (w : Width) (v : Value) (z : ℤ) → type_of v ≡ type_of_width w → number_of v ≡ z
+    → HasKind v (kind_of_number w z)
 kind_number w v z t n = kind_case w v z (int_eq z (pos 0)) refl t n
 
 pub kind_there : (v : Value) → HasKind v (kind_of v)
@@ -131,7 +162,8 @@ span_there (Long z) e = absurd cc
 span_there (Wide z) e = absurd cc
 span_there (Span n) e = (n, refl)
 
-pub number_there : (w : Width) (v : Value) → type_of v ≡ type_of_width w → v ≡ value_in w (number_of v)
+pub number_there : (w : Width) (v : Value) → type_of v ≡ type_of_width w
+    → v ≡ value_of_width w (number_of v)
 number_there width.Int (Short z) e = refl
 number_there width.Dint (Long z) e = refl
 number_there width.Lint (Wide z) e = refl
@@ -148,16 +180,17 @@ number_there width.Lint (Short z) e = absurd cc
 number_there width.Lint (Long z) e = absurd cc
 number_there width.Lint (Span n) e = absurd cc
 
-pub joined_is : (c : Connective) (a b : Bool) → joined c (number_of (Truth a)) (number_of (Truth b)) ≡ number_of (Truth (connected c a b))
-joined_is And true true = refl
-joined_is And true false = refl
-joined_is And false true = refl
-joined_is And false false = refl
-joined_is Or true true = refl
-joined_is Or true false = refl
-joined_is Or false true = refl
-joined_is Or false false = refl
-joined_is Xor true true = refl
-joined_is Xor true false = refl
-joined_is Xor false true = refl
-joined_is Xor false false = refl
+pub combined_is : (c : Connective) (a b : Bool)
+    → combined c (number_of (Truth a)) (number_of (Truth b)) ≡ number_of (Truth (connected c a b))
+combined_is And true true = refl
+combined_is And true false = refl
+combined_is And false true = refl
+combined_is And false false = refl
+combined_is Or true true = refl
+combined_is Or true false = refl
+combined_is Or false true = refl
+combined_is Or false false = refl
+combined_is Xor true true = refl
+combined_is Xor true false = refl
+combined_is Xor false true = refl
+combined_is Xor false false = refl

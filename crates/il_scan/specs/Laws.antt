@@ -1,6 +1,6 @@
 -- Verified code, from any state that its types allow.
 use Rattle.std.specs.Prelude.{ℕ, List, length}
-use Rattle.il_image.specs.declared.timer.Timer.{Timer}
+use Rattle.il_image.specs.declared.timer.TimerState.{TimerState}
 use Rattle.il_image.specs.declared.value.Value.{Value}
 use Rattle.il_image.specs.Images.{Image}
 use Rattle.il_image.specs.Octets.{AreOctets}
@@ -20,5 +20,7 @@ pub record Ends (old : Held) (inputs : List Value) (now : ℕ) : Type 0 where
 -- slots and timers of its types, with all inputs that fit, at each moment.
 abbrev pub NeverGoesWrong : Type 0
 NeverGoesWrong =
-    (image : Image) (slots : List Value) (timers : List Timer) (inputs : List Value) (now : ℕ) → AreOctets image.code → IsSafe image
-    → Typed (slot_types image) (length image.timers) slots timers → AreInputs image.points inputs → Ends (record { image = image; slots = slots; timers = timers }) inputs now
+    (image : Image) (slots : List Value) (timers : List TimerState) (inputs : List Value) (now : ℕ)
+    → AreOctets image.code → IsSafe image
+    → Typed (slot_types image) (length image.timers) slots timers → AreInputs image.points inputs
+    → Ends (record { image = image; slots = slots; timers = timers }) inputs now

@@ -9,4 +9,5 @@ use Rattle.il_scan.specs.contracts.machine.Machine.{the_row}
 -- Once the outputs are given back, the machine is what a scan with these inputs at this moment
 -- leaves.
 abbrev pub LendsOutputs : MutBor Held → List Value → ℕ → ℕ → List Value → Fml
-LendsOutputs machine inputs now steps outputs = Rests the_row machine (λ last. Scans machine.now inputs now last steps outputs)
+LendsOutputs machine inputs now steps outputs =
+    Rests the_row machine (λ last. Scans machine.now inputs now last steps outputs)

@@ -12,12 +12,14 @@ use Rattle.il_image.specs.declared.value.Value.{Value}
 -- the places of the points that may only be read, where the first point's place is n
 abbrev pub read_places : ℕ → List ImagePoint → List ℕ
 read_places n [] = []
-read_places n (p ∷ points) = if p.writable then read_places (n + 1) points else n ∷ read_places (n + 1) points
+read_places n (p ∷ points) =
+    if p.writable then read_places (n + 1) points else n ∷ read_places (n + 1) points
 
 -- the places of the points that may be written
 abbrev pub write_places : ℕ → List ImagePoint → List ℕ
 write_places n [] = []
-write_places n (p ∷ points) = if p.writable then n ∷ write_places (n + 1) points else write_places (n + 1) points
+write_places n (p ∷ points) =
+    if p.writable then n ∷ write_places (n + 1) points else write_places (n + 1) points
 
 -- the slots with words at these places
 abbrev pub with_words : List ℕ → List ℤ → List ℤ → List ℤ
@@ -49,7 +51,9 @@ begins_with t (input ∷ inputs) = is_of t input
 abbrev pub are_inputs : List ImagePoint → List Value → Bool
 are_inputs [] [] = true
 are_inputs [] (input ∷ inputs) = false
-are_inputs (p ∷ points) inputs = if p.writable then are_inputs points inputs else (begins_with p.elementary inputs && are_inputs points (drop 1 inputs))
+are_inputs (p ∷ points) inputs =
+    if p.writable then are_inputs points inputs
+    else (begins_with p.elementary inputs && are_inputs points (drop 1 inputs))
 
 -- the number of points that may be written
 abbrev pub writable_count : List ImagePoint → ℕ

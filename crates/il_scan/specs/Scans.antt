@@ -1,15 +1,14 @@
 -- What a scan of a machine is.
-use Rattle.std.specs.Prelude.{ℕ, ℤ, zero, suc, pos, ◌≡◌, ◌+◌, ◌<◌, ◌≤◌, false, not, List, [], ◌∷◌, length, map, filter, drop, slice_get, Some, if◌then◌else◌}
+use Rattle.std.specs.Prelude.{ℕ, ℤ, zero, suc, ◌≡◌, ◌+◌, ◌<◌, ◌≤◌, false, not, List, [], ◌∷◌, length, map, filter, drop, slice_get, Some, if◌then◌else◌}
 use Rattle.bay_base.specs.declared.types.ElementaryType.{ElementaryType}
-use Rattle.bay_base.specs.declared.types.ElementaryType.TheVariants as elementary
 use Rattle.il_image.specs.declared.image.ImagePoint.{ImagePoint}
-use Rattle.il_image.specs.declared.timer.Timer.{Timer}
+use Rattle.il_image.specs.declared.timer.TimerState.{TimerState}
 use Rattle.il_image.specs.declared.value.Value.{Value}
-use Rattle.il_image.specs.declared.value.Value.TheVariants.{Truth, Short, Long, Wide, Span}
 use Rattle.il_image.specs.Images.{Image}
-use Rattle.il_image.specs.Machine.{Goes, Halted, State, run, start, turn}
+use Rattle.il_image.specs.Machine.{Goes, Halted, State, run, initial_state, turn}
 use Rattle.il_image.specs.Tables.{slot_types}
 use Rattle.il_image.specs.Timers.{first_state}
+use Rattle.il_image.specs.Values.{default_value}
 use Rattle.il_verify.specs.Verdicts.{IsBudget, IsDepth}
 use Rattle.il_scan.specs.Words.{AreTyped, values_of}
 
@@ -18,29 +17,28 @@ use Rattle.il_scan.specs.Words.{AreTyped, values_of}
 pub record Held : Type 0 where
   pub image : Image
   pub slots : List Value
-  pub timers : List Timer
+  pub timers : List TimerState
 
 -- what callers see of words and timers
-abbrev pub held : Image → List ℤ → List Timer → Held
-held image slots timers = record { image = image; slots = values_of (slot_types image) slots; timers = timers }
+abbrev pub held : Image → List ℤ → List TimerState → Held
+held image slots timers =
+    record { image = image; slots = values_of (slot_types image) slots; timers = timers }
 
 -- ---- the first state
-
--- FALSE, or 0 of a type
-abbrev pub default_value : ElementaryType → Value
-default_value elementary.Bool = Truth false
-default_value elementary.Int = Short (pos 0)
-default_value elementary.Dint = Long (pos 0)
-default_value elementary.Lint = Wide (pos 0)
-default_value elementary.Time = Span 0
 
 -- the points' slots, and behind them the variables' with their initial values
 abbrev pub first_slots : List ImagePoint → List Value → List Value
 first_slots [] variables = variables
 first_slots (p ∷ points) variables = default_value p.elementary ∷ first_slots points variables
 
+-- a machine before its first scan
 abbrev pub held_first : Image → Held
-held_first image = record { image = image; slots = first_slots image.points image.variables; timers = map first_state image.timers }
+held_first image =
+    record {
+      image = image;
+      slots = first_slots image.points image.variables;
+      timers = map first_state image.timers;
+    }
 
 -- The image has a slot or a timer, so that a machine keeps something beside it.
 abbrev pub TakesMemory : Image → Type 0
@@ -52,6 +50,7 @@ TakesMemory image = 0 < length image.points + length image.variables + length im
 abbrev pub read_only : List ImagePoint → List ImagePoint
 read_only points = filter (λ p. not p.writable) points
 
+-- the type of a point's values
 abbrev pub type_of_point : ImagePoint → ElementaryType
 type_of_point p = p.elementary
 
@@ -70,38 +69,46 @@ abbrev pub with_inputs : {A : Type 0} → List ImagePoint → List A → List A 
 with_inputs [] inputs slots = slots
 with_inputs (p ∷ points) inputs [] = []
 with_inputs (p ∷ points) inputs (slot ∷ slots) =
-    (if p.writable then slot else first_input inputs slot) ∷ with_inputs points (if p.writable then inputs else drop 1 inputs) slots
+    (if p.writable then slot else first_input inputs slot)
+    ∷ with_inputs points (if p.writable then inputs else drop 1 inputs) slots
 
 -- the slots of the points that may be written
 abbrev pub outputs_of : {A : Type 0} → List ImagePoint → List A → List A
 outputs_of [] slots = []
 outputs_of (p ∷ points) [] = []
-outputs_of (p ∷ points) (slot ∷ slots) = if p.writable then slot ∷ outputs_of points slots else outputs_of points slots
+outputs_of (p ∷ points) (slot ∷ slots) =
+    if p.writable then slot ∷ outputs_of points slots else outputs_of points slots
 
 -- ---- a scan
 
 -- where the run of a scan starts
 abbrev pub started : Held → List Value → State
-started held inputs = start (with_inputs held.image.points inputs held.slots) held.timers
+started held inputs = initial_state (with_inputs held.image.points inputs held.slots) held.timers
 
 -- No state of a run of at most so many steps has more cells than this on its stack.
 abbrev pub IsWithin : List ℕ → ℕ → ℕ → ℕ → State → Type 0
 IsWithin code now depth zero s = length s.cells ≤ depth
-IsWithin code now depth (suc most) s = (length s.cells ≤ depth) × ((next : State) → turn code now s ≡ Goes next → IsWithin code now depth most next)
+IsWithin code now depth (suc most) s =
+    (length s.cells ≤ depth)
+    × ((next : State) → turn code now s ≡ Goes next → IsWithin code now depth most next)
 
 -- The machine's run from these inputs at this moment ends at HALT, after so many steps, with these
 -- slots and timers.
-pub record Scans (old : Held) (inputs : List Value) (now : ℕ) (new : Held) (steps : ℕ) (outputs : List Value) : Type 0 where
+pub record Scans (old : Held) (inputs : List Value) (now : ℕ) (new : Held) (steps : ℕ)
+    (outputs : List Value) : Type 0 where
   -- the image stays
   pub image : new.image ≡ old.image
   -- the run is over at HALT, given as many steps as it takes, and no step of it is a trap
-  pub halts : (most : ℕ) → steps ≤ most → run old.image.code now most (started old inputs) 0 ≡ Halted new.slots new.timers steps
+  pub halts : (most : ℕ) → steps ≤ most
+      → run old.image.code now most (started old inputs) 0 ≡ Halted new.slots new.timers steps
   -- it takes no more steps than the budget, nor than the code has octets
   pub within : (budget : ℕ) → IsBudget old.image.code budget → steps ≤ budget
   pub few : steps ≤ length old.image.code
   -- the stack is never deeper than the image's depth
-  pub depth : (most : ℕ) (steps : ℕ) → IsDepth old.image most → IsWithin old.image.code now most steps (started old inputs)
+  pub depth : (most : ℕ) (steps : ℕ) → IsDepth old.image most
+      → IsWithin old.image.code now most steps (started old inputs)
   -- a point that may only be read keeps its input
-  pub keeps : (n : ℕ) (p : ImagePoint) → slice_get old.image.points n ≡ Some p → p.writable ≡ false → slice_get new.slots n ≡ slice_get (started old inputs).slots n
+  pub keeps : (n : ℕ) (p : ImagePoint) → slice_get old.image.points n ≡ Some p → p.writable ≡ false
+      → slice_get new.slots n ≡ slice_get (started old inputs).slots n
   -- the outputs are the points that may be written
   pub given : outputs ≡ outputs_of old.image.points new.slots

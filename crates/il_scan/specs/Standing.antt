@@ -2,12 +2,12 @@
 -- machine of words has to do there.
 use Rattle.std.specs.Prelude.{ℕ, ℤ, ◌≡◌, ◌≤◌, IsSome, if◌then◌else◌, true, List, [], ◌∷◌, length, slice_get, Option, Some, None}
 use Rattle.bay_base.specs.declared.types.ElementaryType.{ElementaryType}
-use Rattle.il_image.specs.declared.kind.Kind.{Kind}
-use Rattle.il_image.specs.declared.timer.Timer.{Timer}
+use Rattle.il_image.specs.declared.kind.CellKind.{CellKind}
+use Rattle.il_image.specs.declared.timer.TimerState.{TimerState}
 use Rattle.il_image.specs.declared.value.Value.{Value}
 use Rattle.il_image.specs.Images.{Each, Image, IsValue}
 use Rattle.il_image.specs.Kinds.{HasKind}
-use Rattle.il_image.specs.Machine.{Goes, Halted, Halts, State, run, start, turn}
+use Rattle.il_image.specs.Machine.{Goes, Halted, Halts, State, run, initial_state, turn}
 use Rattle.il_image.specs.Tables.{Agrees, IsHalt, IsSuccessor, Table, slot_types}
 use Rattle.il_verify.specs.Judging.{is_read_only}
 use Rattle.il_verify.specs.Slots.{slots_of}
@@ -21,18 +21,19 @@ use Rattle.il_scan.specs.Words.{AreTyped, StandFor, value_at, values_of, words_o
 use Rattle.il_scan.specs.Working.{Words, words}
 
 -- Each value is of the kind at its place, and a value of its type.
-abbrev pub Fit : List Value → List Kind → Type 0
+abbrev pub Fit : List Value → List CellKind → Type 0
 Fit [] [] = Unit {0}
 Fit (v ∷ values) (k ∷ kinds) = (HasKind v k × IsValue v) × Fit values kinds
 Fit [] (k ∷ kinds) = ⊥
 Fit (v ∷ values) [] = ⊥
 
 -- PT and ET are values of TIME.
-abbrev pub IsTimer : Timer → Type 0
+abbrev pub IsTimer : TimerState → Type 0
 IsTimer t = (t.preset ≤ 0x7FFF_FFFF) × (t.elapsed ≤ 0x7FFF_FFFF)
 
 -- The slots hold values of these types, and there are so many timers.
-pub record Typed (types : List ElementaryType) (count : ℕ) (slots : List Value) (timers : List Timer) : Type 0 where
+pub record Typed (types : List ElementaryType) (count : ℕ) (slots : List Value)
+    (timers : List TimerState) : Type 0 where
   pub of_types : AreTyped types slots
   pub so_many : length timers ≡ count
   pub times : Each IsTimer timers
@@ -42,7 +43,7 @@ pub record Standing (image : Image) (s : State) : Type 0 where
   pub table : Table
   pub agrees : Agrees image table
   pub writes : KeepsReadOnly image
-  pub kinds : List Kind
+  pub kinds : List CellKind
   pub here : table s.place ≡ Some kinds
   pub fit : Fit s.cells kinds
   pub typed : Typed (slot_types image) (length image.timers) s.slots s.timers
@@ -59,42 +60,52 @@ pub record StandsAt (image : Image) (place : ℕ) (w : Words) (s : State) : Type
 
 -- The slots of points that may only be read are the same.
 abbrev pub KeepsSlots : Image → Words → Words → Type 0
-KeepsSlots image old new = (n : ℕ) → is_read_only (slots_of image) n ≡ true → slice_get new.slots n ≡ slice_get old.slots n
+KeepsSlots image old new = (n : ℕ) → is_read_only (slots_of image) n ≡ true
+    → slice_get new.slots n ≡ slice_get old.slots n
 
 -- What the machine of typed values does from the state, words have come to: it halts where there is
 -- no next place, and else goes there.
 abbrev pub Turns : Image → ℕ → State → Option ℕ → Words → Type 0
-Turns image now s None after = (turn image.code now s ≡ Halts) × (after ≡ words_at s) × IsHalt image.code s.place
+Turns image now s None after =
+    (turn image.code now s ≡ Halts) × (after ≡ words_at s) × IsHalt image.code s.place
 Turns image now s (Some to) after =
-    IsSuccessor image.code s.place to × ((t : State) × (turn image.code now s ≡ Goes t) × StandsAt image to after t) × KeepsSlots image (words_at s) after
+    IsSuccessor image.code s.place to
+    × ((t : State) × (turn image.code now s ≡ Goes t) × StandsAt image to after t)
+    × KeepsSlots image (words_at s) after
 
 -- ---- between runs
 
 -- The words stand for values of the slots' types, and the timers are the image's.
-pub record IsHeld (image : Image) (slots : List ℤ) (timers : List Timer) : Type 0 where
+pub record IsHeld (image : Image) (slots : List ℤ) (timers : List TimerState) : Type 0 where
   pub stand : StandFor (slot_types image) slots (values_of (slot_types image) slots)
   pub so_many : length timers ≡ length image.timers
   pub times : Each IsTimer timers
 
 -- where a run starts, told by words
-abbrev pub first_state : Image → List ℤ → List Timer → State
-first_state image slots timers = start (values_of (slot_types image) slots) timers
+abbrev pub first_state : Image → List ℤ → List TimerState → State
+first_state image slots timers = initial_state (values_of (slot_types image) slots) timers
 
 -- The run of the image's code from these slots and timers ends with the others, after so many
 -- steps.
-pub record RunsTo (image : Image) (now : ℕ) (slots : List ℤ) (timers : List Timer) (new_slots : List ℤ) (new_timers : List Timer) (steps : ℕ) : Type 0 where
-  pub halts : (most : ℕ) → steps ≤ most → run image.code now most (first_state image slots timers) 0 ≡ Halted (values_of (slot_types image) new_slots) new_timers steps
+pub record RunsTo (image : Image) (now : ℕ) (slots : List ℤ) (timers : List TimerState)
+    (new_slots : List ℤ) (new_timers : List TimerState) (steps : ℕ) : Type 0 where
+  pub halts : (most : ℕ) → steps ≤ most
+      → run image.code now most (first_state image slots timers) 0
+      ≡ Halted (values_of (slot_types image) new_slots) new_timers steps
   pub within : (budget : ℕ) → IsBudget image.code budget → steps ≤ budget
   pub few : steps ≤ length image.code
-  pub depth : (most : ℕ) (count : ℕ) → IsDepth image most → IsWithin image.code now most count (first_state image slots timers)
-  pub keeps : (n : ℕ) → is_read_only (slots_of image) n ≡ true → slice_get new_slots n ≡ slice_get slots n
+  pub depth : (most : ℕ) (count : ℕ) → IsDepth image most
+      → IsWithin image.code now most count (first_state image slots timers)
+  pub keeps : (n : ℕ) → is_read_only (slots_of image) n ≡ true
+      → slice_get new_slots n ≡ slice_get slots n
   pub held : IsHeld image new_slots new_timers
 
 -- ---- the machine
 
 -- what a machine keeps: it knows the places of its points, and there is an output for each point
 -- that may be written
-pub record IsKept (image : Image) (slots : List ℤ) (timers : List Timer) (reads writes : List ℕ) (outputs : List Value) : Type 0 where
+pub record IsKept (image : Image) (slots : List ℤ) (timers : List TimerState)
+    (reads writes : List ℕ) (outputs : List Value) : Type 0 where
   pub held : IsHeld image slots timers
   pub read : reads ≡ read_places 0 image.points
   pub written : writes ≡ write_places 0 image.points
@@ -110,4 +121,5 @@ AreWords (p ∷ points) (w ∷ words) = IsSome (value_of p.elementary w) × AreW
 abbrev pub given_by : List ImagePoint → List ℤ → List Value
 given_by [] words = []
 given_by (p ∷ points) [] = []
-given_by (p ∷ points) (w ∷ words) = if p.writable then value_at p.elementary w ∷ given_by points words else given_by points words
+given_by (p ∷ points) (w ∷ words) =
+    if p.writable then value_at p.elementary w ∷ given_by points words else given_by points words

@@ -18,7 +18,8 @@ abbrev pub words_of : List Value → List ℤ
 words_of values = map number_of values
 
 -- The words stand for these values, which are of these types.
-pub record StandFor (types : List ElementaryType) (words : List ℤ) (values : List Value) : Type 0 where
+pub record StandFor (types : List ElementaryType) (words : List ℤ) (values : List Value)
+    : Type 0 where
   pub are : words ≡ words_of values
   pub typed : AreTyped types values
 
@@ -26,6 +27,7 @@ pub record StandFor (types : List ElementaryType) (words : List ℤ) (values : L
 abbrev pub value_at : ElementaryType → ℤ → Value
 value_at t w = unwrap_or (value_of t w) (Truth false)
 
+-- the values of these types that words stand for
 abbrev pub values_of : List ElementaryType → List ℤ → List Value
 values_of [] words = []
 values_of (t ∷ types) [] = []

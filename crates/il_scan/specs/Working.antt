@@ -11,8 +11,8 @@ use Rattle.il_image.specs.declared.opcode.SlotUse.TheVariants.{Load, Store, SetI
 use Rattle.il_image.specs.declared.opcode.When.TheVariants.{Always, IfTrue, IfFalse}
 use Rattle.il_image.specs.declared.opcode.TimerUse.{TimerUse}
 use Rattle.il_image.specs.declared.opcode.TimerUse.TheVariants.{SetInput, SetPreset, Run, LoadOutput, LoadElapsed}
-use Rattle.il_image.specs.declared.timer.Timer.{Timer as TimerState}
-use Rattle.il_image.specs.declared.timer.TimerKind.TheVariants.{OnDelay}
+use Rattle.il_image.specs.declared.timer.TimerState.{TimerState}
+use Rattle.bay_base.specs.declared.types.TimerKind.TheVariants.{OnDelay}
 use Rattle.il_image.specs.Arithmetic.{DividesBy, compared, computed}
 use Rattle.il_image.specs.Timers.{called, first_state}
 use Rattle.il_image.specs.Values.{number_of}
@@ -26,9 +26,11 @@ pub record Words : Type 0 where
   pub slots : List ℤ
   pub timers : List TimerState
 
+-- a record of these
 abbrev pub words : List ℤ → List ℤ → List TimerState → Words
 words stack slots timers = record { stack = stack; slots = slots; timers = timers }
 
+-- the word on top
 abbrev pub top : List ℤ → ℤ
 top stack = slice_index_or stack 0 (pos 0)
 
@@ -36,6 +38,7 @@ top stack = slice_index_or stack 0 (pos 0)
 abbrev pub first : List ℤ → ℤ
 first stack = slice_index_or stack 1 (pos 0)
 
+-- the timer of this number
 abbrev pub timer_at : List TimerState → ℕ → TimerState
 timer_at timers n = slice_index_or timers n (first_state OnDelay)
 
@@ -48,22 +51,44 @@ abbrev pub is_not_zero : ℤ → Bool
 is_not_zero w = not (int_eq w (pos 0))
 
 -- AND, OR and XOR of the words of two BOOLs
-abbrev pub joined : Connective → ℤ → ℤ → ℤ
-joined And a b = if int_eq a (pos 0) then pos 0 else b
-joined Or a b = if int_eq a (pos 0) then b else pos 1
-joined Xor a b = word_of (not (int_eq a b))
+abbrev pub combined : Connective → ℤ → ℤ → ℤ
+combined And a b = if int_eq a (pos 0) then pos 0 else b
+combined Or a b = if int_eq a (pos 0) then b else pos 1
+combined Xor a b = word_of (not (int_eq a b))
 
+-- what an instruction does with a slot
 abbrev pub slot_worked : SlotUse → ℕ → Words → Words
 slot_worked Load n m = record m { stack = slot_at m.slots n ∷ m.stack }
 slot_worked Store n m = record m { slots = slice_set m.slots n (top m.stack) }
-slot_worked SetIf n m = record m { slots = slice_set m.slots n (if int_eq (top m.stack) (pos 0) then slot_at m.slots n else pos 1) }
-slot_worked ResetIf n m = record m { slots = slice_set m.slots n (if int_eq (top m.stack) (pos 0) then slot_at m.slots n else pos 0) }
+slot_worked SetIf n m =
+    record m {
+      slots = slice_set m.slots n
+          (if int_eq (top m.stack) (pos 0) then slot_at m.slots n else pos 1);
+    }
+slot_worked ResetIf n m =
+    record m {
+      slots = slice_set m.slots n
+          (if int_eq (top m.stack) (pos 0) then slot_at m.slots n else pos 0);
+    }
 
+-- what an instruction does with a timer at this moment
 abbrev pub timer_worked : ℕ → TimerUse → ℕ → Words → Words
-timer_worked now SetInput n m = record m { stack = drop 1 m.stack; timers = slice_set m.timers n (record (timer_at m.timers n) { input = is_not_zero (top m.stack) }) }
-timer_worked now SetPreset n m = record m { stack = drop 1 m.stack; timers = slice_set m.timers n (record (timer_at m.timers n) { preset = unsigned_abs (top m.stack) }) }
-timer_worked now Run n m = record m { timers = slice_set m.timers n (called (timer_at m.timers n) now) }
-timer_worked now LoadOutput n m = record m { stack = word_of (timer_at m.timers n).output ∷ m.stack }
+timer_worked now SetInput n m =
+    record m {
+      stack = drop 1 m.stack;
+      timers = slice_set m.timers n
+          (record (timer_at m.timers n) { input = is_not_zero (top m.stack) });
+    }
+timer_worked now SetPreset n m =
+    record m {
+      stack = drop 1 m.stack;
+      timers = slice_set m.timers n
+          (record (timer_at m.timers n) { preset = unsigned_abs (top m.stack) });
+    }
+timer_worked now Run n m =
+    record m { timers = slice_set m.timers n (called (timer_at m.timers n) now) }
+timer_worked now LoadOutput n m =
+    record m { stack = word_of (timer_at m.timers n).output ∷ m.stack }
 timer_worked now LoadElapsed n m = record m { stack = pos (timer_at m.timers n).elapsed ∷ m.stack }
 
 -- A word of a narrower type is the word of the same number of a wider one.
@@ -73,9 +98,12 @@ worked now (Push v) m = record m { stack = number_of v ∷ m.stack }
 worked now Drop m = record m { stack = drop 1 m.stack }
 worked now (Slot use_of n) m = slot_worked use_of n m
 worked now Not m = record m { stack = word_of (int_eq (top m.stack) (pos 0)) ∷ drop 1 m.stack }
-worked now (Combine c) m = record m { stack = joined c (first m.stack) (top m.stack) ∷ drop 2 m.stack }
-worked now (Compute o w) m = record m { stack = computed o w (first m.stack) (top m.stack) ∷ drop 2 m.stack }
-worked now (Compare c) m = record m { stack = word_of (compared c (first m.stack) (top m.stack)) ∷ drop 2 m.stack }
+worked now (Combine c) m =
+    record m { stack = combined c (first m.stack) (top m.stack) ∷ drop 2 m.stack }
+worked now (Compute o w) m =
+    record m { stack = computed o w (first m.stack) (top m.stack) ∷ drop 2 m.stack }
+worked now (Compare c) m =
+    record m { stack = word_of (compared c (first m.stack) (top m.stack)) ∷ drop 2 m.stack }
 worked now (Widen w) m = m
 worked now (Jump when distance) m = m
 worked now (Timer use_of n) m = timer_worked now use_of n m
@@ -84,8 +112,10 @@ worked now (Timer use_of n) m = timer_worked now use_of n m
 abbrev pub leads : Instr → ℕ → List ℤ → Option ℕ
 leads Halt next stack = None
 leads (Jump Always distance) next stack = Some (next + distance)
-leads (Jump IfTrue distance) next stack = Some (if int_eq (top stack) (pos 0) then next else next + distance)
-leads (Jump IfFalse distance) next stack = Some (if int_eq (top stack) (pos 0) then next + distance else next)
+leads (Jump IfTrue distance) next stack =
+    Some (if int_eq (top stack) (pos 0) then next else next + distance)
+leads (Jump IfFalse distance) next stack =
+    Some (if int_eq (top stack) (pos 0) then next + distance else next)
 leads (Push v) next stack = Some next
 leads Drop next stack = Some next
 leads (Slot use_of n) next stack = Some next
@@ -102,6 +132,8 @@ leads (Timer use_of n) next stack = Some next
 abbrev pub IsSpan : ℤ → Type 0
 IsSpan w = (n : ℕ) × (w ≡ pos n) × (n ≤ 0x7FFF_FFFF)
 
+-- What the instruction needs is there: words, room, the slot or the timer, and a divisor other than
+-- 0.
 abbrev pub IsReady : Instr → Words → Type 0
 IsReady Halt m = Unit {0}
 IsReady (Push v) m = length m.stack < 32

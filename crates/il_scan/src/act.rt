@@ -5,13 +5,13 @@ ghost use Rattle.il_image.specs.Arithmetic.{DividesBy, compared, computed};
 ghost use Rattle.il_image.specs.Timers as time;
 ghost use Rattle.il_scan.specs.Working as spec;
 ghost use Rattle.il_scan.specs.Words.{slot_at};
-ghost use Rattle.il_scan.specs.Working.{IsReady, IsSpan, is_not_zero, joined, timer_at, word_of, worked, words};
+ghost use Rattle.il_scan.specs.Working.{IsReady, IsSpan, is_not_zero, combined, timer_at, word_of, worked, words};
 
 use crate::stack::Stack;
 use il_image::arithmetic::{Comparison, Operation, Width, compare, compute};
 use il_image::instr::Instr;
 use il_image::opcode::{Connective, SlotUse, TimerUse, When};
-use il_image::timer::Timer;
+use il_image::timer::TimerState;
 
 /// NOT: the top is negated.
 #[inline(always)]
@@ -27,7 +27,8 @@ fn negate(stack: &mut Stack)
 #[inline(always)]
 fn and(stack: &mut Stack)
     requires two { 1 < length stack.old }
-    ensures { stack.new ≡ joined Connective.And (spec.first stack.old) (spec.top stack.old) ∷ drop 2 stack.old }
+    ensures { stack.new ≡ combined Connective.And (spec.first stack.old) (spec.top stack.old)
+        ∷ drop 2 stack.old }
 {
     let second = stack.pop();
     let first = stack.top();
@@ -38,7 +39,8 @@ fn and(stack: &mut Stack)
 #[inline(always)]
 fn or(stack: &mut Stack)
     requires two { 1 < length stack.old }
-    ensures { stack.new ≡ joined Connective.Or (spec.first stack.old) (spec.top stack.old) ∷ drop 2 stack.old }
+    ensures { stack.new ≡ combined Connective.Or (spec.first stack.old) (spec.top stack.old)
+        ∷ drop 2 stack.old }
 {
     let second = stack.pop();
     let first = stack.top();
@@ -49,7 +51,8 @@ fn or(stack: &mut Stack)
 #[inline(always)]
 fn xor(stack: &mut Stack)
     requires two { 1 < length stack.old }
-    ensures { stack.new ≡ joined Connective.Xor (spec.first stack.old) (spec.top stack.old) ∷ drop 2 stack.old }
+    ensures { stack.new ≡ combined Connective.Xor (spec.first stack.old) (spec.top stack.old)
+        ∷ drop 2 stack.old }
 {
     let second = stack.pop();
     let first = stack.top();
@@ -60,7 +63,8 @@ fn xor(stack: &mut Stack)
 #[inline(always)]
 fn combine(stack: &mut Stack, connective: Connective)
     requires two { 1 < length stack.old }
-    ensures { stack.new ≡ joined connective (spec.first stack.old) (spec.top stack.old) ∷ drop 2 stack.old }
+    ensures { stack.new ≡ combined connective (spec.first stack.old) (spec.top stack.old)
+        ∷ drop 2 stack.old }
 {
     match connective {
         Connective::And => and(stack),
@@ -74,7 +78,8 @@ fn combine(stack: &mut Stack, connective: Connective)
 fn calculate(stack: &mut Stack, operation: Operation, width: Width)
     requires two { 1 < length stack.old }
     requires divisor { DividesBy operation (spec.top stack.old) }
-    ensures { stack.new ≡ computed operation width (spec.first stack.old) (spec.top stack.old) ∷ drop 2 stack.old }
+    ensures { stack.new ≡ computed operation width (spec.first stack.old) (spec.top stack.old)
+        ∷ drop 2 stack.old }
 {
     let second = stack.pop();
     let first = stack.top();
@@ -87,7 +92,8 @@ fn calculate(stack: &mut Stack, operation: Operation, width: Width)
 fn calculate_by(stack: &mut Stack, operation: Operation, width: Width)
     requires two { 1 < length stack.old }
     requires divisor { DividesBy operation (spec.top stack.old) }
-    ensures { stack.new ≡ computed operation width (spec.first stack.old) (spec.top stack.old) ∷ drop 2 stack.old }
+    ensures { stack.new ≡ computed operation width (spec.first stack.old) (spec.top stack.old)
+        ∷ drop 2 stack.old }
 {
     match operation {
         Operation::Add => calculate(stack, Operation::Add, width),
@@ -102,7 +108,8 @@ fn calculate_by(stack: &mut Stack, operation: Operation, width: Width)
 #[inline(always)]
 fn relate(stack: &mut Stack, comparison: Comparison)
     requires two { 1 < length stack.old }
-    ensures { stack.new ≡ word_of (compared comparison (spec.first stack.old) (spec.top stack.old)) ∷ drop 2 stack.old }
+    ensures { stack.new ≡ word_of (compared comparison (spec.first stack.old) (spec.top stack.old))
+        ∷ drop 2 stack.old }
 {
     let second = stack.pop();
     let first = stack.top();
@@ -113,7 +120,8 @@ fn relate(stack: &mut Stack, comparison: Comparison)
 #[inline(always)]
 fn relate_by(stack: &mut Stack, comparison: Comparison)
     requires two { 1 < length stack.old }
-    ensures { stack.new ≡ word_of (compared comparison (spec.first stack.old) (spec.top stack.old)) ∷ drop 2 stack.old }
+    ensures { stack.new ≡ word_of (compared comparison (spec.first stack.old) (spec.top stack.old))
+        ∷ drop 2 stack.old }
 {
     match comparison {
         Comparison::Gt => relate(stack, Comparison::Gt),
@@ -157,7 +165,8 @@ fn store(stack: &Stack, slots: &mut [i64], number: u16)
 fn set_if(stack: &Stack, slots: &mut [i64], number: u16, word: i64)
     requires some { 0 < length stack.now }
     requires there { number < length slots.old }
-    ensures { slots.new ≡ slice_set slots.old number (if int_eq (spec.top stack.now) (pos 0) then slot_at slots.old number else word) }
+    ensures { slots.new ≡ slice_set slots.old number
+        (if int_eq (spec.top stack.now) (pos 0) then slot_at slots.old number else word) }
 {
     let place = usize::from(number);
     let old = slots[place];
@@ -179,11 +188,13 @@ fn choose(stack: &Stack, where_false: usize, where_true: usize) -> usize
 
 /// SETIN: the timer takes the top as IN.
 #[inline(always)]
-fn set_input(stack: &mut Stack, timers: &mut [Timer], number: u16)
+fn set_input(stack: &mut Stack, timers: &mut [TimerState], number: u16)
     requires some { 0 < length stack.old }
     requires there { number < length timers.old }
     ensures stack { stack.new ≡ drop 1 stack.old }
-    ensures timers { timers.new ≡ slice_set timers.old number (record (timer_at timers.old number) { input = is_not_zero (spec.top stack.old) }) }
+    ensures timers { timers.new
+        ≡ slice_set timers.old number
+        (record (timer_at timers.old number) { input = is_not_zero (spec.top stack.old) }) }
 {
     let word = stack.pop();
     let timer = &mut timers[usize::from(number)];
@@ -192,12 +203,14 @@ fn set_input(stack: &mut Stack, timers: &mut [Timer], number: u16)
 
 /// SETPT: the timer takes the top as PT.
 #[inline(always)]
-fn set_preset(stack: &mut Stack, timers: &mut [Timer], number: u16)
+fn set_preset(stack: &mut Stack, timers: &mut [TimerState], number: u16)
     requires some { 0 < length stack.old }
     requires there { number < length timers.old }
     requires span { IsSpan (spec.top stack.old) }
     ensures stack { stack.new ≡ drop 1 stack.old }
-    ensures timers { timers.new ≡ slice_set timers.old number (record (timer_at timers.old number) { preset = unsigned_abs (spec.top stack.old) }) }
+    ensures timers { timers.new
+        ≡ slice_set timers.old number
+        (record (timer_at timers.old number) { preset = unsigned_abs (spec.top stack.old) }) }
 {
     let word = stack.pop();
     let timer = &mut timers[usize::from(number)];
@@ -206,16 +219,17 @@ fn set_preset(stack: &mut Stack, timers: &mut [Timer], number: u16)
 
 /// RUN: one call of the timer at this moment.
 #[inline(always)]
-fn run(timers: &mut [Timer], number: u16, now: u64)
+fn run(timers: &mut [TimerState], number: u16, now: u64)
     requires { number < length timers.old }
-    ensures { timers.new ≡ slice_set timers.old number (time.called (timer_at timers.old number) now) }
+    ensures { timers.new ≡ slice_set timers.old number
+        (time.called (timer_at timers.old number) now) }
 {
     timers[usize::from(number)].call(now);
 }
 
 /// LOADQ: Q goes on the stack.
 #[inline(always)]
-fn load_output(stack: &mut Stack, timers: &[Timer], number: u16)
+fn load_output(stack: &mut Stack, timers: &[TimerState], number: u16)
     requires room { length stack.old < 32 }
     requires there { number < length timers.now }
     ensures { stack.new ≡ word_of (timer_at timers.now number).output ∷ stack.old }
@@ -226,7 +240,7 @@ fn load_output(stack: &mut Stack, timers: &[Timer], number: u16)
 
 /// LOADET: ET goes on the stack.
 #[inline(always)]
-fn load_elapsed(stack: &mut Stack, timers: &[Timer], number: u16)
+fn load_elapsed(stack: &mut Stack, timers: &[TimerState], number: u16)
     requires room { length stack.old < 32 }
     requires there { number < length timers.now }
     ensures { stack.new ≡ pos (timer_at timers.now number).elapsed ∷ stack.old }
@@ -244,12 +258,13 @@ pub(crate) fn act(
     next: usize,
     stack: &mut Stack,
     slots: &mut [i64],
-    timers: &mut [Timer],
+    timers: &mut [TimerState],
 ) -> Option<usize>
     requires next { next < 2 ^ 63 }
     requires ready { IsReady instr (words stack.old slots.old timers.old) }
     ensures to { result ≡ spec.leads instr next stack.old }
-    ensures words { words stack.new slots.new timers.new ≡ worked now instr (words stack.old slots.old timers.old) }
+    ensures words { words stack.new slots.new timers.new
+        ≡ worked now instr (words stack.old slots.old timers.old) }
 {
     match instr {
         Instr::Halt => return None,

@@ -24,7 +24,8 @@ fn number(code: &[u8], at: usize) -> u16
 #[inline(always)]
 fn signed(elementary: ElementaryType, code: &[u8], at: usize) -> i64
     requires { at + octet_count (size_of elementary) ≤ length code.now }
-    ensures { signed_at (size_of elementary) (drop at code.now) ≡ Ok (result, drop (at + octet_count (size_of elementary)) code.now) }
+    ensures { signed_at (size_of elementary) (drop at code.now)
+        ≡ Ok (result, drop (at + octet_count (size_of elementary)) code.now) }
 {
     match elementary {
         ElementaryType::Bool => i64::from(i8::from_be_bytes([code[at]])),
@@ -72,7 +73,8 @@ fn size(elementary: ElementaryType) -> usize
 #[inline(always)]
 fn value(elementary: ElementaryType, code: &[u8], at: usize) -> Value
     requires { IsOk (value_at (size_of elementary) elementary (drop at code.now)) }
-    ensures { value_at (size_of elementary) elementary (drop at code.now) ≡ Ok (result, drop (at + octet_count (size_of elementary)) code.now) }
+    ensures { value_at (size_of elementary) elementary (drop at code.now)
+        ≡ Ok (result, drop (at + octet_count (size_of elementary)) code.now) }
 {
     match Value::of(elementary, signed(elementary, code, at)) {
         Some(value) => value,
@@ -99,7 +101,8 @@ fn width(code: &[u8], at: usize) -> Width
 fn operand(opcode: Opcode, code: &[u8], at: usize) -> (Instr, usize)
     requires whole { IsOk (operand_from Two opcode (drop at code.now)) }
     requires within { at ≤ length code.now }
-    ensures value { operand_from Two opcode (drop at code.now) ≡ Ok (result.0, drop result.1 code.now) }
+    ensures value { operand_from Two opcode (drop at code.now)
+        ≡ Ok (result.0, drop result.1 code.now) }
     ensures within { result.1 ≤ length code.now }
 {
     match opcode {

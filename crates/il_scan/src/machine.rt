@@ -16,7 +16,7 @@ use crate::slots::{
     room_for_outputs,
 };
 use il_image::image::Image;
-use il_image::timer::Timer;
+use il_image::timer::TimerState;
 use il_image::value::Value;
 use il_verify::verify::Verified;
 use std::alloc::{AllocError, Global};
@@ -28,7 +28,7 @@ use std::marker::Model;
 pub struct Machine {
     verified: Verified,
     slots: Vec<i64>,
-    timers: Vec<Timer>,
+    timers: Vec<TimerState>,
     places: Places,
     outputs: Vec<Value>,
 }
@@ -42,7 +42,8 @@ impl Model for Machine {
 
     ghost view = { λ m. held m.verified m.slots.items m.timers.items };
 
-    ghost invariant = { λ m. IsKept m.verified m.slots.items m.timers.items m.places.reads.items m.places.writes.items m.outputs.items };
+    ghost invariant = { λ m. IsKept m.verified m.slots.items m.timers.items m.places.reads.items
+        m.places.writes.items m.outputs.items };
 }
 
 /// What a scan gives.
@@ -59,15 +60,18 @@ pub struct Scan<'a> {
 #[derive(Drop)]
 struct Memory {
     slots: Vec<i64>,
-    timers: Vec<Timer>,
+    timers: Vec<TimerState>,
     places: Places,
     outputs: Vec<Value>,
 }
 
 /// The memory of a machine at first.
 fn memory_of(alloc: Global, image: &Image) -> Result<Memory, AllocError>
-    ensures first { IfOk result (λ m. held image.now m.slots.items m.timers.items ≡ held_first image.now) }
-    ensures kept { IfOk result (λ m. IsKept image.now m.slots.items m.timers.items m.places.reads.items m.places.writes.items m.outputs.items) }
+    ensures first { IfOk result
+        (λ m. held image.now m.slots.items m.timers.items ≡ held_first image.now) }
+    ensures kept { IfOk result
+        (λ m. IsKept image.now m.slots.items m.timers.items m.places.reads.items
+        m.places.writes.items m.outputs.items) }
     ensures memory { IfErr result (λ e. TakesMemory image.now) }
 {
     let slots = first_slots(alloc, image)?;
@@ -88,14 +92,15 @@ fn run_points<I: Inputs>(
     inputs: &I,
     now: u64,
     slots: &mut [i64],
-    timers: &mut [Timer],
+    timers: &mut [TimerState],
     reads: &[usize],
 ) -> u32
     requires safe { IsSafe image.now }
     requires types { I.types inputs.now ≡ map type_of_point (read_only image.now.points) }
     requires held { IsHeld image.now slots.old timers.old }
     requires read { reads.now ≡ read_places 0 image.now.points }
-    ensures scans { Scans (held image.now slots.old timers.old) (I.values inputs.now) now (held image.now slots.new timers.new) result
+    ensures scans { Scans (held image.now slots.old timers.old) (I.values inputs.now) now
+        (held image.now slots.new timers.new) result
         (outputs_of image.now.points (values_of (slot_types image.now) slots.new)) }
     ensures held { IsHeld image.now slots.new timers.new }
 {
@@ -109,15 +114,18 @@ fn run_once(
     inputs: &[Value],
     now: u64,
     slots: &mut [i64],
-    timers: &mut [Timer],
+    timers: &mut [TimerState],
     places: &Places,
     outputs: &mut [Value],
 ) -> u32
     requires safe { IsSafe image.now }
     requires inputs { AreInputs image.now.points inputs.now }
-    requires kept { IsKept image.now slots.old timers.old places.now.reads.items places.now.writes.items outputs.old }
-    ensures scans { Scans (held image.now slots.old timers.old) inputs.now now (held image.now slots.new timers.new) result outputs.new }
-    ensures kept { IsKept image.now slots.new timers.new places.now.reads.items places.now.writes.items outputs.new }
+    requires kept { IsKept image.now slots.old timers.old places.now.reads.items
+        places.now.writes.items outputs.old }
+    ensures scans { Scans (held image.now slots.old timers.old) inputs.now now
+        (held image.now slots.new timers.new) result outputs.new }
+    ensures kept { IsKept image.now slots.new timers.new places.now.reads.items
+        places.now.writes.items outputs.new }
 {
     let inputs = Listed { values: inputs };
     let steps = run_points(image, &inputs, now, slots, timers, places.reads.as_slice());
@@ -178,7 +186,8 @@ impl Machine {
     /// gone.
     pub fn scan_points<I: Inputs>(&mut self, inputs: &I, now: u64) -> u32
         requires { I.types inputs.now ≡ map type_of_point (read_only self.old.image.points) }
-        ensures { Scans self.old (I.values inputs.now) now self.new result (outputs_of self.new.image.points self.new.slots) }
+        ensures { Scans self.old (I.values inputs.now) now self.new result
+            (outputs_of self.new.image.points self.new.slots) }
     {
         run_points(
             self.verified.image(),

@@ -8,7 +8,7 @@ ghost use Rattle.il_scan.specs.PointPlaces.{AllBelow};
 ghost use Rattle.il_scan.specs.PointPlaces.{AreValues};
 ghost use Rattle.il_scan.specs.Standing.{AreWords};
 
-use crate::slots::is_true;
+use crate::slots::is_output_true;
 use il_image::image::ImagePoint;
 use il_image::value::Value;
 use std::marker::Model;
@@ -104,7 +104,7 @@ impl<'a> Outputs<'a> {
         ensures { result ≡ spec.is_true (slice_get self.now place) }
     {
         if place < self.writes.len() {
-            is_true(self.points, self.slots, self.writes[place])
+            is_output_true(self.points, self.slots, self.writes[place])
         } else {
             false
         }

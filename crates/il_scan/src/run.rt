@@ -9,7 +9,7 @@ use crate::act::act;
 use crate::fetch::fetch;
 use crate::stack::Stack;
 use il_image::image::Image;
-use il_image::timer::Timer;
+use il_image::timer::TimerState;
 
 /// Does the instruction at a place, and gives the place of the next one if there is one.
 #[inline(always)]
@@ -20,12 +20,14 @@ fn turn(
     place: usize,
     stack: &mut Stack,
     slots: &mut [i64],
-    timers: &mut [Timer],
+    timers: &mut [TimerState],
 ) -> Option<usize>
     requires code { code.now ≡ _image.now.code }
-    requires stands { (s : State) × StandsAt _image.now place (words stack.old slots.old timers.old) s }
+    requires stands { (s : State)
+        × StandsAt _image.now place (words stack.old slots.old timers.old) s }
     ensures within { place < length _image.now.code }
-    ensures turns { (s : State) → StandsAt _image.now place (words stack.old slots.old timers.old) s →
+    ensures turns { (s : State) → StandsAt _image.now place (words stack.old slots.old timers.old) s
+        →
         Turns _image.now now s result (words stack.new slots.new timers.new) }
 {
     let (instr, next) = fetch(code, place);
@@ -33,7 +35,7 @@ fn turn(
 }
 
 /// Runs the code over the slots and the timers at this moment, and counts its instructions.
-pub(crate) fn run(image: &Image, now: u64, slots: &mut [i64], timers: &mut [Timer]) -> u32
+pub(crate) fn run(image: &Image, now: u64, slots: &mut [i64], timers: &mut [TimerState]) -> u32
     requires safe { IsSafe image.now }
     requires held { IsHeld image.now slots.old timers.old }
     ensures { RunsTo image.now now slots.old timers.old slots.new timers.new result }

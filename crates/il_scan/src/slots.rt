@@ -10,9 +10,9 @@ ghost use Rattle.il_scan.specs.PointPlaces.{AllBelow, read_places, with_words, w
 ghost use Rattle.il_scan.specs.Words.{AreTyped, slot_at, value_at, words_of};
 
 use crate::points::Inputs;
-use bay_base::types::ElementaryType;
+use bay_base::types::{ElementaryType, TimerKind};
 use il_image::image::{Image, ImagePoint};
-use il_image::timer::{Timer, TimerKind};
+use il_image::timer::TimerState;
 use il_image::value::Value;
 use std::alloc::{AllocError, Global};
 
@@ -145,7 +145,7 @@ fn is_true_word(elementary: ElementaryType, word: i64) -> bool
 
 /// Whether the value of the point at a place is TRUE.
 #[inline(always)]
-pub(crate) fn is_true(points: &[ImagePoint], slots: &[i64], place: usize) -> bool
+pub(crate) fn is_output_true(points: &[ImagePoint], slots: &[i64], place: usize) -> bool
     requires words { AreWords points.now slots.now }
     requires within { place < length points.now }
     ensures { result ≡ spec.is_true (Some (spec.output_value points.now slots.now place)) }
@@ -194,7 +194,8 @@ fn push_numbers(slots: &mut Vec<i64>, variables: &[Value]) -> Result<(), AllocEr
 
 /// The words of the slots at first: FALSE or 0 for each point, and the variables' initial values.
 pub(crate) fn first_slots(alloc: Global, image: &Image) -> Result<Vec<i64>, AllocError>
-    ensures ok { IfOk result (λ slots. slots.items ≡ map (λ _. pos 0) image.now.points ++ words_of image.now.variables) }
+    ensures ok { IfOk result
+        (λ slots. slots.items ≡ map (λ _. pos 0) image.now.points ++ words_of image.now.variables) }
     ensures memory { IfErr result (λ e. 0 < length image.now.points + length image.now.variables) }
 {
     let mut slots = Vec::new(alloc);
@@ -204,13 +205,16 @@ pub(crate) fn first_slots(alloc: Global, image: &Image) -> Result<Vec<i64>, Allo
 }
 
 /// The timers at first.
-pub(crate) fn first_timers(alloc: Global, kinds: &[TimerKind]) -> Result<Vec<Timer>, AllocError>
+pub(crate) fn first_timers(
+    alloc: Global,
+    kinds: &[TimerKind],
+) -> Result<Vec<TimerState>, AllocError>
     ensures ok { IfOk result (λ timers. timers.items ≡ map first_state kinds.now) }
     ensures memory { IfErr result (λ e. 0 < length kinds.now) }
 {
     let mut timers = Vec::new(alloc);
     for kind in kinds {
-        timers.push(Timer::new(*kind))?;
+        timers.push(TimerState::new(*kind))?;
     }
     Ok(timers)
 }

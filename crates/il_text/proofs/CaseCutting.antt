@@ -11,7 +11,7 @@ use Rattle.il_text.specs.Words.{symbol_of_word, reserved_symbol}
 use Rattle.il_text.specs.Pieces.{opens, ends, closes, blanked, blank_of, joins, join, pieces}
 use Rattle.il_text.specs.Places.{last_line}
 use Rattle.il_text.specs.Symbols.{literal_piece, name_or_reserved, plain_word, word, mark_of, mark_piece, is_line_end, piece, cut}
-use Rattle.il_text.specs.Tokens.{Symbol, name, frame_word, type_word, literal, mnemonic_word, mark_symbol, Piece, blank, line_end, token, bad_token, bad_literal}
+use Rattle.il_text.specs.Tokens.{Symbol, name, keyword_word, type_word, literal, mnemonic_word, mark_symbol, Piece, blank, line_end, token, bad_token, bad_literal}
 use Rattle.bay_base.specs.Words.{reserved_of}
 use Rattle.bay_base.specs.declared.words.ReservedWord.{ReservedWord}
 use Rattle.bay_base.specs.declared.words.ReservedWord.TheVariants as word_is
@@ -28,7 +28,7 @@ use Rattle.il_text.proofs.CaseLemmas.{up, up-eqb, up-underscore, up-digit, up-al
 
 abbrev pub upper_symbol : Symbol → Symbol
 upper_symbol (name n) = name (map up n)
-upper_symbol (frame_word w) = frame_word w
+upper_symbol (keyword_word w) = keyword_word w
 upper_symbol (type_word k) = type_word k
 upper_symbol (literal v) = literal v
 upper_symbol (mnemonic_word m) = mnemonic_word m
@@ -59,7 +59,19 @@ begins_name-up x = rw (up-alphabetic x, up-underscore x) refl
 linked-up : (x y : ℕ) → linked (up x) (up y) ≡ linked x y
 unfolding linked
 linked-up x y =
-    rw (word-up y, word-up x, sign-up y, sign-up x, up-digit y, up-eqb x 35 (lit< tt), up-eqb y 61 (lit< tt), up-eqb x 58 (lit< tt), up-eqb y 10 (lit< tt), up-eqb x 13 (lit< tt)) refl
+    rw (
+      word-up y,
+      word-up x,
+      sign-up y,
+      sign-up x,
+      up-digit y,
+      up-eqb x 35 (lit< tt),
+      up-eqb y 61 (lit< tt),
+      up-eqb x 58 (lit< tt),
+      up-eqb y 10 (lit< tt),
+      up-eqb x 13 (lit< tt),
+    )
+    refl
 
 pub index-up : (xs : List ℕ) (k : ℕ) → slice_index (map up xs) k ≡ up (slice_index xs k)
 index-up [] k = refl
@@ -68,10 +80,13 @@ index-up (x ∷ xs) (suc k) = index-up xs k
 
 joins-up : (x : ℕ) (p : List ℕ) → joins (up x) (map up p) ≡ joins x p
 unfolding joins
-joins-up x p = rw (index-up p 0, linked-up x (slice_index p 0), up-eqb x 38 (lit< tt), same_up p (78 ∷ [])) refl
+joins-up x p =
+    rw (index-up p 0, linked-up x (slice_index p 0), up-eqb x 38 (lit< tt), same_up p (78 ∷ []))
+    refl
 
 cond_pieces : (b : Bool) (x : ℕ) (p : List ℕ) (ps : List (List ℕ))
-    → cond b ((up x ∷ map up p) ∷ map (map up) ps) ((up x ∷ []) ∷ map up p ∷ map (map up) ps) ≡ map (map up) (cond b ((x ∷ p) ∷ ps) ((x ∷ []) ∷ p ∷ ps))
+    → cond b ((up x ∷ map up p) ∷ map (map up) ps) ((up x ∷ []) ∷ map up p ∷ map (map up) ps)
+    ≡ map (map up) (cond b ((x ∷ p) ∷ ps) ((x ∷ []) ∷ p ∷ ps))
 cond_pieces true x p ps = refl
 cond_pieces false x p ps = refl
 
@@ -95,7 +110,8 @@ unfolding closes
 closes-up [] = refl
 closes-up (x ∷ xs) =
     let rest : closes (map up xs) ≡ closes xs = unfold closes in closes-up xs in
-    ap (λ (b : Bool). b || closes (map up xs)) (ends-up (x ∷ xs)) ∙ ap (λ (b : Bool). ends (x ∷ xs) || b) rest
+    ap (λ (b : Bool). b || closes (map up xs)) (ends-up (x ∷ xs))
+    ∙ ap (λ (b : Bool). ends (x ∷ xs) || b) rest
 
 blank_of-up : (x : ℕ) → blank_of (up x) ≡ up (blank_of x)
 blank_of-up x = rw (up-eqb x 10 (lit< tt)) (blank_by (eqb x 10))
@@ -108,7 +124,8 @@ opening_by : (b : Bool) → cond b 32 256 ≡ up (cond b 32 256)
 opening_by true = refl
 opening_by false = refl
 
-cond_blanked : (b : Bool) (l m l' m' : List ℕ) → l ≡ map up l' → m ≡ map up m' → cond b l m ≡ map up (cond b l' m')
+cond_blanked : (b : Bool) (l m l' m' : List ℕ) → l ≡ map up l' → m ≡ map up m'
+    → cond b l m ≡ map up (cond b l' m')
 cond_blanked true l m l' m' e f = e
 cond_blanked false l m l' m' e f = f
 
@@ -118,17 +135,27 @@ blanked-up b [] = refl
 blanked-up true (x ∷ []) = ap (λ (c : ℕ). c ∷ []) (blank_of-up x)
 blanked-up false (x ∷ []) = refl
 blanked-up true (x ∷ y ∷ xs) =
-    let outside : blanked false (map up xs) ≡ map up (blanked false xs) = unfold blanked in blanked-up false xs in
-    let inside : blanked true (up y ∷ map up xs) ≡ map up (blanked true (y ∷ xs)) = unfold blanked in blanked-up true (y ∷ xs) in
-    ap (λ (b : Bool). cond b (32 ∷ 32 ∷ blanked false (map up xs)) (blank_of (up x) ∷ blanked true (up y ∷ map up xs))) (ends-up (x ∷ y ∷ xs))
-    ∙ cond_blanked (ends (x ∷ y ∷ xs)) _ _ (32 ∷ 32 ∷ blanked false xs) (blank_of x ∷ blanked true (y ∷ xs)) (ap (λ (l : List ℕ). 32 ∷ 32 ∷ l) outside)
-    (ap (λ (c : ℕ). c ∷ blanked true (up y ∷ map up xs)) (blank_of-up x) ∙ ap (λ (l : List ℕ). up (blank_of x) ∷ l) inside)
+    let outside : blanked false (map up xs) ≡ map up (blanked false xs) =
+    unfold blanked in blanked-up false xs in
+    let inside : blanked true (up y ∷ map up xs) ≡ map up (blanked true (y ∷ xs)) =
+    unfold blanked in blanked-up true (y ∷ xs) in
+    ap (λ (b : Bool). cond b (32 ∷ 32 ∷ blanked false (map up xs))
+    (blank_of (up x) ∷ blanked true (up y ∷ map up xs))) (ends-up (x ∷ y ∷ xs))
+    ∙ cond_blanked (ends (x ∷ y ∷ xs)) _ _ (32 ∷ 32 ∷ blanked false xs)
+    (blank_of x ∷ blanked true (y ∷ xs)) (ap (λ (l : List ℕ). 32 ∷ 32 ∷ l) outside)
+    (ap (λ (c : ℕ). c ∷ blanked true (up y ∷ map up xs)) (blank_of-up x)
+    ∙ ap (λ (l : List ℕ). up (blank_of x) ∷ l) inside)
 blanked-up false (x ∷ y ∷ xs) =
-    let inside : blanked true (map up xs) ≡ map up (blanked true xs) = unfold blanked in blanked-up true xs in
-    let outside : blanked false (up y ∷ map up xs) ≡ map up (blanked false (y ∷ xs)) = unfold blanked in blanked-up false (y ∷ xs) in
-    ap (λ (b : Bool). cond b (cond (closes (map up xs)) 32 256 ∷ 32 ∷ blanked true (map up xs)) (up x ∷ blanked false (up y ∷ map up xs))) (opens-up (x ∷ y ∷ xs))
-    ∙ cond_blanked (opens (x ∷ y ∷ xs)) _ _ (cond (closes xs) 32 256 ∷ 32 ∷ blanked true xs) (x ∷ blanked false (y ∷ xs))
-    (ap (λ (b : Bool). cond b 32 256 ∷ 32 ∷ blanked true (map up xs)) (closes-up xs) ∙ ap (λ (c : ℕ). c ∷ 32 ∷ blanked true (map up xs)) (opening_by (closes xs))
+    let inside : blanked true (map up xs) ≡ map up (blanked true xs) =
+    unfold blanked in blanked-up true xs in
+    let outside : blanked false (up y ∷ map up xs) ≡ map up (blanked false (y ∷ xs)) =
+    unfold blanked in blanked-up false (y ∷ xs) in
+    ap (λ (b : Bool). cond b (cond (closes (map up xs)) 32 256 ∷ 32 ∷ blanked true (map up xs))
+    (up x ∷ blanked false (up y ∷ map up xs))) (opens-up (x ∷ y ∷ xs))
+    ∙ cond_blanked (opens (x ∷ y ∷ xs)) _ _ (cond (closes xs) 32 256 ∷ 32 ∷ blanked true xs)
+    (x ∷ blanked false (y ∷ xs))
+    (ap (λ (b : Bool). cond b 32 256 ∷ 32 ∷ blanked true (map up xs)) (closes-up xs)
+    ∙ ap (λ (c : ℕ). c ∷ 32 ∷ blanked true (map up xs)) (opening_by (closes xs))
     ∙ ap (λ (l : List ℕ). up (cond (closes xs) 32 256) ∷ 32 ∷ l) inside)
     (ap (λ (l : List ℕ). up x ∷ l) outside)
 
@@ -140,7 +167,8 @@ last_line-up (x ∷ xs) =
     rw (up-eqb x 10 (lit< tt), length-up xs, rest) refl
 
 -- a spelling without letters
-plain-up : (p ks : List ℕ) → list_all (λ k. ltb k 65) ks ≡ true → bytes_eq (map up p) ks ≡ bytes_eq p ks
+plain-up : (p ks : List ℕ) → list_all (λ k. ltb k 65) ks ≡ true
+    → bytes_eq (map up p) ks ≡ bytes_eq p ks
 plain-up [] [] h = refl
 plain-up [] (k ∷ ks) h = refl
 plain-up (x ∷ p) [] h = refl
@@ -216,11 +244,13 @@ word_cases word_is.Tof = refl
 word_cases word_is.True = refl
 word_cases word_is.False = refl
 
-symbols_by : (o : Option ReservedWord) → option_map upper_symbol (option_map symbol_of_word o) ≡ option_map symbol_of_word o
+symbols_by : (o : Option ReservedWord)
+    → option_map upper_symbol (option_map symbol_of_word o) ≡ option_map symbol_of_word o
 symbols_by None = refl
 symbols_by (Some r) = ap Some (word_cases r)
 
-reserved-up : (w : List ℕ) → reserved_symbol (map up w) ≡ option_map upper_symbol (reserved_symbol w)
+reserved-up : (w : List ℕ)
+    → reserved_symbol (map up w) ≡ option_map upper_symbol (reserved_symbol w)
 unfolding reserved_symbol
 reserved-up w = ap (option_map symbol_of_word) (reserved-upper w) ∙ sym (symbols_by (reserved_of w))
 
@@ -229,11 +259,13 @@ literal-up (Ok v) = refl
 literal-up (Err Malformed) = refl
 literal-up (Err OutOfRange) = refl
 
-named_cond : (w : List ℕ) (b : Bool) → cond b (token (name (map up w))) bad_token ≡ upper_piece (cond b (token (name w)) bad_token)
+named_cond : (w : List ℕ) (b : Bool)
+    → cond b (token (name (map up w))) bad_token ≡ upper_piece (cond b (token (name w)) bad_token)
 named_cond w true = refl
 named_cond w false = refl
 
-named_by : (w : List ℕ) (o : Option Symbol) → name_or_reserved (map up w) (option_map upper_symbol o) ≡ upper_piece (name_or_reserved w o)
+named_by : (w : List ℕ) (o : Option Symbol)
+    → name_or_reserved (map up w) (option_map upper_symbol o) ≡ upper_piece (name_or_reserved w o)
 named_by w (Some k) = refl
 named_by w None = rw (length-up w) (named_cond w (leb (length w) 64))
 
@@ -241,11 +273,15 @@ plain_word-up : (w : List ℕ) → plain_word (map up w) ≡ upper_piece (plain_
 unfolding plain_word
 plain_word-up w = ap (name_or_reserved (map up w)) (reserved-up w) ∙ named_by w (reserved_symbol w)
 
-word_by : (w : List ℕ) (o : Option (List ℕ × List ℕ)) → halves w ≡ o → (b : Bool) → begins_name (slice_index w 0) ≡ b → word (map up w) ≡ upper_piece (word w)
+word_by : (w : List ℕ) (o : Option (List ℕ × List ℕ)) → halves w ≡ o → (b : Bool)
+    → begins_name (slice_index w 0) ≡ b → word (map up w) ≡ upper_piece (word w)
 unfolding word
 word_by w (Some h) e b f = rw (halves-up w, e, prefixed-up h.0 h.1) (literal-up (prefixed h.0 h.1))
-word_by w None e true f = rw (halves-up w, e, index-up w 0, begins_name-up (slice_index w 0), f) (plain_word-up w)
-word_by w None e false f = rw (halves-up w, e, index-up w 0, begins_name-up (slice_index w 0), f, decimal-up w) (literal-up (untyped (decimal w)))
+word_by w None e true f =
+    rw (halves-up w, e, index-up w 0, begins_name-up (slice_index w 0), f) (plain_word-up w)
+word_by w None e false f =
+    rw (halves-up w, e, index-up w 0, begins_name-up (slice_index w 0), f, decimal-up w)
+    (literal-up (untyped (decimal w)))
 
 -- no mark is a name
 record Kept (o : Option Symbol) : Type 0 where
@@ -277,12 +313,33 @@ kept_marks p =
     (kept_if (bytes_eq p (codes "&")) (kept_operator (Combine And false))
     (kept_if (same_name p (codes "&N")) (kept_operator (Combine And true)) kept_none))))))))
 
-piece_by : (p : List ℕ) (a b c : Bool) → is_blank (slice_index p 0) ≡ a → is_line_end p ≡ b → begins_word (slice_index p 0) ≡ c → piece (map up p) ≡ upper_piece (piece p)
+piece_by : (p : List ℕ) (a b c : Bool) → is_blank (slice_index p 0) ≡ a → is_line_end p ≡ b
+    → begins_word (slice_index p 0) ≡ c → piece (map up p) ≡ upper_piece (piece p)
 unfolding piece
 piece_by p true b c e f g = rw (index-up p 0, blank-up (slice_index p 0), e) refl
-piece_by p false true c e f g = rw (index-up p 0, blank-up (slice_index p 0), e, line_end-up p, f) refl
-piece_by p false false true e f g = rw (index-up p 0, blank-up (slice_index p 0), e, line_end-up p, f, begins_word-up (slice_index p 0), g) (word_by p _ refl _ refl)
-piece_by p false false false e f g = rw (index-up p 0, blank-up (slice_index p 0), e, line_end-up p, f, begins_word-up (slice_index p 0), g, mark-up p) (kept_marks p).is
+piece_by p false true c e f g =
+    rw (index-up p 0, blank-up (slice_index p 0), e, line_end-up p, f) refl
+piece_by p false false true e f g =
+    rw (
+      index-up p 0,
+      blank-up (slice_index p 0),
+      e,
+      line_end-up p,
+      f,
+      begins_word-up (slice_index p 0),
+      g,
+    ) (word_by p _ refl _ refl)
+piece_by p false false false e f g =
+    rw (
+      index-up p 0,
+      blank-up (slice_index p 0),
+      e,
+      line_end-up p,
+      f,
+      begins_word-up (slice_index p 0),
+      g,
+      mark-up p,
+    ) (kept_marks p).is
 
 piece-up : (p : List ℕ) → piece (map up p) ≡ upper_piece (piece p)
 piece-up p = piece_by p _ _ _ refl refl refl
@@ -293,4 +350,6 @@ pieces_map (p ∷ ps) = rw (piece-up p, pieces_map ps) refl
 
 pub cut-up : (text : List ℕ) → cut false (map up text) ≡ map upper_piece (cut false text)
 unfolding cut
-cut-up text = ap (λ (l : List ℕ). map piece (pieces l)) (blanked-up false text) ∙ ap (map piece) (pieces-up (blanked false text)) ∙ pieces_map (pieces (blanked false text))
+cut-up text =
+    ap (λ (l : List ℕ). map piece (pieces l)) (blanked-up false text)
+    ∙ ap (map piece) (pieces-up (blanked false text)) ∙ pieces_map (pieces (blanked false text))

@@ -6,11 +6,12 @@ use Rattle.std.specs.Char.{to_ascii_uppercase, is_ascii_digit, is_ascii_alphabet
 use Rattle.std.specs.List.{position_or_len, prefix_len}
 use Rattle.std.specs.Str.Parse.{digits_value_after}
 use Rattle.std.specs.Prelude.{ℤ}
+use Rattle.bay_base.specs.Results.{◌>>=◌}
 use Rattle.bay_base.specs.Names.{same_name}
 use Rattle.il_text.specs.declared.literal.LiteralFault.{LiteralFault}
 use Rattle.il_text.specs.declared.program.Literal.TheVariants.{Lint}
 use Rattle.bay_base.proofs.NameLemmas.{same-upper}
-use Rattle.il_text.specs.Literals.{is_underscore, is_hash, is_integer, number, halves, base_of, decimal, based, integer, Signed, signed, read_on, truth_of, number_or_truth, bool_or_truth, typed_number, bool_literal, int_literal, dint_literal, time_literal, typed_bool, typed_int, typed_dint, typed_lint, typed_time, Duration, number_len, unit_len, number_of_part, with_part, part, total_of, milliseconds, prefixed}
+use Rattle.il_text.specs.Literals.{is_underscore, is_hash, is_integer, number, halves, base_of, decimal, based, integer, Signed, signed, truth_of, number_or_truth, bool_or_truth, typed_number, bool_literal, int_literal, dint_literal, time_literal, typed_bool, typed_int, typed_dint, typed_lint, typed_time, Duration, number_len, unit_len, number_of_part, with_part, part, total_of, milliseconds, prefixed}
 
 abbrev pub up : ℕ → ℕ
 up = to_ascii_uppercase
@@ -43,29 +44,38 @@ pub length-up : (a : List ℕ) → length (map up a) ≡ length a
 length-up [] = refl
 length-up (x ∷ a) = ap suc (length-up a)
 
-pub prefix-up : (p : ℕ → Bool) → ((x : ℕ) → p (up x) ≡ p x) → (xs : List ℕ) → prefix_len p (map up xs) ≡ prefix_len p xs
+pub prefix-up : (p : ℕ → Bool) → ((x : ℕ) → p (up x) ≡ p x) → (xs : List ℕ)
+    → prefix_len p (map up xs) ≡ prefix_len p xs
 prefix-up p h [] = refl
 prefix-up p h (x ∷ xs) = rw (h x, prefix-up p h xs) refl
 
-integer_from-up : (radix : ℕ) (w : Bool) (ds : List ℕ) → is_integer radix w (map up ds) ≡ is_integer radix w ds
+integer_from-up : (radix : ℕ) (w : Bool) (ds : List ℕ)
+    → is_integer radix w (map up ds) ≡ is_integer radix w ds
 unfolding is_integer
 integer_from-up radix w [] = refl
 integer_from-up radix w (x ∷ xs) =
-    let t : is_integer radix true (map up xs) ≡ is_integer radix true xs = unfold is_integer in integer_from-up radix true xs in
-    let f : is_integer radix false (map up xs) ≡ is_integer radix false xs = unfold is_integer in integer_from-up radix false xs in
+    let t : is_integer radix true (map up xs) ≡ is_integer radix true xs =
+    unfold is_integer in integer_from-up radix true xs in
+    let f : is_integer radix false (map up xs) ≡ is_integer radix false xs =
+    unfold is_integer in integer_from-up radix false xs in
     rw (up-underscore x, up-digit_value x, t, f) refl
 
 abbrev kept : List ℕ → List ℕ
 kept = filter (λ x. not (is_underscore x))
 
-kept_step : (radix n x : ℕ) (l m : List ℕ) (b : Bool) → ((k : ℕ) → digits_value_after radix k l ≡ digits_value_after radix k m)
-    → digits_value_after radix n (cond (not b) (up x ∷ l) l) ≡ digits_value_after radix n (cond (not b) (x ∷ m) m)
+kept_step : (radix n x : ℕ) (l m : List ℕ) (b : Bool)
+    → ((k : ℕ) → digits_value_after radix k l ≡ digits_value_after radix k m)
+    → digits_value_after radix n (cond (not b) (up x ∷ l) l)
+    ≡ digits_value_after radix n (cond (not b) (x ∷ m) m)
 kept_step radix n x l m true h = h n
 kept_step radix n x l m false h = rw (up-digit_value x) (h (n * radix + digit_value x))
 
-value-up : (radix n : ℕ) (ds : List ℕ) → digits_value_after radix n (kept (map up ds)) ≡ digits_value_after radix n (kept ds)
+value-up : (radix n : ℕ) (ds : List ℕ)
+    → digits_value_after radix n (kept (map up ds)) ≡ digits_value_after radix n (kept ds)
 value-up radix n [] = refl
-value-up radix n (x ∷ xs) = rw (up-underscore x) (kept_step radix n x (kept (map up xs)) (kept xs) (eqb x 95) (λ k. value-up radix k xs))
+value-up radix n (x ∷ xs) =
+    rw (up-underscore x) (kept_step radix n x (kept (map up xs)) (kept xs) (eqb x 95)
+    (λ k. value-up radix k xs))
 
 number-up : (radix : ℕ) (ds : List ℕ) → number radix (map up ds) ≡ number radix ds
 unfolding number
@@ -74,7 +84,8 @@ number-up radix ds = rw (integer_from-up radix true ds, value-up radix 0 ds) ref
 abbrev pub up_both : List ℕ × List ℕ → List ℕ × List ℕ
 up_both h = (map up h.0, map up h.1)
 
-cond_some : (b : Bool) (h : List ℕ × List ℕ) → cond b (Some (up_both h)) None ≡ option_map up_both (cond b (Some h) None)
+cond_some : (b : Bool) (h : List ℕ × List ℕ)
+    → cond b (Some (up_both h)) None ≡ option_map up_both (cond b (Some h) None)
 cond_some true h = refl
 cond_some false h = refl
 
@@ -85,7 +96,8 @@ pub halves-up : (w : List ℕ) → halves (map up w) ≡ option_map up_both (hal
 unfolding halves
 halves-up w =
     let n : ℕ = position_or_len is_hash w in
-    rw (hash-up w, length-up w, take-map up n w, drop-map up (n + 1) w) (cond_some (ltb n (length w)) (take n w, drop (n + 1) w))
+    rw (hash-up w, length-up w, take-map up n w, drop-map up (n + 1) w)
+    (cond_some (ltb n (length w)) (take n w, drop (n + 1) w))
 
 base-up : (w : List ℕ) → base_of (map up w) ≡ base_of w
 unfolding base_of
@@ -94,13 +106,15 @@ base-up w = simp same_up
 pub decimal-up : (w : List ℕ) → decimal (map up w) ≡ decimal w
 unfolding decimal
 decimal-up [] = refl
-decimal-up (x ∷ xs) = rw (up-eqb x 45 (lit< tt), up-eqb x 43 (lit< tt), number-up 10 xs, number-up 10 (x ∷ xs)) refl
+decimal-up (x ∷ xs) =
+    rw (up-eqb x 45 (lit< tt), up-eqb x 43 (lit< tt), number-up 10 xs, number-up 10 (x ∷ xs)) refl
 
 based-up : (a b : List ℕ) → based (map up a) (map up b) ≡ based a b
 unfolding based
 based-up a b = simp (base-up, number-up)
 
-integer_by : (w : List ℕ) (o : Option (List ℕ × List ℕ)) → halves w ≡ o → integer (map up w) ≡ integer w
+integer_by : (w : List ℕ) (o : Option (List ℕ × List ℕ)) → halves w ≡ o
+    → integer (map up w) ≡ integer w
 unfolding integer
 integer_by w None e = rw (halves-up w, e) (decimal-up w)
 integer_by w (Some h) e = rw (halves-up w, e) (based-up h.0 h.1)
@@ -113,7 +127,9 @@ part_number-up b [] = refl
 part_number-up b (x ∷ xs) = rw (up-underscore x, number-up 10 xs, number-up 10 (x ∷ xs)) refl
 
 digits-up : (w : List ℕ) → number_len (map up w) ≡ number_len w
-digits-up w = prefix-up (λ x. is_ascii_digit x || is_underscore x) (λ x. rw (up-digit x, up-underscore x) refl) w
+digits-up w =
+    prefix-up (λ x. is_ascii_digit x || is_underscore x)
+    (λ x. rw (up-digit x, up-underscore x) refl) w
 
 tail-up : (w : List ℕ) → drop (number_len (map up w)) (map up w) ≡ map up (drop (number_len w) w)
 tail-up w = rw (digits-up w) (drop-map up (number_len w) w)
@@ -121,10 +137,13 @@ tail-up w = rw (digits-up w) (drop-map up (number_len w) w)
 unit-up : (w : List ℕ) → unit_len (map up w) ≡ unit_len w
 unit-up w = rw (tail-up w) (prefix-up is_ascii_alphabetic up-alphabetic (drop (number_len w) w))
 
-letters-up : (w : List ℕ) → take (unit_len (map up w)) (drop (number_len (map up w)) (map up w)) ≡ map up (take (unit_len w) (drop (number_len w) w))
+letters-up : (w : List ℕ)
+    → take (unit_len (map up w)) (drop (number_len (map up w)) (map up w))
+    ≡ map up (take (unit_len w) (drop (number_len w) w))
 letters-up w = rw (unit-up w, tail-up w) (take-map up (unit_len w) (drop (number_len w) w))
 
-after-up : (w : List ℕ) → drop (unit_len (map up w)) (drop (number_len (map up w)) (map up w)) ≡ map up (drop (unit_len w) (drop (number_len w) w))
+after-up : (w : List ℕ) → drop (unit_len (map up w)) (drop (number_len (map up w)) (map up w))
+    ≡ map up (drop (unit_len w) (drop (number_len w) w))
 after-up w = rw (unit-up w, tail-up w) (drop-map up (unit_len w) (drop (number_len w) w))
 
 front-up : (w : List ℕ) → take (number_len (map up w)) (map up w) ≡ map up (take (number_len w) w)
@@ -133,29 +152,50 @@ front-up w = rw (digits-up w) (take-map up (number_len w) w)
 abbrev up_duration : Duration → Duration
 up_duration d = record { rest = map up d.rest; total = d.total; begun = d.begun }
 
-with-up : (f : ℕ) (d : Duration) (o : Option ℕ) → with_part f (up_duration d) o ≡ option_map up_duration (with_part f d o)
+with-up : (f : ℕ) (d : Duration) (o : Option ℕ)
+    → with_part f (up_duration d) o ≡ option_map up_duration (with_part f d o)
 with-up f d None = refl
-with-up f d (Some n) = ap (λ (r : List ℕ). Some (record { rest = r; total = d.total + n * f; begun = true })) (after-up d.rest)
+with-up f d (Some n) =
+    ap (λ (r : List ℕ). Some (record { rest = r; total = d.total + n * f; begun = true }))
+    (after-up d.rest)
 
-cond-up : (b : Bool) (d : Duration) (p : Option Duration) → cond b (option_map up_duration p) (Some (up_duration d)) ≡ option_map up_duration (cond b p (Some d))
+cond-up : (b : Bool) (d : Duration) (p : Option Duration)
+    → cond b (option_map up_duration p) (Some (up_duration d))
+    ≡ option_map up_duration (cond b p (Some d))
 cond-up true d p = refl
 cond-up false d p = refl
 
-part-up : (u : List ℕ) (f : ℕ) (d : Duration) → part u f (up_duration d) ≡ option_map up_duration (part u f d)
+part-up : (u : List ℕ) (f : ℕ) (d : Duration)
+    → part u f (up_duration d) ≡ option_map up_duration (part u f d)
 unfolding part
 part-up u f d =
-    let same = ap (λ (w : List ℕ). same_name w u) (letters-up d.rest) ∙ same_up (take (unit_len d.rest) (drop (number_len d.rest) d.rest)) u in
-    let value = ap (number_of_part d.begun) (front-up d.rest) ∙ part_number-up d.begun (take (number_len d.rest) d.rest) in
-    ap (λ (b : Bool). cond b (with_part f (up_duration d) (number_of_part d.begun (take (number_len (map up d.rest)) (map up d.rest)))) (Some (up_duration d))) same
-    ∙ ap (λ (o : Option ℕ). cond (same_name (take (unit_len d.rest) (drop (number_len d.rest) d.rest)) u) (with_part f (up_duration d) o) (Some (up_duration d))) value
-    ∙ ap (λ (p : Option Duration). cond (same_name (take (unit_len d.rest) (drop (number_len d.rest) d.rest)) u) p (Some (up_duration d))) (with-up f d (number_of_part d.begun (take (number_len d.rest) d.rest)))
-    ∙ cond-up (same_name (take (unit_len d.rest) (drop (number_len d.rest) d.rest)) u) d (with_part f d (number_of_part d.begun (take (number_len d.rest) d.rest)))
+    let same =
+    ap (λ (w : List ℕ). same_name w u) (letters-up d.rest)
+    ∙ same_up (take (unit_len d.rest) (drop (number_len d.rest) d.rest)) u in
+    let value =
+    ap (number_of_part d.begun) (front-up d.rest)
+    ∙ part_number-up d.begun (take (number_len d.rest) d.rest) in
+    ap (λ (b : Bool). cond b
+    (with_part f (up_duration d)
+    (number_of_part d.begun (take (number_len (map up d.rest)) (map up d.rest))))
+    (Some (up_duration d))) same
+    ∙ ap (λ (o : Option ℕ). cond
+    (same_name (take (unit_len d.rest) (drop (number_len d.rest) d.rest)) u)
+    (with_part f (up_duration d) o) (Some (up_duration d))) value
+    ∙ ap (λ (p : Option Duration). cond
+    (same_name (take (unit_len d.rest) (drop (number_len d.rest) d.rest)) u) p
+    (Some (up_duration d)))
+    (with-up f d (number_of_part d.begun (take (number_len d.rest) d.rest)))
+    ∙ cond-up (same_name (take (unit_len d.rest) (drop (number_len d.rest) d.rest)) u) d
+    (with_part f d (number_of_part d.begun (take (number_len d.rest) d.rest)))
 
-then-up : (u : List ℕ) (f : ℕ) (o q : Option Duration) → o ≡ option_map up_duration q → option_and_then (part u f) o ≡ option_map up_duration (option_and_then (part u f) q)
+then-up : (u : List ℕ) (f : ℕ) (o q : Option Duration) → o ≡ option_map up_duration q
+    → option_and_then (part u f) o ≡ option_map up_duration (option_and_then (part u f) q)
 then-up u f o None e = rw e refl
 then-up u f o (Some d) e = rw e (part-up u f d)
 
-total-up : (o q : Option Duration) → o ≡ option_map up_duration q → option_and_then total_of o ≡ option_and_then total_of q
+total-up : (o q : Option Duration) → o ≡ option_map up_duration q
+    → option_and_then total_of o ≡ option_and_then total_of q
 unfolding total_of
 total-up o None e = rw e refl
 total-up o (Some d) e = rw (e, length-up d.rest) refl
@@ -164,7 +204,9 @@ milliseconds-up : (w : List ℕ) → milliseconds (map up w) ≡ milliseconds w
 unfolding milliseconds
 milliseconds-up w =
     let start : Duration = record { rest = w; total = 0; begun = false } in
-    total-up _ _ (then-up _ 1 _ _ (then-up _ 1000 _ _ (then-up _ 60000 _ _ (then-up _ 3600000 _ _ (part-up _ 86400000 start)))))
+    total-up _ _ (then-up _ 1 _ _
+    (then-up _ 1000 _ _ (then-up _ 60000 _ _
+    (then-up _ 3600000 _ _ (part-up _ 86400000 start)))))
 
 truth-up : (w : List ℕ) → truth_of (map up w) ≡ truth_of w
 truth-up w = rw (same_up w (codes "TRUE"), same_up w (codes "FALSE")) refl
@@ -179,7 +221,7 @@ typed-up w = ap (number_or_truth (map up w)) (truth-up w) ∙ number_by w (truth
 
 bool_by : (w : List ℕ) (o : Option Bool) → bool_or_truth (map up w) o ≡ bool_or_truth w o
 bool_by w (Some b) = refl
-bool_by w None = ap (λ (z : Option Signed). read_on (signed z) bool_literal) (integer-up w)
+bool_by w None = ap (λ (z : Option Signed). signed z >>= bool_literal) (integer-up w)
 
 bool-up : (w : List ℕ) → typed_bool (map up w) ≡ typed_bool w
 unfolding typed_bool
@@ -191,15 +233,15 @@ time-up w = ap time_literal (milliseconds-up w)
 
 int-up : (w : List ℕ) → typed_int (map up w) ≡ typed_int w
 unfolding typed_int
-int-up w = ap (λ (z : Result ℤ LiteralFault). read_on z int_literal) (typed-up w)
+int-up w = ap (λ (z : Result ℤ LiteralFault). z >>= int_literal) (typed-up w)
 
 dint-up : (w : List ℕ) → typed_dint (map up w) ≡ typed_dint w
 unfolding typed_dint
-dint-up w = ap (λ (z : Result ℤ LiteralFault). read_on z dint_literal) (typed-up w)
+dint-up w = ap (λ (z : Result ℤ LiteralFault). z >>= dint_literal) (typed-up w)
 
 lint-up : (w : List ℕ) → typed_lint (map up w) ≡ typed_lint w
 unfolding typed_lint
-lint-up w = ap (λ (z : Result ℤ LiteralFault). read_on z (λ value. Ok (Lint value))) (typed-up w)
+lint-up w = ap (λ (z : Result ℤ LiteralFault). z >>= (λ value. Ok (Lint value))) (typed-up w)
 
 pub prefixed-up : (a w : List ℕ) → prefixed (map up a) (map up w) ≡ prefixed a w
 unfolding prefixed

@@ -23,7 +23,8 @@ N = 78 ∷ []
 abbrev pub is_N : ℕ → List (List ℕ) → Bool
 is_N x ps = eqb x 38 && same_name (first_piece ps) N
 
-pub blanked_plain : (x : ℕ) (xs : List ℕ) → opens (x ∷ xs) ≡ false → blanked false (x ∷ xs) ≡ x ∷ blanked false xs
+pub blanked_plain : (x : ℕ) (xs : List ℕ) → opens (x ∷ xs) ≡ false
+    → blanked false (x ∷ xs) ≡ x ∷ blanked false xs
 unfolding blanked
 blanked_plain x [] h = refl
 blanked_plain x (y ∷ ys) h = rw h refl
@@ -58,7 +59,8 @@ stand_in false = inr refl
 is_open : (y z : ℕ) → eqb y 40 && eqb z 42 ≡ true → y ≡ 40
 is_open y z h = grind (arith, nat_tests)
 
-first_stands : (y z : ℕ) (zs : List ℕ) (b : Bool) → opens (y ∷ z ∷ zs) ≡ b → Stands (slice_index (blanked false (y ∷ z ∷ zs)) 0) y
+first_stands : (y z : ℕ) (zs : List ℕ) (b : Bool) → opens (y ∷ z ∷ zs) ≡ b
+    → Stands (slice_index (blanked false (y ∷ z ∷ zs)) 0) y
 unfolding blanked
 first_stands y z zs true h = rw h (inr (is_open y z h, stand_in (closes zs)))
 first_stands y z zs false h = rw h (inl refl)
@@ -72,12 +74,15 @@ blanked_first (y ∷ z ∷ zs) = first_stands y z zs (opens (y ∷ z ∷ zs)) re
 linked-stands : (x y' y : ℕ) → Stands y' y → linked x y' ≡ linked x y
 linked-stands x y' y (inl e) = ap (linked x) e
 linked-stands x y' y (inr (o, inl e)) = ap (linked x) e ∙ linked-space x ∙ sym (linked-open x y o)
-linked-stands x y' y (inr (o, inr e)) = ap (linked x) e ∙ linked-unclosed x ∙ sym (linked-open x y o)
+linked-stands x y' y (inr (o, inr e)) =
+    ap (linked x) e ∙ linked-unclosed x ∙ sym (linked-open x y o)
 
-linked_blanked : (x : ℕ) (r : List ℕ) → linked x (slice_index (blanked false r) 0) ≡ linked x (slice_index r 0)
+linked_blanked : (x : ℕ) (r : List ℕ)
+    → linked x (slice_index (blanked false r) 0) ≡ linked x (slice_index r 0)
 linked_blanked x r = linked-stands x _ _ (blanked_first r)
 
-cond_lead : (x : ℕ) (p : List ℕ) (ps : List (List ℕ)) (b : Bool) → slice_index (first_piece (cond b ((x ∷ p) ∷ ps) ((x ∷ []) ∷ p ∷ ps))) 0 ≡ x
+cond_lead : (x : ℕ) (p : List ℕ) (ps : List (List ℕ)) (b : Bool)
+    → slice_index (first_piece (cond b ((x ∷ p) ∷ ps) ((x ∷ []) ∷ p ∷ ps))) 0 ≡ x
 cond_lead x p ps true = refl
 cond_lead x p ps false = refl
 
@@ -90,16 +95,19 @@ unfolding pieces
 lead [] = refl
 lead (x ∷ xs) = join_lead x (pieces xs)
 
-pub join_alone : (x : ℕ) (ps : List (List ℕ)) → linked x (slice_index (first_piece ps) 0) ≡ false → is_N x ps ≡ false → join x ps ≡ (x ∷ []) ∷ ps
+pub join_alone : (x : ℕ) (ps : List (List ℕ)) → linked x (slice_index (first_piece ps) 0) ≡ false
+    → is_N x ps ≡ false → join x ps ≡ (x ∷ []) ∷ ps
 unfolding joins
 join_alone x [] h k = refl
 join_alone x (p ∷ ps) h k = rw (h, k) refl
 
-join_linked : (x : ℕ) (p : List ℕ) (ps : List (List ℕ)) → linked x (slice_index p 0) ≡ true → join x (p ∷ ps) ≡ (x ∷ p) ∷ ps
+join_linked : (x : ℕ) (p : List ℕ) (ps : List (List ℕ)) → linked x (slice_index p 0) ≡ true
+    → join x (p ∷ ps) ≡ (x ∷ p) ∷ ps
 unfolding joins
 join_linked x p ps h = rw h refl
 
-pieces-cons : (x : ℕ) (xs : List ℕ) → opens (x ∷ xs) ≡ false → pieces (blanked false (x ∷ xs)) ≡ join x (pieces (blanked false xs))
+pieces-cons : (x : ℕ) (xs : List ℕ) → opens (x ∷ xs) ≡ false
+    → pieces (blanked false (x ∷ xs)) ≡ join x (pieces (blanked false xs))
 unfolding pieces
 pieces-cons x xs h = rw (blanked_plain x xs h) refl
 
@@ -107,21 +115,26 @@ pieces-cons x xs h = rw (blanked_plain x xs h) refl
 abbrev cut_at : List ℕ → ℕ → List (List ℕ)
 cut_at bs k = pieces (blanked false (drop k bs))
 
-unroll : (bs : List ℕ) (k : ℕ) → k < length bs → opens (drop k bs) ≡ false → cut_at bs k ≡ join (slice_index bs k) (cut_at bs (k + 1))
+unroll : (bs : List ℕ) (k : ℕ) → k < length bs → opens (drop k bs) ≡ false
+    → cut_at bs k ≡ join (slice_index bs k) (cut_at bs (k + 1))
 unroll bs k w o =
-    ap (λ (t : List ℕ). pieces (blanked false t)) (front_of bs k w) ∙ pieces-cons _ _ (subst (λ (t : List ℕ). opens t ≡ false) (front_of bs k w) o)
+    ap (λ (t : List ℕ). pieces (blanked false t)) (front_of bs k w)
+    ∙ pieces-cons _ _ (subst (λ (t : List ℕ). opens t ≡ false) (front_of bs k w) o)
 
 first_of_drop : (bs : List ℕ) (k : ℕ) → slice_index (drop k bs) 0 ≡ slice_index bs k
 first_of_drop bs k = index-drop bs k 0 ∙ ap (λ (i : ℕ). slice_index bs i) (add-zero k)
 
-lead_at : (bs : List ℕ) (k x : ℕ) → linked x (slice_index (first_piece (cut_at bs k)) 0) ≡ linked x (slice_index bs k)
+lead_at : (bs : List ℕ) (k x : ℕ)
+    → linked x (slice_index (first_piece (cut_at bs k)) 0) ≡ linked x (slice_index bs k)
 lead_at bs k x =
-    ap (linked x) (lead (blanked false (drop k bs))) ∙ linked_blanked x (drop k bs) ∙ ap (linked x) (first_of_drop bs k)
+    ap (linked x) (lead (blanked false (drop k bs))) ∙ linked_blanked x (drop k bs)
+    ∙ ap (linked x) (first_of_drop bs k)
 
 range_one : (bs : List ℕ) (k : ℕ) → k < length bs → slice_range bs k (k + 1) ≡ slice_index bs k ∷ []
 range_one bs k h = let e : (k + 1) - k ≡ 1 = omega arith in rw (e, front_of bs k h) refl
 
-range_more : (bs : List ℕ) (k e : ℕ) → k < e → e ≤ length bs → slice_range bs k e ≡ slice_index bs k ∷ slice_range bs (k + 1) e
+range_more : (bs : List ℕ) (k e : ℕ) → k < e → e ≤ length bs
+    → slice_range bs k e ≡ slice_index bs k ∷ slice_range bs (k + 1) e
 range_more bs k e h w =
     let d : e - k ≡ suc (e - (k + 1)) = omega arith in
     let i : k < length bs = omega arith in
@@ -141,19 +154,31 @@ run_cut zero bs k e q r o n =
     let same : e ≡ k + 1 = omega arith in
     let before : e - 1 ≡ k = omega arith in
     let w : k < length bs = omega (arith, r.within, r.after) in
-    let last : linked (slice_index bs k) (slice_index bs (k + 1)) ≡ false = rw (before, same) at r.last in
-    rw same (unroll bs k w o ∙ join_alone _ _ (lead_at bs (k + 1) (slice_index bs k) ∙ last) n ∙ ap (λ (p : List ℕ). p ∷ cut_at bs (k + 1)) (sym (range_one bs k w)))
+    let last : linked (slice_index bs k) (slice_index bs (k + 1)) ≡ false =
+    rw (before, same) at r.last in
+    rw same (unroll bs k w o ∙ join_alone _ _ (lead_at bs (k + 1) (slice_index bs k) ∙ last) n
+    ∙ ap (λ (p : List ℕ). p ∷ cut_at bs (k + 1)) (sym (range_one bs k w)))
 run_cut (suc d) bs k e q r o n =
     let x : ℕ = slice_index bs k in
     let more : k + 1 < e = omega arith in
     let w : k < length bs = omega (arith, r.within, r.after) in
     let back : (k + 1) - 1 ≡ k = omega arith in
-    let step : linked x (slice_index bs (k + 1)) ≡ true = rw back at (r.inner (k + 1) (omega arith) more) in
-    let rest : IsRun bs (k + 1) e = record { after = more; within = r.within; inner = λ j a b. r.inner j (omega arith) b; last = r.last } in
+    let step : linked x (slice_index bs (k + 1)) ≡ true =
+    rw back at (r.inner (k + 1) (omega arith) more) in
+    let rest : IsRun bs (k + 1) e =
+    record {
+      after = more;
+      within = r.within;
+      inner = λ j a b. r.inner j (omega arith) b;
+      last = r.last;
+    } in
     let plain : slice_index bs (k + 1) ≢ 40 = λ h. false≢true (sym (linked-open x _ h) ∙ step) in
     let other : slice_index bs (k + 1) ≢ 38 = λ h. false≢true (sym (linked-and x _ h) ∙ step) in
-    let after = run_cut d bs (k + 1) e (omega arith) rest (not_open bs (k + 1) plain) (not_N (slice_index bs (k + 1)) (cut_at bs (k + 1 + 1)) other) in
-    let head : slice_index (slice_range bs (k + 1) e) 0 ≡ slice_index bs (k + 1) = rw (range_more bs (k + 1) e more r.within) refl in
+    let after =
+    run_cut d bs (k + 1) e (omega arith) rest (not_open bs (k + 1) plain)
+    (not_N (slice_index bs (k + 1)) (cut_at bs (k + 1 + 1)) other) in
+    let head : slice_index (slice_range bs (k + 1) e) 0 ≡ slice_index bs (k + 1) =
+    rw (range_more bs (k + 1) e more r.within) refl in
     unroll bs k w o ∙ ap (join x) after ∙ join_linked x _ _ (ap (linked x) head ∙ step)
     ∙ ap (λ (p : List ℕ). p ∷ cut_at bs e) (sym (range_more bs k e r.after r.within))
 
@@ -180,8 +205,10 @@ upper-zero y e h = let z : to_ascii_uppercase 0 ≡ 78 = rw h at e in omega (ari
 
 upper-stands : (y' y : ℕ) → Stands y' y → to_ascii_uppercase y' ≡ 78 → to_ascii_uppercase y ≡ 78
 upper-stands y' y (inl e) h = rw e at h
-upper-stands y' y (inr (o, inl e)) h = absurd (let z : to_ascii_uppercase 32 ≡ 78 = rw e at h in omega (arith, z))
-upper-stands y' y (inr (o, inr e)) h = absurd (let z : to_ascii_uppercase 256 ≡ 78 = rw e at h in omega (arith, z))
+upper-stands y' y (inr (o, inl e)) h =
+    absurd (let z : to_ascii_uppercase 32 ≡ 78 = rw e at h in omega (arith, z))
+upper-stands y' y (inr (o, inr e)) h =
+    absurd (let z : to_ascii_uppercase 256 ≡ 78 = rw e at h in omega (arith, z))
 
 upper-ascii : (y : ℕ) → to_ascii_uppercase y ≡ 78 → y < 128
 upper-ascii y e = grind (arith, nat_tests)
@@ -207,10 +234,13 @@ linked-none : (x : ℕ) → linked x 0 ≡ false
 unfolding linked
 linked-none x = refl
 
-long_first : (n : ℕ) (ps : List (List ℕ)) → linked n (slice_index (first_piece ps) 0) ≡ true → same_name (first_piece (join n ps)) N ≡ false
+long_first : (n : ℕ) (ps : List (List ℕ)) → linked n (slice_index (first_piece ps) 0) ≡ true
+    → same_name (first_piece (join n ps)) N ≡ false
 long_first n [] h = absurd (false≢true (sym (linked-none n) ∙ h))
 long_first n ([] ∷ ps) h = absurd (false≢true (sym (linked-none n) ∙ h))
-long_first n ((z ∷ zs) ∷ ps) h = ap (λ (q : List (List ℕ)). same_name (first_piece q) N) (join_linked n (z ∷ zs) ps h) ∙ long_N n z zs
+long_first n ((z ∷ zs) ∷ ps) h =
+    ap (λ (q : List (List ℕ)). same_name (first_piece q) N) (join_linked n (z ∷ zs) ps h)
+    ∙ long_N n z zs
 
 false_of : (b : Bool) → (b ≡ true → ⊥) → b ≡ false
 false_of true h = absurd (h refl)
@@ -220,9 +250,12 @@ past : (bs : List ℕ) (k : ℕ) → length bs ≤ k → slice_index bs k ≡ 0
 past bs k l = grind (arith, common_steps)
 
 pub within_of : (bs : List ℕ) (k : ℕ) → slice_index bs k ≢ 0 → k < length bs
-within_of bs k h = ⊎_elim (λ (l : k < length bs). l) (λ (l : length bs ≤ k). absurd (h (past bs k l))) (cases_lt k (length bs))
+within_of bs k h =
+    ⊎_elim (λ (l : k < length bs). l) (λ (l : length bs ≤ k). absurd (h (past bs k l)))
+    (cases_lt k (length bs))
 
-join_joined : (x : ℕ) (p : List ℕ) (ps : List (List ℕ)) → joins x p ≡ true → join x (p ∷ ps) ≡ (x ∷ p) ∷ ps
+join_joined : (x : ℕ) (p : List ℕ) (ps : List (List ℕ)) → joins x p ≡ true
+    → join x (p ∷ ps) ≡ (x ∷ p) ∷ ps
 join_joined x p ps h = rw h refl
 
 joins_N : (x n : ℕ) → eqb x 38 ≡ true → to_ascii_uppercase n ≡ 78 → joins x (n ∷ []) ≡ true
@@ -234,56 +267,86 @@ and_right true b h = h
 and_right false b h = absurd (false≢true h)
 
 -- where `&N` stands, it is one piece
-negated_cut : (bs : List ℕ) (s : ℕ) → s < length bs → is_negated_and bs s ≡ true → IsPiece bs s (s + 2)
+negated_cut : (bs : List ℕ) (s : ℕ) → s < length bs → is_negated_and bs s ≡ true
+    → IsPiece bs s (s + 2)
 unfolding is_negated_and
 negated_cut bs s w h =
     let x : ℕ = slice_index bs s in
     let n : ℕ = slice_index bs (s + 1) in
-    let t = three_true (eqb x 38) (eqb (to_ascii_uppercase n) 78) (linked n (slice_index bs (s + 2))) h in
+    let t = three_true (eqb x 38) (eqb (to_ascii_uppercase n) 78)
+    (linked n (slice_index bs (s + 2))) h in
     let and : x ≡ 38 = eqb-true _ _ t.0 in
     let up : to_ascii_uppercase n ≡ 78 = eqb-true _ _ t.1 in
     let here : s + 1 < length bs = within_of bs (s + 1) (upper-zero n up) in
     let before : (s + 2) - 1 ≡ s + 1 = omega arith in
     let two : (s + 1) + 1 ≡ s + 2 = omega arith in
-    let run : IsRun bs (s + 1) (s + 2) = record { after = omega arith; within = omega arith; inner = λ k a b. absurd (omega arith); last = rw before t.2 } in
+    let run : IsRun bs (s + 1) (s + 2) =
+    record {
+      after = omega arith;
+      within = omega arith;
+      inner = λ k a b. absurd (omega arith);
+      last = rw before t.2;
+    } in
     let after : IsPiece bs (s + 1) (s + 2) =
-    run_cut zero bs (s + 1) (s + 2) (omega arith) run (not_open bs (s + 1) (upper-open n up)) (not_N n (cut_at bs ((s + 1) + 1)) (upper-and n up)) in
+    run_cut zero bs (s + 1) (s + 2) (omega arith) run (not_open bs (s + 1) (upper-open n up))
+    (not_N n (cut_at bs ((s + 1) + 1)) (upper-and n up)) in
     let one : slice_range bs (s + 1) (s + 2) ≡ n ∷ [] = rw two at (range_one bs (s + 1) here) in
-    let rest : cut_at bs (s + 1) ≡ (n ∷ []) ∷ cut_at bs (s + 2) = after ∙ ap (λ (p : List ℕ). p ∷ cut_at bs (s + 2)) one in
+    let rest : cut_at bs (s + 1) ≡ (n ∷ []) ∷ cut_at bs (s + 2) =
+    after ∙ ap (λ (p : List ℕ). p ∷ cut_at bs (s + 2)) one in
     let plain : x ≢ 40 = omega arith in
-    unroll bs s w (not_open bs s plain) ∙ ap (join x) rest ∙ join_joined x (n ∷ []) _ (joins_N x n t.0 up)
-    ∙ ap (λ (p : List ℕ). p ∷ cut_at bs (s + 2)) (sym (range_more bs s (s + 2) (omega arith) (omega arith) ∙ ap (λ (p : List ℕ). x ∷ p) one))
+    unroll bs s w (not_open bs s plain) ∙ ap (join x) rest
+    ∙ join_joined x (n ∷ []) _ (joins_N x n t.0 up)
+    ∙ ap (λ (p : List ℕ). p ∷ cut_at bs (s + 2))
+    (sym (range_more bs s (s + 2) (omega arith) (omega arith) ∙ ap (λ (p : List ℕ). x ∷ p) one))
 
 -- where it does not stand, a `&` is a piece alone
-not_negated : (bs : List ℕ) (s : ℕ) → is_negated_and bs s ≡ false → is_N (slice_index bs s) (cut_at bs (s + 1)) ≡ false
+not_negated : (bs : List ℕ) (s : ℕ) → is_negated_and bs s ≡ false
+    → is_N (slice_index bs s) (cut_at bs (s + 1)) ≡ false
 unfolding is_negated_and
 not_negated bs s h = false_of _ (λ e.
     let n : ℕ = slice_index bs (s + 1) in
     let a = and_left (eqb (slice_index bs s) 38) _ e in
-    let same : same_name (first_piece (cut_at bs (s + 1))) N ≡ true = and_right (eqb (slice_index bs s) 38) _ e in
+    let same : same_name (first_piece (cut_at bs (s + 1))) N ≡ true =
+    and_right (eqb (slice_index bs s) 38) _ e in
     let stands : Stands (slice_index (first_piece (cut_at bs (s + 1))) 0) n =
-    rw (lead (blanked false (drop (s + 1) bs)), ← first_of_drop bs (s + 1)) (blanked_first (drop (s + 1) bs)) in
+    rw (lead (blanked false (drop (s + 1) bs)), ← first_of_drop bs (s + 1))
+    (blanked_first (drop (s + 1) bs)) in
     let up : to_ascii_uppercase n ≡ 78 = upper-stands _ n stands (N_upper _ same) in
     let two : (s + 1) + 1 ≡ s + 2 = omega arith in
-    let l : linked n (slice_index bs (s + 2)) ≡ true = three_false (eqb (slice_index bs s) 38) (eqb (to_ascii_uppercase n) 78) _ h a (eq-eqb _ _ up) in
-    let u = unroll bs (s + 1) (within_of bs (s + 1) (upper-zero n up)) (not_open bs (s + 1) (upper-open n up)) in
-    let more : linked n (slice_index (first_piece (cut_at bs ((s + 1) + 1))) 0) ≡ true = lead_at bs ((s + 1) + 1) n ∙ rw two l in
-    false≢true (sym (ap (λ (q : List (List ℕ)). same_name (first_piece q) N) u ∙ long_first n (cut_at bs ((s + 1) + 1)) more) ∙ same))
+    let l : linked n (slice_index bs (s + 2)) ≡ true =
+    three_false (eqb (slice_index bs s) 38) (eqb (to_ascii_uppercase n) 78) _ h a
+    (eq-eqb _ _ up) in
+    let u = unroll bs (s + 1) (within_of bs (s + 1) (upper-zero n up))
+    (not_open bs (s + 1) (upper-open n up)) in
+    let more : linked n (slice_index (first_piece (cut_at bs ((s + 1) + 1))) 0) ≡ true =
+    lead_at bs ((s + 1) + 1) n ∙ rw two l in
+    false≢true
+    (sym (ap (λ (q : List (List ℕ)). same_name (first_piece q) N) u
+    ∙ long_first n (cut_at bs ((s + 1) + 1)) more) ∙ same))
 
-pub piece_negated : (bs : List ℕ) (s : ℕ) → s < length bs → is_negated_and bs s ≡ true → IsPiece bs s (s + 2)
+pub piece_negated : (bs : List ℕ) (s : ℕ) → s < length bs → is_negated_and bs s ≡ true
+    → IsPiece bs s (s + 2)
 piece_negated bs s w h = negated_cut bs s w h
 
-pub piece_run : (bs : List ℕ) (s e : ℕ) → opens (drop s bs) ≡ false → is_negated_and bs s ≡ false → IsRun bs s e → IsPiece bs s e
-piece_run bs s e o h r = run_cut (e - (s + 1)) bs s e (let a = r.after in omega arith) r o (not_negated bs s h)
+pub piece_run : (bs : List ℕ) (s e : ℕ) → opens (drop s bs) ≡ false → is_negated_and bs s ≡ false
+    → IsRun bs s e → IsPiece bs s e
+piece_run bs s e o h r =
+    run_cut (e - (s + 1)) bs s e (let a = r.after in omega arith) r o (not_negated bs s h)
 
 pub negated_within : (bs : List ℕ) (s : ℕ) → is_negated_and bs s ≡ true → s + 2 ≤ length bs
 negated_within bs s h =
-    let t = three_true (eqb (slice_index bs s) 38) (eqb (to_ascii_uppercase (slice_index bs (s + 1))) 78) (linked (slice_index bs (s + 1)) (slice_index bs (s + 2))) (unfold is_negated_and in h) in
-    let here : s + 1 < length bs = within_of bs (s + 1) (upper-zero _ (eqb-true _ _ t.1)) in omega arith
+    let t = three_true (eqb (slice_index bs s) 38)
+    (eqb (to_ascii_uppercase (slice_index bs (s + 1))) 78)
+    (linked (slice_index bs (s + 1)) (slice_index bs (s + 2))) (unfold is_negated_and in h) in
+    let here : s + 1 < length bs =
+    within_of bs (s + 1) (upper-zero _ (eqb-true _ _ t.1)) in omega arith
 
-pub negated_ascii : (bs : List ℕ) (s : ℕ) → is_negated_and bs s ≡ true → slice_index bs (s + 2 - 1) < 128
+pub negated_ascii : (bs : List ℕ) (s : ℕ) → is_negated_and bs s ≡ true
+    → slice_index bs (s + 2 - 1) < 128
 negated_ascii bs s h =
-    let t = three_true (eqb (slice_index bs s) 38) (eqb (to_ascii_uppercase (slice_index bs (s + 1))) 78) (linked (slice_index bs (s + 1)) (slice_index bs (s + 2))) (unfold is_negated_and in h) in
+    let t = three_true (eqb (slice_index bs s) 38)
+    (eqb (to_ascii_uppercase (slice_index bs (s + 1))) 78)
+    (linked (slice_index bs (s + 1)) (slice_index bs (s + 2))) (unfold is_negated_and in h) in
     let before : (s + 2) - 1 ≡ s + 1 = omega arith in
     rw before (upper-ascii _ (eqb-true _ _ t.1))
 

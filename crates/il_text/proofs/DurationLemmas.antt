@@ -11,7 +11,8 @@ use Rattle.std.proofs.lemmas.Bool.Decides.{nat_tests}
 cap_large : (t m : ℕ) → 2 ^ 32 ≤ m → min (t + m) (2 ^ 32) ≡ 2 ^ 32
 cap_large t m h = omega arith
 
-cap_sum : (t n f : ℕ) → 0 < f → min (t + n * f) (2 ^ 32) ≡ min (min t (2 ^ 32) + min n (2 ^ 32) * f) (2 ^ 32)
+cap_sum : (t n f : ℕ) → 0 < f
+    → min (t + n * f) (2 ^ 32) ≡ min (min t (2 ^ 32) + min n (2 ^ 32) * f) (2 ^ 32)
 cap_sum t n f h = ⊎_elim
     (λ (k : 2 ^ 32 < n).
     let e : min n (2 ^ 32) ≡ 2 ^ 32 = omega arith in
@@ -34,47 +35,61 @@ none_from (Some d) e = cc
 abbrev unit_of : List ℕ → List ℕ
 unit_of w = take (unit_len w) (drop (number_len w) w)
 
-pub part_none : (o : Option Duration) (u : List ℕ) (f : ℕ) → capped_duration o ≡ None → capped_duration (option_and_then (part u f) o) ≡ None
+pub part_none : (o : Option Duration) (u : List ℕ) (f : ℕ) → capped_duration o ≡ None
+    → capped_duration (option_and_then (part u f) o) ≡ None
 part_none o u f e = rw (none_from o e) refl
 
-other_here : (d : Duration) (u : List ℕ) (f : ℕ) → same_name (unit_of d.rest) u ≡ false → capped_duration (part u f d) ≡ Some (capped_one d)
+other_here : (d : Duration) (u : List ℕ) (f : ℕ) → same_name (unit_of d.rest) u ≡ false
+    → capped_duration (part u f d) ≡ Some (capped_one d)
 unfolding part
 other_here d u f h = rw h refl
 
-pub part_other : (o : Option Duration) (s : Duration) (u : List ℕ) (f : ℕ) → capped_duration o ≡ Some s → same_name (unit_of s.rest) u ≡ false
+pub part_other : (o : Option Duration) (s : Duration) (u : List ℕ) (f : ℕ)
+    → capped_duration o ≡ Some s → same_name (unit_of s.rest) u ≡ false
     → capped_duration (option_and_then (part u f) o) ≡ Some s
 part_other None s u f e h = cc
 part_other (Some d) s u f e h =
     let same = some_same (capped_one d) s e in
-    other_here d u f (subst (λ (r : List ℕ). same_name (unit_of r) u ≡ false) (sym (ap (λ (x : Duration). x.rest) same)) h) ∙ e
+    other_here d u f (subst (λ (r : List ℕ). same_name (unit_of r) u ≡ false)
+    (sym (ap (λ (x : Duration). x.rest) same)) h) ∙ e
 
 capped_none : (o : Option ℕ) → capped o ≡ None → o ≡ None
 capped_none None e = refl
 capped_none (Some n) e = cc
 
-capped_some : (o : Option ℕ) (v : ℕ) → capped o ≡ Some v → (n : ℕ) × (o ≡ Some n) × (min n (2 ^ 64 - 1) ≡ v)
+capped_some : (o : Option ℕ) (v : ℕ) → capped o ≡ Some v
+    → (n : ℕ) × (o ≡ Some n) × (min n (2 ^ 64 - 1) ≡ v)
 capped_some None v e = cc
 capped_some (Some n) v e = (n, refl, cc)
 
-bad_here : (d : Duration) (u : List ℕ) (f : ℕ) → same_name (unit_of d.rest) u ≡ true → capped (number_of_part d.begun (take (number_len d.rest) d.rest)) ≡ None
+bad_here : (d : Duration) (u : List ℕ) (f : ℕ) → same_name (unit_of d.rest) u ≡ true
+    → capped (number_of_part d.begun (take (number_len d.rest) d.rest)) ≡ None
     → capped_duration (part u f d) ≡ None
 unfolding part
 bad_here d u f h n = rw (h, capped_none _ n) refl
 
-pub part_bad : (o : Option Duration) (s : Duration) (u : List ℕ) (f : ℕ) → capped_duration o ≡ Some s → same_name (unit_of s.rest) u ≡ true
+pub part_bad : (o : Option Duration) (s : Duration) (u : List ℕ) (f : ℕ)
+    → capped_duration o ≡ Some s → same_name (unit_of s.rest) u ≡ true
     → capped (number_of_part s.begun (take (number_len s.rest) s.rest)) ≡ None
     → capped_duration (option_and_then (part u f) o) ≡ None
 part_bad None s u f e h n = cc
 part_bad (Some d) s u f e h n =
     let same = sym (some_same (capped_one d) s e) in
     bad_here d u f (subst (λ (x : Duration). same_name (unit_of x.rest) u ≡ true) same h)
-    (subst (λ (x : Duration). capped (number_of_part x.begun (take (number_len x.rest) x.rest)) ≡ None) same n)
+    (subst (λ (x : Duration). capped (number_of_part x.begun (take (number_len x.rest) x.rest))
+    ≡ None) same n)
 
 -- the duration after a part, from the one before and the part's number
 abbrev after_part : ℕ → ℕ → Duration → Duration
-after_part f v s = record { rest = drop (unit_len s.rest) (drop (number_len s.rest) s.rest); total = min (min s.total (2 ^ 32) + min v (2 ^ 32) * f) (2 ^ 32); begun = true }
+after_part f v s =
+    record {
+      rest = drop (unit_len s.rest) (drop (number_len s.rest) s.rest);
+      total = min (min s.total (2 ^ 32) + min v (2 ^ 32) * f) (2 ^ 32);
+      begun = true;
+    }
 
-more_total : (t n v f : ℕ) → 0 < f → min n (2 ^ 64 - 1) ≡ v → min (t + n * f) (2 ^ 32) ≡ min (min (min t (2 ^ 32)) (2 ^ 32) + min v (2 ^ 32) * f) (2 ^ 32)
+more_total : (t n v f : ℕ) → 0 < f → min n (2 ^ 64 - 1) ≡ v
+    → min (t + n * f) (2 ^ 32) ≡ min (min (min t (2 ^ 32)) (2 ^ 32) + min v (2 ^ 32) * f) (2 ^ 32)
 more_total t n v f p e =
     let a : min (min t (2 ^ 32)) (2 ^ 32) ≡ min t (2 ^ 32) = omega arith in
     let b : min v (2 ^ 32) ≡ min n (2 ^ 32) = omega arith in
@@ -86,33 +101,52 @@ more_here : (d : Duration) (u : List ℕ) (f v : ℕ) → 0 < f → same_name (u
 unfolding part
 more_here d u f v p h n =
     let q = capped_some _ v n in
-    rw (h, q.1) (ap (λ (t : ℕ). Some (record { rest = drop (unit_len d.rest) (drop (number_len d.rest) d.rest); total = t; begun = true })) (more_total d.total q.0 v f p q.2))
+    rw (h, q.1)
+    (ap (λ (t : ℕ). Some (record {
+      rest = drop (unit_len d.rest) (drop (number_len d.rest) d.rest);
+      total = t;
+      begun = true;
+    })) (more_total d.total q.0 v f p q.2))
 
-pub part_more : (o : Option Duration) (s : Duration) (u : List ℕ) (f v : ℕ) → 0 < f → capped_duration o ≡ Some s → same_name (unit_of s.rest) u ≡ true
+pub part_more : (o : Option Duration) (s : Duration) (u : List ℕ) (f v : ℕ) → 0 < f
+    → capped_duration o ≡ Some s → same_name (unit_of s.rest) u ≡ true
     → capped (number_of_part s.begun (take (number_len s.rest) s.rest)) ≡ Some v
     → capped_duration (option_and_then (part u f) o)
-    ≡ Some (record { rest = drop (unit_len s.rest) (drop (number_len s.rest) s.rest); total = min (min s.total (2 ^ 32) + min v (2 ^ 32) * f) (2 ^ 32); begun = true })
+    ≡ Some (record {
+      rest = drop (unit_len s.rest) (drop (number_len s.rest) s.rest);
+      total = min (min s.total (2 ^ 32) + min v (2 ^ 32) * f) (2 ^ 32);
+      begun = true;
+    })
 part_more None s u f v p e h n = cc
 part_more (Some d) s u f v p e h n =
     let back = some_same (capped_one d) s e in
     let same = sym back in
     more_here d u f v p (subst (λ (x : Duration). same_name (unit_of x.rest) u ≡ true) same h)
-    (subst (λ (x : Duration). capped (number_of_part x.begun (take (number_len x.rest) x.rest)) ≡ Some v) same n)
+    (subst (λ (x : Duration). capped (number_of_part x.begun (take (number_len x.rest) x.rest))
+    ≡ Some v) same n)
     ∙ ap (λ (x : Duration). Some (after_part f v x)) back
 
 pub ruleset part_rules = (part_none, part_other, part_bad, part_more)
 
-map_cond : (b : Bool) (t : ℕ) → capped_time (cond b (Some t) None) ≡ cond b (Some (min t (2 ^ 32))) None
+map_cond : (b : Bool) (t : ℕ)
+    → capped_time (cond b (Some t) None) ≡ cond b (Some (min t (2 ^ 32))) None
 map_cond true t = refl
 map_cond false t = refl
 
-total_here : (d : Duration) → capped_time (total_of d) ≡ cond ((capped_one d).begun && length (capped_one d).rest == 0) (Some (capped_one d).total) None
+total_here : (d : Duration)
+    → capped_time (total_of d)
+    ≡ cond ((capped_one d).begun && length (capped_one d).rest == 0) (Some (capped_one d).total)
+    None
 unfolding total_of
 total_here d = map_cond (d.begun && length d.rest == 0) d.total
 
-pub total_from : (o : Option Duration) (s : Duration) → capped_duration o ≡ Some s → capped_time (option_and_then total_of o) ≡ cond (s.begun && length s.rest == 0) (Some s.total) None
+pub total_from : (o : Option Duration) (s : Duration) → capped_duration o ≡ Some s
+    → capped_time (option_and_then total_of o)
+    ≡ cond (s.begun && length s.rest == 0) (Some s.total) None
 total_from None s e = cc
-total_from (Some d) s e = total_here d ∙ ap (λ (x : Duration). cond (x.begun && length x.rest == 0) (Some x.total) None) (some_same (capped_one d) s e)
+total_from (Some d) s e =
+    total_here d ∙ ap (λ (x : Duration). cond (x.begun && length x.rest == 0) (Some x.total) None)
+    (some_same (capped_one d) s e)
 
 pub time_capped : (o : Option ℕ) → time_literal (capped_time o) ≡ time_literal o
 time_capped None = refl

@@ -7,7 +7,8 @@ use Rattle.il_text.specs.TokenViews.{symbol_of, symbols_of}
 use Rattle.il_text.specs.declared.token.Token.{Token}
 
 -- the place of a token is that of its symbol
-pub place_of : (f : Symbol → Bool) (ts : List Token) → position_or_len f (symbols_of ts) ≡ position_or_len (λ t. f (symbol_of t)) ts
+pub place_of : (f : Symbol → Bool) (ts : List Token)
+    → position_or_len f (symbols_of ts) ≡ position_or_len (λ t. f (symbol_of t)) ts
 place_of f [] = refl
 place_of f (t ∷ ts) = rw (place_of f ts) refl
 

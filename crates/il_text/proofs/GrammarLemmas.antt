@@ -1,4 +1,5 @@
--- What parts reach is what the grammar derives: each part that is taken is the next of the grammar's.
+-- What parts reach is what the grammar derives: each part that is taken is the next of the
+-- grammar's.
 use Rattle.std.proofs.Common.{◌≡◌, ℕ, ◌&&◌, ◌||◌, Bool, true, false, cond, List, [], ◌∷◌, ◌++◌, Option, Some, None, option_and_then, map, refl, sym, ap, subst, ◌∙◌, append-nil, append_assoc}
 use Rattle.std.specs.List.{flat_map, list_all}
 use Rattle.std.specs.Option.{is_none}
@@ -9,7 +10,7 @@ use Rattle.il_text.specs.Grammar.{Numbered, Declaration, Block, declaration_part
 use Rattle.il_text.specs.Listing.{Action, load, store, combine, invert, convert, jump, leave, call, Entry, label, action, block, Entries, entries_of, Declared}
 use Rattle.il_text.specs.Parts.{Part, heading, opening, declaring, closing, labelling, acting, entering, leaving, ending}
 use Rattle.il_text.specs.Reading.{listed}
-use Rattle.il_text.specs.Steps.{Opened, Reached, nothing_read, at_place, with_name, declared_in, with_declarations, with_item, with_opened, with_closed, is_start, is_between, block_scope, is_body, is_outside, is_some, is_load, may_begin_with, declared_here, closed_block, may_stand, may_act, may_enter, may_leave, left_here, step}
+use Rattle.il_text.specs.Steps.{Opened, Reached, nothing_read, at_place, with_name, declared_in, with_declarations, with_item, with_opened, with_closed, is_start, is_between_blocks, block_scope, is_body, is_outside, is_some, is_load, may_begin_with, declared_here, closed_block, may_stand, may_act, may_enter, may_leave, left_here, step}
 use Rattle.il_text.specs.declared.listing.Stage.{Stage}
 use Rattle.il_text.specs.declared.listing.Stage.TheVariants as place
 use Rattle.il_text.specs.declared.program.DeclaredType.{DeclaredType}
@@ -26,7 +27,9 @@ run r (p ∷ ps) = option_and_then (λ s. run s ps) (step p.0 r p.1)
 -- the parts of the open parentheses, up to the operator of the innermost
 abbrev pub opened_parts : List Opened → List Numbered
 opened_parts [] = []
-opened_parts (f ∷ fs) = opened_parts fs ++ (flat_map entry_parts f.outer ++ (f.line, entering f.operator f.negated) ∷ [])
+opened_parts (f ∷ fs) =
+    opened_parts fs ++ (flat_map entry_parts f.outer
+    ++ (f.line, entering f.operator f.negated) ∷ [])
 
 abbrev pub body_parts : Reached → List Numbered
 body_parts r = opened_parts r.parentheses ++ flat_map entry_parts r.items
@@ -41,7 +44,8 @@ items_right (f ∷ fs) es = starts_right es && list_all is_inner es
 
 abbrev pub opened_right : List Opened → Bool
 opened_right [] = true
-opened_right (f ∷ fs) = (is_outside fs || is_some f.outer) && (items_right fs f.outer && opened_right fs)
+opened_right (f ∷ fs) =
+    (is_outside fs || is_some f.outer) && (items_right fs f.outer && opened_right fs)
 
 -- the heading and the blocks
 abbrev pub front : ℕ → List ℕ → List Block → List Numbered
@@ -61,8 +65,10 @@ pub record InBlock (scope : Scope) (ps : List Numbered) (r : Reached) : Type 0 w
   pub blocks : List Block
   pub line : ℕ
   pub declarations : List Declaration
-  pub parts : ps ≡ front first r.name blocks ++ ((line, opening scope) ∷ map declaration_part declarations)
-  pub declared : r.declarations ≡ flat_map block_declared blocks ++ flat_map (names_declared scope) declarations
+  pub parts : ps ≡ front first r.name blocks
+      ++ ((line, opening scope) ∷ map declaration_part declarations)
+  pub declared : r.declarations
+      ≡ flat_map block_declared blocks ++ flat_map (names_declared scope) declarations
   pub blocks_allowed : list_all is_allowed blocks ≡ true
   pub allowed : list_all (may_declare scope) declarations ≡ true
   pub none : r.items ≡ []
@@ -90,7 +96,8 @@ ReachesAt ps r place.Finished = Derives ps (listed r)
 abbrev pub Reaches : List Numbered → Reached → Type 0
 Reaches ps r = ReachesAt ps r r.place
 
-pub cond_some : {A : Type 0} → (b : Bool) (x y : A) → cond b (Some x) None ≡ Some y → (b ≡ true) × (x ≡ y)
+pub cond_some : {A : Type 0} → (b : Bool) (x y : A) → cond b (Some x) None ≡ Some y
+    → (b ≡ true) × (x ≡ y)
 cond_some true x y e = (refl, cc)
 cond_some false x y e = cc
 
@@ -101,31 +108,36 @@ and_both false b h = absurd (false≢true h)
 pub both_and : (a b : Bool) → a ≡ true → b ≡ true → a && b ≡ true
 both_and a b h k = rw (h, k) refl
 
-body_at : (ps : List Numbered) (r : Reached) (p : Stage) → is_body p ≡ true → ReachesAt ps r p → InBody ps r
+body_at : (ps : List Numbered) (r : Reached) (p : Stage) → is_body p ≡ true → ReachesAt ps r p
+    → InBody ps r
 body_at ps r place.Start h x = absurd (false≢true h)
 body_at ps r place.Declarations h x = x.body
 body_at ps r (place.Block scope) h x = absurd (false≢true h)
 body_at ps r place.Body h x = x
 body_at ps r place.Finished h x = absurd (false≢true h)
 
-start_at : (ps : List Numbered) (r : Reached) (p : Stage) → is_start p ≡ true → ReachesAt ps r p → AtStart ps r
+start_at : (ps : List Numbered) (r : Reached) (p : Stage) → is_start p ≡ true → ReachesAt ps r p
+    → AtStart ps r
 start_at ps r place.Start h x = x
 start_at ps r place.Declarations h x = absurd (false≢true h)
 start_at ps r (place.Block scope) h x = absurd (false≢true h)
 start_at ps r place.Body h x = absurd (false≢true h)
 start_at ps r place.Finished h x = absurd (false≢true h)
 
-between_at : (ps : List Numbered) (r : Reached) (p : Stage) → is_between p ≡ true → ReachesAt ps r p → Between ps r
+between_at : (ps : List Numbered) (r : Reached) (p : Stage) → is_between_blocks p ≡ true
+    → ReachesAt ps r p → Between ps r
 between_at ps r place.Start h x = absurd (false≢true h)
 between_at ps r place.Declarations h x = x
 between_at ps r (place.Block scope) h x = absurd (false≢true h)
 between_at ps r place.Body h x = absurd (false≢true h)
 between_at ps r place.Finished h x = absurd (false≢true h)
 
-block_at : (ps : List Numbered) (r : Reached) (p : Stage) (scope : Scope) → block_scope p ≡ Some scope → ReachesAt ps r p → InBlock scope ps r
+block_at : (ps : List Numbered) (r : Reached) (p : Stage) (scope : Scope)
+    → block_scope p ≡ Some scope → ReachesAt ps r p → InBlock scope ps r
 block_at ps r place.Start scope h x = cc
 block_at ps r place.Declarations scope h x = cc
-block_at ps r (place.Block other) scope h x = let e : other ≡ scope = cc in subst (λ (k : Scope). InBlock k ps r) e x
+block_at ps r (place.Block other) scope h x = let e : other ≡ scope =
+    cc in subst (λ (k : Scope). InBlock k ps r) e x
 block_at ps r place.Body scope h x = cc
 block_at ps r place.Finished scope h x = cc
 
@@ -133,19 +145,24 @@ outside_is : (fs : List Opened) → is_outside fs ≡ true → fs ≡ []
 outside_is [] h = refl
 outside_is (f ∷ fs) h = absurd (false≢true h)
 
-all_more : {A : Type 0} → (f : A → Bool) (xs : List A) (x : A) → list_all f xs ≡ true → f x ≡ true → list_all f (xs ++ x ∷ []) ≡ true
+all_more : {A : Type 0} → (f : A → Bool) (xs : List A) (x : A) → list_all f xs ≡ true → f x ≡ true
+    → list_all f (xs ++ x ∷ []) ≡ true
 all_more f [] x h k = rw k refl
-all_more f (y ∷ xs) x h k = let p = and_both (f y) (list_all f xs) h in both_and (f y) _ p.0 (all_more f xs x p.1 k)
+all_more f (y ∷ xs) x h k = let p =
+    and_both (f y) (list_all f xs) h in both_and (f y) _ p.0 (all_more f xs x p.1 k)
 
-pub flat_one : {X A : Type 0} → (f : X → List A) (xs : List X) (x : X) → flat_map f (xs ++ x ∷ []) ≡ flat_map f xs ++ f x
-flat_one f xs x = flat_map-append f xs (x ∷ []) ∙ ap (λ (l : List _). flat_map f xs ++ l) (append-nil (f x))
+pub flat_one : {X A : Type 0} → (f : X → List A) (xs : List X) (x : X)
+    → flat_map f (xs ++ x ∷ []) ≡ flat_map f xs ++ f x
+flat_one f xs x =
+    flat_map-append f xs (x ∷ []) ∙ ap (λ (l : List _). flat_map f xs ++ l) (append-nil (f x))
 
 pub entries_flat : (es : List Entry) → entries_parts (entries_of es) ≡ flat_map entry_parts es
 entries_flat [] = refl
 entries_flat (e ∷ es) = ap (λ (l : List Numbered). entry_parts e ++ l) (entries_flat es)
 
 -- one more entry in the body
-more_item : (ps : List Numbered) (r : Reached) (e : Entry) → InBody ps r → items_right r.parentheses (r.items ++ e ∷ []) ≡ true
+more_item : (ps : List Numbered) (r : Reached) (e : Entry) → InBody ps r
+    → items_right r.parentheses (r.items ++ e ∷ []) ≡ true
     → InBody (ps ++ entry_parts e) (with_item e r)
 more_item ps r e b k = record {
   first = b.first;
@@ -155,7 +172,8 @@ more_item ps r e b k = record {
       ∙ append_assoc (front b.first r.name b.blocks) (body_parts r) (entry_parts e)
       ∙ ap (λ (l : List Numbered). front b.first r.name b.blocks ++ l)
       (append_assoc (opened_parts r.parentheses) (flat_map entry_parts r.items) (entry_parts e)
-      ∙ ap (λ (l : List Numbered). opened_parts r.parentheses ++ l) (sym (flat_one entry_parts r.items e)));
+      ∙ ap (λ (l : List Numbered). opened_parts r.parentheses ++ l)
+      (sym (flat_one entry_parts r.items e)));
   declared = b.declared;
   blocks_allowed = b.blocks_allowed;
   right = k;
@@ -165,7 +183,8 @@ more_item ps r e b k = record {
 none_in_body : (r : Reached) → r.items ≡ [] → r.parentheses ≡ [] → body_parts r ≡ []
 none_in_body r h k = rw (h, k) refl
 
-heading_taken : (n : ℕ) (name : List ℕ) (ps : List Numbered) (r : Reached) → AtStart ps r → Between (ps ++ (n, heading name) ∷ []) (with_name name r)
+heading_taken : (n : ℕ) (name : List ℕ) (ps : List Numbered) (r : Reached) → AtStart ps r
+    → Between (ps ++ (n, heading name) ∷ []) (with_name name r)
 heading_taken n name ps r a = record {
   body = record {
     first = n;
@@ -182,7 +201,8 @@ heading_taken n name ps r a = record {
   outside = a.outside;
 }
 
-opening_taken : (n : ℕ) (scope : Scope) (ps : List Numbered) (r : Reached) → Between ps r → InBlock scope (ps ++ (n, opening scope) ∷ []) (at_place (place.Block scope) r)
+opening_taken : (n : ℕ) (scope : Scope) (ps : List Numbered) (r : Reached) → Between ps r
+    → InBlock scope (ps ++ (n, opening scope) ∷ []) (at_place (place.Block scope) r)
 opening_taken n scope ps r a = record {
   first = a.body.first;
   blocks = a.body.blocks;
@@ -190,7 +210,8 @@ opening_taken n scope ps r a = record {
   declarations = [];
   parts =
       ap (λ (l : List Numbered). l ++ (n, opening scope) ∷ [])
-      (a.body.parts ∙ ap (λ (l : List Numbered). front a.body.first r.name a.body.blocks ++ l) (none_in_body r a.none a.outside) ∙ append-nil (front a.body.first r.name a.body.blocks));
+      (a.body.parts ∙ ap (λ (l : List Numbered). front a.body.first r.name a.body.blocks ++ l)
+      (none_in_body r a.none a.outside) ∙ append-nil (front a.body.first r.name a.body.blocks));
   declared = a.body.declared ∙ sym (append-nil (flat_map block_declared a.body.blocks));
   blocks_allowed = a.body.blocks_allowed;
   allowed = refl;
@@ -202,12 +223,16 @@ initial_none : (o : Option Literal) → may_begin_with External o ≡ true → i
 initial_none None h = refl
 initial_none (Some x) h = absurd (false≢true h)
 
-may_begin : (scope : Scope) (d : Declaration) → may_begin_with scope d.initial ≡ true → may_declare scope d ≡ true
+may_begin : (scope : Scope) (d : Declaration) → may_begin_with scope d.initial ≡ true
+    → may_declare scope d ≡ true
 may_begin Local d h = refl
 may_begin External d h = initial_none d.initial h
 
-declaring_taken : (n : ℕ) (ns : List (List ℕ)) (kind : DeclaredType) (initial : Option Literal) (scope : Scope) (ps : List Numbered) (r : Reached) → InBlock scope ps r
-    → may_begin_with scope initial ≡ true → InBlock scope (ps ++ (n, declaring ns kind initial) ∷ []) (with_declarations (map (declared_in n scope kind initial) ns) r)
+declaring_taken : (n : ℕ) (ns : List (List ℕ)) (kind : DeclaredType) (initial : Option Literal)
+    (scope : Scope) (ps : List Numbered) (r : Reached) → InBlock scope ps r
+    → may_begin_with scope initial ≡ true
+    → InBlock scope (ps ++ (n, declaring ns kind initial) ∷ [])
+    (with_declarations (map (declared_in n scope kind initial) ns) r)
 declaring_taken n ns kind initial scope ps r a h =
     let d : Declaration = record { line = n; names = ns; kind = kind; initial = initial } in
     record {
@@ -217,21 +242,30 @@ declaring_taken n ns kind initial scope ps r a h =
       declarations = a.declarations ++ d ∷ [];
       parts =
           ap (λ (l : List Numbered). l ++ (n, declaring ns kind initial) ∷ []) a.parts
-          ∙ append_assoc (front a.first r.name a.blocks) ((a.line, opening scope) ∷ map declaration_part a.declarations) ((n, declaring ns kind initial) ∷ [])
-          ∙ ap (λ (l : List Numbered). front a.first r.name a.blocks ++ ((a.line, opening scope) ∷ l)) (sym (map-append declaration_part a.declarations (d ∷ [])));
+          ∙ append_assoc (front a.first r.name a.blocks)
+          ((a.line, opening scope) ∷ map declaration_part a.declarations)
+          ((n, declaring ns kind initial) ∷ [])
+          ∙ ap (λ (l : List Numbered). front a.first r.name a.blocks
+          ++ ((a.line, opening scope) ∷ l))
+          (sym (map-append declaration_part a.declarations (d ∷ [])));
       declared =
           ap (λ (l : List Declared). l ++ map (declared_in n scope kind initial) ns) a.declared
-          ∙ append_assoc (flat_map block_declared a.blocks) (flat_map (names_declared scope) a.declarations) (map (declared_in n scope kind initial) ns)
-          ∙ ap (λ (l : List Declared). flat_map block_declared a.blocks ++ l) (sym (flat_one (names_declared scope) a.declarations d));
+          ∙ append_assoc (flat_map block_declared a.blocks)
+          (flat_map (names_declared scope) a.declarations)
+          (map (declared_in n scope kind initial) ns)
+          ∙ ap (λ (l : List Declared). flat_map block_declared a.blocks ++ l)
+          (sym (flat_one (names_declared scope) a.declarations d));
       blocks_allowed = a.blocks_allowed;
       allowed = all_more (may_declare scope) a.declarations d a.allowed (may_begin scope d h);
       none = a.none;
       outside = a.outside;
     }
 
-closing_taken : (n : ℕ) (scope : Scope) (ps : List Numbered) (r : Reached) → InBlock scope ps r → Between (ps ++ (n, closing) ∷ []) (at_place place.Declarations r)
+closing_taken : (n : ℕ) (scope : Scope) (ps : List Numbered) (r : Reached) → InBlock scope ps r
+    → Between (ps ++ (n, closing) ∷ []) (at_place place.Declarations r)
 closing_taken n scope ps r a =
-    let b : Block = record { line = a.line; scope = scope; declarations = a.declarations; end = n } in
+    let b : Block =
+    record { line = a.line; scope = scope; declarations = a.declarations; end = n } in
     let inner : List Numbered = (a.line, opening scope) ∷ map declaration_part a.declarations in
     record {
       body = record {
@@ -239,10 +273,13 @@ closing_taken n scope ps r a =
         blocks = a.blocks ++ b ∷ [];
         parts =
             ap (λ (l : List Numbered). l ++ (n, closing) ∷ []) a.parts
-            ∙ append_assoc (front a.first r.name a.blocks) ((a.line, opening scope) ∷ map declaration_part a.declarations) ((n, closing) ∷ [])
-            ∙ ap (λ (l : List Numbered). (a.first, heading r.name) ∷ l) (sym (flat_one block_parts a.blocks b))
+            ∙ append_assoc (front a.first r.name a.blocks)
+            ((a.line, opening scope) ∷ map declaration_part a.declarations) ((n, closing) ∷ [])
+            ∙ ap (λ (l : List Numbered). (a.first, heading r.name) ∷ l)
+            (sym (flat_one block_parts a.blocks b))
             ∙ sym (append-nil (front a.first r.name (a.blocks ++ b ∷ [])))
-            ∙ sym (ap (λ (l : List Numbered). front a.first r.name (a.blocks ++ b ∷ []) ++ l) (none_in_body r a.none a.outside));
+            ∙ sym (ap (λ (l : List Numbered). front a.first r.name (a.blocks ++ b ∷ []) ++ l)
+            (none_in_body r a.none a.outside));
         declared = a.declared ∙ sym (flat_one block_declared a.blocks b);
         blocks_allowed = all_more is_allowed a.blocks b a.blocks_allowed a.allowed;
         right = rw (a.outside, a.none) refl;
@@ -252,7 +289,8 @@ closing_taken n scope ps r a =
       outside = a.outside;
     }
 
-right_outer : (fs : List Opened) (es : List Entry) (e : Entry) → is_outside fs ≡ true → items_right fs es ≡ true → is_outer e ≡ true → items_right fs (es ++ e ∷ []) ≡ true
+right_outer : (fs : List Opened) (es : List Entry) (e : Entry) → is_outside fs ≡ true
+    → items_right fs es ≡ true → is_outer e ≡ true → items_right fs (es ++ e ∷ []) ≡ true
 right_outer [] es e o h k = all_more is_outer es e h k
 right_outer (f ∷ fs) es e o h k = absurd (false≢true o)
 
@@ -267,28 +305,33 @@ first_load n (leave condition) h = absurd (false≢true h)
 first_load n (call timer arguments) h = absurd (false≢true h)
 
 -- one more entry of a parenthesis: the first of them, or a later one
-starts_more : (es : List Entry) (e : Entry) → starts_right es ≡ true → is_some es || is_first e ≡ true → starts_right (es ++ e ∷ []) ≡ true
+starts_more : (es : List Entry) (e : Entry) → starts_right es ≡ true
+    → is_some es || is_first e ≡ true → starts_right (es ++ e ∷ []) ≡ true
 starts_more [] e h k = k
 starts_more (d ∷ es) e h k = h
 
-right_inner : (f : Opened) (fs : List Opened) (es : List Entry) (e : Entry) → items_right (f ∷ fs) es ≡ true → is_inner e ≡ true → is_some es || is_first e ≡ true
+right_inner : (f : Opened) (fs : List Opened) (es : List Entry) (e : Entry)
+    → items_right (f ∷ fs) es ≡ true → is_inner e ≡ true → is_some es || is_first e ≡ true
     → items_right (f ∷ fs) (es ++ e ∷ []) ≡ true
 right_inner f fs es e h i k =
     let p = and_both (starts_right es) (list_all is_inner es) h in
     both_and (starts_right (es ++ e ∷ [])) _ (starts_more es e p.0 k) (all_more is_inner es e p.1 i)
 
-or_first : (b : Bool) (n : ℕ) (a : Action) → b || is_load a ≡ true → b || is_first (action n a) ≡ true
+or_first : (b : Bool) (n : ℕ) (a : Action) → b || is_load a ≡ true
+    → b || is_first (action n a) ≡ true
 or_first true n a h = refl
 or_first false n a h = first_load n a h
 
-right_action : (n : ℕ) (a : Action) (fs : List Opened) (es : List Entry) → items_right fs es ≡ true → is_outside fs || (is_plain a && (is_some es || is_load a)) ≡ true
+right_action : (n : ℕ) (a : Action) (fs : List Opened) (es : List Entry) → items_right fs es ≡ true
+    → is_outside fs || (is_plain a && (is_some es || is_load a)) ≡ true
     → items_right fs (es ++ action n a ∷ []) ≡ true
 right_action n a [] es h k = all_more is_outer es (action n a) h refl
 right_action n a (f ∷ fs) es h k =
     let p = and_both (is_plain a) (is_some es || is_load a) k in
     right_inner f fs es (action n a) h p.0 (or_first (is_some es) n a p.1)
 
-entering_taken : (n : ℕ) (o : Operator) (g : Bool) (ps : List Numbered) (r : Reached) → InBody ps r → is_outside r.parentheses || is_some r.items ≡ true
+entering_taken : (n : ℕ) (o : Operator) (g : Bool) (ps : List Numbered) (r : Reached) → InBody ps r
+    → is_outside r.parentheses || is_some r.items ≡ true
     → InBody (ps ++ (n, entering o g) ∷ []) (with_opened n o g r)
 entering_taken n o g ps r b k = record {
   first = b.first;
@@ -297,48 +340,61 @@ entering_taken n o g ps r b k = record {
       ap (λ (l : List Numbered). l ++ (n, entering o g) ∷ []) b.parts
       ∙ append_assoc (front b.first r.name b.blocks) (body_parts r) ((n, entering o g) ∷ [])
       ∙ ap (λ (l : List Numbered). front b.first r.name b.blocks ++ l)
-      (append_assoc (opened_parts r.parentheses) (flat_map entry_parts r.items) ((n, entering o g) ∷ []) ∙ sym (append-nil _));
+      (append_assoc (opened_parts r.parentheses) (flat_map entry_parts r.items)
+      ((n, entering o g) ∷ []) ∙ sym (append-nil _));
   declared = b.declared;
   blocks_allowed = b.blocks_allowed;
   right = refl;
-  opened = both_and (is_outside r.parentheses || is_some r.items) _ k (both_and (items_right r.parentheses r.items) _ b.right b.opened);
+  opened =
+      both_and (is_outside r.parentheses || is_some r.items) _ k
+      (both_and (items_right r.parentheses r.items) _ b.right b.opened);
 }
 
 inner_is : (es : List Entry) → list_all is_inner es ≡ true → all_inner (entries_of es) ≡ true
 inner_is [] h = refl
-inner_is (e ∷ es) h = let p = and_both (is_inner e) (list_all is_inner es) h in both_and (is_inner e) _ p.0 (inner_is es p.1)
+inner_is (e ∷ es) h = let p =
+    and_both (is_inner e) (list_all is_inner es) h in both_and (is_inner e) _ p.0 (inner_is es p.1)
 
 or_false : (b : Bool) → b ≡ true → b || false ≡ true
 or_false true h = refl
 or_false false h = absurd (false≢true h)
 
 -- the entries of a parenthesis, as a list
-parenthesis_is : (es : List Entry) → starts_right es ≡ true → list_all is_inner es ≡ true → is_some es ≡ true → is_parenthesis (entries_of es) ≡ true
+parenthesis_is : (es : List Entry) → starts_right es ≡ true → list_all is_inner es ≡ true
+    → is_some es ≡ true → is_parenthesis (entries_of es) ≡ true
 parenthesis_is [] s h k = absurd (false≢true k)
 parenthesis_is (e ∷ es) s h k =
     let p = and_both (is_inner e) (list_all is_inner es) h in
     both_and (is_first e) _ s (both_and (is_inner e) _ p.0 (inner_is es p.1))
 
-right_block : (n m : ℕ) (o : Operator) (g : Bool) (inner : Entries) (fs : List Opened) (es : List Entry) → is_parenthesis inner ≡ true → items_right fs es ≡ true
+right_block : (n m : ℕ) (o : Operator) (g : Bool) (inner : Entries) (fs : List Opened)
+    (es : List Entry) → is_parenthesis inner ≡ true → items_right fs es ≡ true
     → is_outside fs || is_some es ≡ true → items_right fs (es ++ block n o g inner m ∷ []) ≡ true
 right_block n m o g inner [] es i h k = all_more is_outer es (block n o g inner m) h i
-right_block n m o g inner (f ∷ fs) es i h k = right_inner f fs es (block n o g inner m) h i (or_false (is_some es) k)
+right_block n m o g inner (f ∷ fs) es i h k =
+    right_inner f fs es (block n o g inner m) h i (or_false (is_some es) k)
 
 leaving_parts : (n : ℕ) (f : Opened) (fs : List Opened) (es : List Entry)
     → (opened_parts (f ∷ fs) ++ flat_map entry_parts es) ++ (n, leaving) ∷ []
-    ≡ opened_parts fs ++ flat_map entry_parts (f.outer ++ block f.line f.operator f.negated (entries_of es) n ∷ [])
+    ≡ opened_parts fs ++ flat_map entry_parts
+    (f.outer ++ block f.line f.operator f.negated (entries_of es) n ∷ [])
 leaving_parts n f fs es =
     let e : Entry = block f.line f.operator f.negated (entries_of es) n in
     rw (flat_one entry_parts f.outer e, entries_flat es)
     (simp append_assoc refl)
 
-leaving_taken : (n : ℕ) (f : Opened) (fs : List Opened) (ps : List Numbered) (r : Reached) → InBody ps r → r.parentheses ≡ f ∷ fs → is_some r.items ≡ true
+leaving_taken : (n : ℕ) (f : Opened) (fs : List Opened) (ps : List Numbered) (r : Reached)
+    → InBody ps r → r.parentheses ≡ f ∷ fs → is_some r.items ≡ true
     → InBody (ps ++ (n, leaving) ∷ []) (with_closed n r f fs)
 leaving_taken n f fs ps r b q k =
-    let right : items_right (f ∷ fs) r.items ≡ true = subst (λ (x : List Opened). items_right x r.items ≡ true) q b.right in
-    let opened : opened_right (f ∷ fs) ≡ true = subst (λ (x : List Opened). opened_right x ≡ true) q b.opened in
+    let right : items_right (f ∷ fs) r.items ≡ true =
+    subst (λ (x : List Opened). items_right x r.items ≡ true) q b.right in
+    let opened : opened_right (f ∷ fs) ≡ true =
+    subst (λ (x : List Opened). opened_right x ≡ true) q b.opened in
     let inner = and_both (starts_right r.items) (list_all is_inner r.items) right in
-    let outer = and_both (is_outside fs || is_some f.outer) (items_right fs f.outer && opened_right fs) opened in
+    let outer =
+    and_both (is_outside fs || is_some f.outer) (items_right fs f.outer && opened_right fs)
+    opened in
     let rest = and_both (items_right fs f.outer) (opened_right fs) outer.1 in
     record {
       first = b.first;
@@ -347,17 +403,21 @@ leaving_taken n f fs ps r b q k =
           ap (λ (l : List Numbered). l ++ (n, leaving) ∷ []) b.parts
           ∙ append_assoc (front b.first r.name b.blocks) (body_parts r) ((n, leaving) ∷ [])
           ∙ ap (λ (l : List Numbered). front b.first r.name b.blocks ++ l)
-          (ap (λ (x : List Opened). (opened_parts x ++ flat_map entry_parts r.items) ++ (n, leaving) ∷ []) q ∙ leaving_parts n f fs r.items);
+          (ap (λ (x : List Opened). (opened_parts x ++ flat_map entry_parts r.items)
+          ++ (n, leaving) ∷ []) q ∙ leaving_parts n f fs r.items);
       declared = b.declared;
       blocks_allowed = b.blocks_allowed;
-      right = right_block f.line n f.operator f.negated (entries_of r.items) fs f.outer (parenthesis_is r.items inner.0 inner.1 k) rest.0 outer.0;
+      right = right_block f.line n f.operator f.negated (entries_of r.items) fs f.outer
+          (parenthesis_is r.items inner.0 inner.1 k) rest.0 outer.0;
       opened = rest.1;
     }
 
-items_outer : (fs : List Opened) (es : List Entry) → fs ≡ [] → items_right fs es ≡ true → list_all is_outer es ≡ true
+items_outer : (fs : List Opened) (es : List Entry) → fs ≡ [] → items_right fs es ≡ true
+    → list_all is_outer es ≡ true
 items_outer fs es q h = subst (λ (x : List Opened). items_right x es ≡ true) q h
 
-ending_taken : (n : ℕ) (ps : List Numbered) (r : Reached) → InBody ps r → is_outside r.parentheses ≡ true → Derives (ps ++ (n, ending) ∷ []) (listed r)
+ending_taken : (n : ℕ) (ps : List Numbered) (r : Reached) → InBody ps r
+    → is_outside r.parentheses ≡ true → Derives (ps ++ (n, ending) ∷ []) (listed r)
 ending_taken n ps r b k =
     let q = outside_is r.parentheses k in
     record {
@@ -367,104 +427,137 @@ ending_taken n ps r b k =
       parts =
           ap (λ (l : List Numbered). l ++ (n, ending) ∷ []) b.parts
           ∙ append_assoc (front b.first r.name b.blocks) (body_parts r) ((n, ending) ∷ [])
-          ∙ ap (λ (x : List Opened). front b.first r.name b.blocks ++ ((opened_parts x ++ flat_map entry_parts r.items) ++ (n, ending) ∷ [])) q;
+          ∙ ap (λ (x : List Opened). front b.first r.name b.blocks
+          ++ ((opened_parts x ++ flat_map entry_parts r.items) ++ (n, ending) ∷ [])) q;
       declared = b.declared;
       blocks_allowed = b.blocks_allowed;
       items_allowed = items_outer r.parentheses r.items q b.right;
     }
 
-pub declared_some : (n : ℕ) (ns : List (List ℕ)) (kind : DeclaredType) (initial : Option Literal) (r s : Reached) (o : Option Scope) → declared_here n ns kind initial r o ≡ Some s
-    → (scope : Scope) × (o ≡ Some scope) × (may_begin_with scope initial ≡ true) × (with_declarations (map (declared_in n scope kind initial) ns) r ≡ s)
+pub declared_some : (n : ℕ) (ns : List (List ℕ)) (kind : DeclaredType) (initial : Option Literal)
+    (r s : Reached) (o : Option Scope) → declared_here n ns kind initial r o ≡ Some s
+    → (scope : Scope) × (o ≡ Some scope) × (may_begin_with scope initial ≡ true)
+    × (with_declarations (map (declared_in n scope kind initial) ns) r ≡ s)
 declared_some n ns kind initial r s None e = cc
 declared_some n ns kind initial r s (Some scope) e =
-    let c = cond_some (may_begin_with scope initial) (with_declarations (map (declared_in n scope kind initial) ns) r) s e in
+    let c = cond_some (may_begin_with scope initial)
+    (with_declarations (map (declared_in n scope kind initial) ns) r) s e in
     (scope, refl, c.0, c.1)
 
-pub closed_some : (r s : Reached) (o : Option Scope) → closed_block r o ≡ Some s → (scope : Scope) × (o ≡ Some scope) × (at_place place.Declarations r ≡ s)
+pub closed_some : (r s : Reached) (o : Option Scope) → closed_block r o ≡ Some s
+    → (scope : Scope) × (o ≡ Some scope) × (at_place place.Declarations r ≡ s)
 closed_some r s None e = cc
 closed_some r s (Some scope) e = (scope, refl, cc)
 
-pub left_some : (n : ℕ) (r s : Reached) (fs : List Opened) → left_here n r fs ≡ Some s → (f : Opened) × (gs : List Opened) × (fs ≡ f ∷ gs) × (with_closed n r f gs ≡ s)
+pub left_some : (n : ℕ) (r s : Reached) (fs : List Opened) → left_here n r fs ≡ Some s
+    → (f : Opened) × (gs : List Opened) × (fs ≡ f ∷ gs) × (with_closed n r f gs ≡ s)
 left_some n r s [] e = cc
 left_some n r s (f ∷ fs) e = (f, fs, refl, cc)
 
-pub cond_left : (b : Bool) (o : Option Reached) (s : Reached) → cond b o None ≡ Some s → (b ≡ true) × (o ≡ Some s)
+pub cond_left : (b : Bool) (o : Option Reached) (s : Reached) → cond b o None ≡ Some s
+    → (b ≡ true) × (o ≡ Some s)
 cond_left true o s e = (refl, e)
 cond_left false o s e = cc
 
-block_back : (ps : List Numbered) (r : Reached) (p : Stage) (scope : Scope) → block_scope p ≡ Some scope → InBlock scope ps r → ReachesAt ps r p
+block_back : (ps : List Numbered) (r : Reached) (p : Stage) (scope : Scope)
+    → block_scope p ≡ Some scope → InBlock scope ps r → ReachesAt ps r p
 block_back ps r place.Start scope h x = cc
 block_back ps r place.Declarations scope h x = cc
-block_back ps r (place.Block other) scope h x = let e : scope ≡ other = cc in subst (λ (k : Scope). InBlock k ps r) e x
+block_back ps r (place.Block other) scope h x = let e : scope ≡ other =
+    cc in subst (λ (k : Scope). InBlock k ps r) e x
 block_back ps r place.Body scope h x = cc
 block_back ps r place.Finished scope h x = cc
 
 -- a part that is taken is the next of the grammar's
-step_reaches : (n : ℕ) (ps : List Numbered) (r s : Reached) (p : Part) → Reaches ps r → step n r p ≡ Some s → Reaches (ps ++ (n, p) ∷ []) s
+step_reaches : (n : ℕ) (ps : List Numbered) (r s : Reached) (p : Part) → Reaches ps r
+    → step n r p ≡ Some s → Reaches (ps ++ (n, p) ∷ []) s
 unfolding step may_stand may_act may_enter may_leave
 step_reaches n ps r s (heading name) x e =
     let c = cond_some (is_start r.place) (with_name name r) s e in
-    subst (λ (t : Reached). Reaches (ps ++ (n, heading name) ∷ []) t) c.1 (heading_taken n name ps r (start_at ps r r.place c.0 x))
+    subst (λ (t : Reached). Reaches (ps ++ (n, heading name) ∷ []) t) c.1
+    (heading_taken n name ps r (start_at ps r r.place c.0 x))
 step_reaches n ps r s (opening scope) x e =
-    let c = cond_some (is_between r.place) (at_place (place.Block scope) r) s e in
-    subst (λ (t : Reached). Reaches (ps ++ (n, opening scope) ∷ []) t) c.1 (opening_taken n scope ps r (between_at ps r r.place c.0 x))
+    let c = cond_some (is_between_blocks r.place) (at_place (place.Block scope) r) s e in
+    subst (λ (t : Reached). Reaches (ps ++ (n, opening scope) ∷ []) t) c.1
+    (opening_taken n scope ps r (between_at ps r r.place c.0 x))
 step_reaches n ps r s (declaring ns kind initial) x e =
     let c = declared_some n ns kind initial r s (block_scope r.place) e in
     subst (λ (t : Reached). Reaches (ps ++ (n, declaring ns kind initial) ∷ []) t) c.3
-    (block_back _ (with_declarations (map (declared_in n c.0 kind initial) ns) r) r.place c.0 c.1 (declaring_taken n ns kind initial c.0 ps r (block_at ps r r.place c.0 c.1 x) c.2))
+    (block_back _ (with_declarations (map (declared_in n c.0 kind initial) ns) r) r.place c.0 c.1
+    (declaring_taken n ns kind initial c.0 ps r (block_at ps r r.place c.0 c.1 x) c.2))
 step_reaches n ps r s closing x e =
     let c = closed_some r s (block_scope r.place) e in
-    subst (λ (t : Reached). Reaches (ps ++ (n, closing) ∷ []) t) c.2 (closing_taken n c.0 ps r (block_at ps r r.place c.0 c.1 x))
+    subst (λ (t : Reached). Reaches (ps ++ (n, closing) ∷ []) t) c.2
+    (closing_taken n c.0 ps r (block_at ps r r.place c.0 c.1 x))
 step_reaches n ps r s (labelling name) x e =
-    let c = cond_some (is_body r.place && is_outside r.parentheses) (with_item (label n name) r) s e in
+    let c = cond_some (is_body r.place && is_outside r.parentheses) (with_item (label n name) r) s e
+    in
     let h = and_both (is_body r.place) (is_outside r.parentheses) c.0 in
     let b = body_at ps r r.place h.0 x in
     subst (λ (t : Reached). Reaches (ps ++ (n, labelling name) ∷ []) t) c.1
-    (more_item ps r (label n name) b (right_outer r.parentheses r.items (label n name) h.1 b.right refl))
+    (more_item ps r (label n name) b
+    (right_outer r.parentheses r.items (label n name) h.1 b.right refl))
 step_reaches n ps r s (acting a) x e =
-    let c = cond_some (is_body r.place && (is_outside r.parentheses || (is_plain a && (is_some r.items || is_load a)))) (with_item (action n a) r) s e in
-    let h = and_both (is_body r.place) (is_outside r.parentheses || (is_plain a && (is_some r.items || is_load a))) c.0 in
+    let c = cond_some (is_body r.place
+    && (is_outside r.parentheses || (is_plain a && (is_some r.items || is_load a))))
+    (with_item (action n a) r) s e in
+    let h = and_both (is_body r.place)
+    (is_outside r.parentheses || (is_plain a && (is_some r.items || is_load a))) c.0 in
     let b = body_at ps r r.place h.0 x in
     subst (λ (t : Reached). Reaches (ps ++ (n, acting a) ∷ []) t) c.1
     (more_item ps r (action n a) b (right_action n a r.parentheses r.items b.right h.1))
 step_reaches n ps r s (entering o g) x e =
-    let c = cond_some (is_body r.place && (is_outside r.parentheses || is_some r.items)) (with_opened n o g r) s e in
+    let c = cond_some (is_body r.place && (is_outside r.parentheses || is_some r.items))
+    (with_opened n o g r) s e in
     let h = and_both (is_body r.place) (is_outside r.parentheses || is_some r.items) c.0 in
-    subst (λ (t : Reached). Reaches (ps ++ (n, entering o g) ∷ []) t) c.1 (entering_taken n o g ps r (body_at ps r r.place h.0 x) h.1)
+    subst (λ (t : Reached). Reaches (ps ++ (n, entering o g) ∷ []) t) c.1
+    (entering_taken n o g ps r (body_at ps r r.place h.0 x) h.1)
 step_reaches n ps r s leaving x e =
     let c = cond_left (is_body r.place && is_some r.items) (left_here n r r.parentheses) s e in
     let h = and_both (is_body r.place) (is_some r.items) c.0 in
     let l = left_some n r s r.parentheses c.1 in
-    subst (λ (t : Reached). Reaches (ps ++ (n, leaving) ∷ []) t) l.3 (leaving_taken n l.0 l.1 ps r (body_at ps r r.place h.0 x) l.2 h.1)
+    subst (λ (t : Reached). Reaches (ps ++ (n, leaving) ∷ []) t) l.3
+    (leaving_taken n l.0 l.1 ps r (body_at ps r r.place h.0 x) l.2 h.1)
 step_reaches n ps r s ending x e =
-    let c = cond_some (is_body r.place && is_outside r.parentheses) (at_place place.Finished r) s e in
+    let c = cond_some (is_body r.place && is_outside r.parentheses) (at_place place.Finished r) s e
+    in
     let h = and_both (is_body r.place) (is_outside r.parentheses) c.0 in
-    subst (λ (t : Reached). Reaches (ps ++ (n, ending) ∷ []) t) c.1 (ending_taken n ps r (body_at ps r r.place h.0 x) h.1)
+    subst (λ (t : Reached). Reaches (ps ++ (n, ending) ∷ []) t) c.1
+    (ending_taken n ps r (body_at ps r r.place h.0 x) h.1)
 
-pub then_some : (o : Option Reached) (f : Reached → Option Reached) (s : Reached) → option_and_then f o ≡ Some s → (t : Reached) × (o ≡ Some t) × (f t ≡ Some s)
+pub then_some : (o : Option Reached) (f : Reached → Option Reached) (s : Reached)
+    → option_and_then f o ≡ Some s → (t : Reached) × (o ≡ Some t) × (f t ≡ Some s)
 then_some None f s e = cc
 then_some (Some t) f s e = (t, refl, e)
 
 -- the parts that run from what parts reach
-pub run_reaches : (qs ps : List Numbered) (r s : Reached) → Reaches ps r → run r qs ≡ Some s → Reaches (ps ++ qs) s
-run_reaches [] ps r s x e = let same : r ≡ s = cc in subst (λ (l : List Numbered). Reaches l s) (sym (append-nil ps)) (subst (λ (t : Reached). Reaches ps t) same x)
+pub run_reaches : (qs ps : List Numbered) (r s : Reached) → Reaches ps r → run r qs ≡ Some s
+    → Reaches (ps ++ qs) s
+run_reaches [] ps r s x e = let same : r ≡ s = cc in
+    subst (λ (l : List Numbered). Reaches l s) (sym (append-nil ps))
+    (subst (λ (t : Reached). Reaches ps t) same x)
 run_reaches (q ∷ qs) ps r s x e =
     let c = then_some (step q.0 r q.1) (λ t. run t qs) s e in
-    subst (λ (l : List Numbered). Reaches l s) (append_assoc ps (q ∷ []) qs) (run_reaches qs (ps ++ q ∷ []) c.0 s (step_reaches q.0 ps r c.0 q.1 x c.1) c.2)
+    subst (λ (l : List Numbered). Reaches l s) (append_assoc ps (q ∷ []) qs)
+    (run_reaches qs (ps ++ q ∷ []) c.0 s (step_reaches q.0 ps r c.0 q.1 x c.1) c.2)
 
 pub start_reaches : Reaches [] nothing_read
 start_reaches = record { parts = refl; none_declared = refl; none = refl; outside = refl }
 
-and_then_assoc : (o : Option Reached) (f g : Reached → Option Reached) → option_and_then (λ s. option_and_then g (f s)) o ≡ option_and_then g (option_and_then f o)
+and_then_assoc : (o : Option Reached) (f g : Reached → Option Reached)
+    → option_and_then (λ s. option_and_then g (f s)) o ≡ option_and_then g (option_and_then f o)
 and_then_assoc None f g = refl
 and_then_assoc (Some s) f g = refl
 
-pub and_then_same : (o : Option Reached) (f g : Reached → Option Reached) → ((s : Reached) → f s ≡ g s) → option_and_then f o ≡ option_and_then g o
+pub and_then_same : (o : Option Reached) (f g : Reached → Option Reached)
+    → ((s : Reached) → f s ≡ g s) → option_and_then f o ≡ option_and_then g o
 and_then_same None f g h = refl
 and_then_same (Some s) f g h = h s
 
-pub run_append : (xs ys : List Numbered) (r : Reached) → run r (xs ++ ys) ≡ option_and_then (λ s. run s ys) (run r xs)
+pub run_append : (xs ys : List Numbered) (r : Reached)
+    → run r (xs ++ ys) ≡ option_and_then (λ s. run s ys) (run r xs)
 run_append [] ys r = refl
 run_append (x ∷ xs) ys r =
-    and_then_same (step x.0 r x.1) (λ s. run s (xs ++ ys)) (λ s. option_and_then (λ t. run t ys) (run s xs)) (λ s. run_append xs ys s)
+    and_then_same (step x.0 r x.1) (λ s. run s (xs ++ ys))
+    (λ s. option_and_then (λ t. run t ys) (run s xs)) (λ s. run_append xs ys s)
     ∙ and_then_assoc (step x.0 r x.1) (λ s. run s xs) (λ s. run s ys)

@@ -34,30 +34,38 @@ unfolding pieces
 first-cr v = ap (join 13) (unfold pieces in first-lf v) ∙ cr_lf (pieces v)
 
 -- a piece that no character joins, behind others
-join_before : (x : ℕ) (p : List ℕ) (ps ys : List (List ℕ)) → joins x p ≡ false → join x (ps ++ p ∷ ys) ≡ join x ps ++ p ∷ ys
+join_before : (x : ℕ) (p : List ℕ) (ps ys : List (List ℕ)) → joins x p ≡ false
+    → join x (ps ++ p ∷ ys) ≡ join x ps ++ p ∷ ys
 join_before x p [] ys h = rw h refl
 join_before x p (q ∷ ps) ys h = cond_parts (joins x q) x q ps (p ∷ ys)
 
 join_cons : (b : Bool) (x : ℕ) (q p : List ℕ) (qs ys : List (List ℕ)) (y : ℕ)
-    → join x (cond b ((y ∷ q) ∷ qs) ((y ∷ []) ∷ q ∷ qs) ++ p ∷ ys) ≡ join x (cond b ((y ∷ q) ∷ qs) ((y ∷ []) ∷ q ∷ qs)) ++ p ∷ ys
+    → join x (cond b ((y ∷ q) ∷ qs) ((y ∷ []) ∷ q ∷ qs) ++ p ∷ ys)
+    ≡ join x (cond b ((y ∷ q) ∷ qs) ((y ∷ []) ∷ q ∷ qs)) ++ p ∷ ys
 join_cons true x q p qs ys y = cond_parts (joins x (y ∷ q)) x (y ∷ q) qs (p ∷ ys)
 join_cons false x q p qs ys y = cond_parts (joins x (y ∷ [])) x (y ∷ []) (q ∷ qs) (p ∷ ys)
 
-join_twice : (x y : ℕ) (p : List ℕ) (ps ys : List (List ℕ)) → join x (join y ps ++ p ∷ ys) ≡ join x (join y ps) ++ p ∷ ys
+join_twice : (x y : ℕ) (p : List ℕ) (ps ys : List (List ℕ))
+    → join x (join y ps ++ p ∷ ys) ≡ join x (join y ps) ++ p ∷ ys
 join_twice x y p [] ys = cond_parts (joins x (y ∷ [])) x (y ∷ []) [] (p ∷ ys)
 join_twice x y p (q ∷ ps) ys = join_cons (joins y q) x q p ps ys y
 
-parts-lf : (u v : List ℕ) → ends_with_cr u ≡ false → pieces (u ++ 10 ∷ v) ≡ pieces u ++ (10 ∷ []) ∷ pieces v
+parts-lf : (u v : List ℕ) → ends_with_cr u ≡ false
+    → pieces (u ++ 10 ∷ v) ≡ pieces u ++ (10 ∷ []) ∷ pieces v
 unfolding pieces
 parts-lf [] v h = unfold pieces in first-lf v
-parts-lf (x ∷ []) v h = ap (join x) (unfold pieces in first-lf v) ∙ join_before x (10 ∷ []) [] (pieces v) (joins-lf x h)
+parts-lf (x ∷ []) v h =
+    ap (join x) (unfold pieces in first-lf v) ∙ join_before x (10 ∷ []) [] (pieces v) (joins-lf x h)
 parts-lf (x ∷ y ∷ u) v h =
-    ap (join x) (unfold pieces in parts-lf (y ∷ u) v h) ∙ join_twice x y (10 ∷ []) (pieces u) (pieces v)
+    ap (join x) (unfold pieces in parts-lf (y ∷ u) v h)
+    ∙ join_twice x y (10 ∷ []) (pieces u) (pieces v)
 
 parts-cr : (u v : List ℕ) → pieces (u ++ 13 ∷ 10 ∷ v) ≡ pieces u ++ (13 ∷ 10 ∷ []) ∷ pieces v
 unfolding pieces
 parts-cr [] v = unfold pieces in first-cr v
-parts-cr (x ∷ u) v = ap (join x) (unfold pieces in parts-cr u v) ∙ join_before x (13 ∷ 10 ∷ []) (pieces u) (pieces v) (joins-cr x)
+parts-cr (x ∷ u) v =
+    ap (join x) (unfold pieces in parts-cr u v)
+    ∙ join_before x (13 ∷ 10 ∷ []) (pieces u) (pieces v) (joins-cr x)
 
 piece-lf : piece (10 ∷ []) ≡ line_end
 unfolding piece
@@ -74,33 +82,43 @@ blanked-cr : (v : List ℕ) → blanked false (13 ∷ 10 ∷ v) ≡ 13 ∷ 10 �
 blanked-cr v = blanked_plain 13 (10 ∷ v) refl ∙ ap (λ (l : List ℕ). 13 ∷ l) (blanked-lf v)
 
 cut-lf : (u v : List ℕ) → ends_inside false u ≡ false → ends_with_cr (blanked false u) ≡ false
-    → cut false (u ++ 10 ∷ v) ≡ map piece (pieces (blanked false u)) ++ line_end ∷ map piece (pieces (blanked false v))
+    → cut false (u ++ 10 ∷ v)
+    ≡ map piece (pieces (blanked false u)) ++ line_end ∷ map piece (pieces (blanked false v))
 unfolding cut
 cut-lf u v h c =
-    ap (λ (t : List ℕ). map piece (pieces t)) (blanked_parts false u (10 ∷ v) h (λ e. absurd (omega (arith, e))) ∙ ap (λ (t : List ℕ). blanked false u ++ t) (blanked-lf v))
+    ap (λ (t : List ℕ). map piece (pieces t))
+    (blanked_parts false u (10 ∷ v) h (λ e. absurd (omega (arith, e)))
+    ∙ ap (λ (t : List ℕ). blanked false u ++ t) (blanked-lf v))
     ∙ ap (map piece) (parts-lf (blanked false u) (blanked false v) c)
     ∙ map-append piece (pieces (blanked false u)) ((10 ∷ []) ∷ pieces (blanked false v))
-    ∙ ap (λ (p : Piece). map piece (pieces (blanked false u)) ++ p ∷ map piece (pieces (blanked false v))) piece-lf
+    ∙ ap (λ (p : Piece). map piece (pieces (blanked false u))
+    ++ p ∷ map piece (pieces (blanked false v))) piece-lf
 
 cut-cr : (u v : List ℕ) → ends_inside false u ≡ false
-    → cut false (u ++ 13 ∷ 10 ∷ v) ≡ map piece (pieces (blanked false u)) ++ line_end ∷ map piece (pieces (blanked false v))
+    → cut false (u ++ 13 ∷ 10 ∷ v)
+    ≡ map piece (pieces (blanked false u)) ++ line_end ∷ map piece (pieces (blanked false v))
 unfolding cut
 cut-cr u v h =
-    ap (λ (t : List ℕ). map piece (pieces t)) (blanked_parts false u (13 ∷ 10 ∷ v) h (λ e. absurd (omega (arith, e))) ∙ ap (λ (t : List ℕ). blanked false u ++ t) (blanked-cr v))
+    ap (λ (t : List ℕ). map piece (pieces t))
+    (blanked_parts false u (13 ∷ 10 ∷ v) h (λ e. absurd (omega (arith, e)))
+    ∙ ap (λ (t : List ℕ). blanked false u ++ t) (blanked-cr v))
     ∙ ap (map piece) (parts-cr (blanked false u) (blanked false v))
     ∙ map-append piece (pieces (blanked false u)) ((13 ∷ 10 ∷ []) ∷ pieces (blanked false v))
-    ∙ ap (λ (p : Piece). map piece (pieces (blanked false u)) ++ p ∷ map piece (pieces (blanked false v))) piece-cr
+    ∙ ap (λ (p : Piece). map piece (pieces (blanked false u))
+    ++ p ∷ map piece (pieces (blanked false v))) piece-cr
 
 last-cr : (v : List ℕ) → last_line (13 ∷ 10 ∷ v) ≡ last_line (10 ∷ v)
 unfolding last_line
 last-cr v = refl
 
-same-program : (u v : List ℕ) → ends_inside false u ≡ false → ends_with_cr (blanked false u) ≡ false → program_of (u ++ 10 ∷ v) ≡ program_of (u ++ 13 ∷ 10 ∷ v)
+same-program : (u v : List ℕ) → ends_inside false u ≡ false → ends_with_cr (blanked false u) ≡ false
+    → program_of (u ++ 10 ∷ v) ≡ program_of (u ++ 13 ∷ 10 ∷ v)
 unfolding program_of
 same-program u v h c =
     ap (λ (n : ℕ). reading n none_yet 1 (lines (cut false (u ++ 10 ∷ v))))
     (sym (last_line_parts u (13 ∷ 10 ∷ v) (10 ∷ v) (omega arith) (omega arith) (last-cr v)))
-    ∙ ap (λ (ps : List Piece). reading (last_line (u ++ 13 ∷ 10 ∷ v)) none_yet 1 (lines ps)) (cut-lf u v h c ∙ sym (cut-cr u v h))
+    ∙ ap (λ (ps : List Piece). reading (last_line (u ++ 13 ∷ 10 ∷ v)) none_yet 1 (lines ps))
+    (cut-lf u v h c ∙ sym (cut-cr u v h))
 
 pub line_ends : LineEndsMayBeRespelled
 line_ends before after read h c x = moved _ _ read (same-program before after h c) x

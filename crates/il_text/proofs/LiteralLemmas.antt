@@ -19,29 +19,41 @@ value_if b n = cond b (Some (min n (2 ^ 64 - 1))) None
 
 -- the number of what is left, where `value` was written before it
 unfoldable pub number_from : ℕ → Bool → ℕ → List ℕ → Option ℕ
-number_from radix wanted value ds = value_if (is_integer radix wanted ds) (digits_value_after radix value (kept ds))
+number_from radix wanted value ds =
+    value_if (is_integer radix wanted ds) (digits_value_after radix value (kept ds))
 
-pub from_start : (radix : ℕ) (ds : List ℕ) → capped (number radix ds) ≡ number_from radix true 0 (drop 0 ds)
+pub from_start : (radix : ℕ) (ds : List ℕ)
+    → capped (number radix ds) ≡ number_from radix true 0 (drop 0 ds)
 unfolding number number_from
-from_start radix ds = elim (is_integer radix true ds) as (λ b. capped (cond b (Some (digits_value radix (kept ds))) None) ≡ value_if b (digits_value_after radix 0 (kept ds))) [ true ↦ refl | false ↦ refl ]
+from_start radix ds =
+    elim (is_integer radix true ds) as
+    (λ b. capped (cond b (Some (digits_value radix (kept ds))) None)
+    ≡ value_if b (digits_value_after radix 0 (kept ds))) [ true ↦ refl | false ↦ refl ]
 
-at_underscore : (radix value x : ℕ) (xs : List ℕ) → x ≡ 95 → number_from radix false value (x ∷ xs) ≡ number_from radix true value xs
+at_underscore : (radix value x : ℕ) (xs : List ℕ) → x ≡ 95
+    → number_from radix false value (x ∷ xs) ≡ number_from radix true value xs
 unfolding number_from is_integer
 at_underscore radix value x xs e = rw e refl
 
-pub from_underscore : (radix value : ℕ) (ds : List ℕ) (i : ℕ) → i < length ds → slice_index ds i ≡ 95 → number_from radix false value (drop i ds) ≡ number_from radix true value (drop (i + 1) ds)
+pub from_underscore : (radix value : ℕ) (ds : List ℕ) (i : ℕ) → i < length ds
+    → slice_index ds i ≡ 95 → number_from radix false value (drop i ds)
+    ≡ number_from radix true value (drop (i + 1) ds)
 from_underscore radix value ds i h e = rw (front_of ds i h) (at_underscore radix value _ _ e)
 
-pub from_end : (radix value : ℕ) (ds : List ℕ) (i : ℕ) → length ds ≤ i → value ≤ 2 ^ 64 - 1 → number_from radix false value (drop i ds) ≡ Some value
+pub from_end : (radix value : ℕ) (ds : List ℕ) (i : ℕ) → length ds ≤ i → value ≤ 2 ^ 64 - 1
+    → number_from radix false value (drop i ds) ≡ Some value
 unfolding number_from is_integer
-from_end radix value ds i h v = let m : min value (2 ^ 64 - 1) ≡ value = omega arith in rw (none_left ds i h) (ap Some m)
+from_end radix value ds i h v = let m : min value (2 ^ 64 - 1) ≡ value =
+    omega arith in rw (none_left ds i h) (ap Some m)
 
-pub from_end_wanted : (radix value : ℕ) (ds : List ℕ) (i : ℕ) → length ds ≤ i → number_from radix true value (drop i ds) ≡ None
+pub from_end_wanted : (radix value : ℕ) (ds : List ℕ) (i : ℕ) → length ds ≤ i
+    → number_from radix true value (drop i ds) ≡ None
 unfolding number_from is_integer
 from_end_wanted radix value ds i h = rw (none_left ds i h) refl
 
 -- a cap at one digit leaves the capped number as it is
-min_step : (radix a d : ℕ) → 0 < radix → min (a * radix + d) (2 ^ 64 - 1) ≡ min ((min a (2 ^ 64 - 1)) * radix + d) (2 ^ 64 - 1)
+min_step : (radix a d : ℕ) → 0 < radix
+    → min (a * radix + d) (2 ^ 64 - 1) ≡ min ((min a (2 ^ 64 - 1)) * radix + d) (2 ^ 64 - 1)
 min_step radix a d h = ⊎_elim
     (λ (k : 2 ^ 64 - 1 < a).
     let e : min a (2 ^ 64 - 1) ≡ 2 ^ 64 - 1 = omega arith in
@@ -53,28 +65,44 @@ min_step radix a d h = ⊎_elim
     (λ (k : a ≤ 2 ^ 64 - 1). let e : min a (2 ^ 64 - 1) ≡ a = omega arith in rw e refl)
     (cases_lt (2 ^ 64 - 1) a)
 
-capped_after : (radix a : ℕ) (ds : List ℕ) → 0 < radix → min (digits_value_after radix a ds) (2 ^ 64 - 1) ≡ min (digits_value_after radix (min a (2 ^ 64 - 1)) ds) (2 ^ 64 - 1)
+capped_after : (radix a : ℕ) (ds : List ℕ) → 0 < radix
+    → min (digits_value_after radix a ds) (2 ^ 64 - 1)
+    ≡ min (digits_value_after radix (min a (2 ^ 64 - 1)) ds) (2 ^ 64 - 1)
 capped_after radix a [] h = omega arith
 capped_after radix a (x ∷ xs) h =
     capped_after radix (a * radix + digit_value x) xs h
-    ∙ ap (λ n. min (digits_value_after radix n xs) (2 ^ 64 - 1)) (min_step radix a (digit_value x) h)
+    ∙ ap (λ n. min (digits_value_after radix n xs) (2 ^ 64 - 1))
+    (min_step radix a (digit_value x) h)
     ∙ sym (capped_after radix ((min a (2 ^ 64 - 1)) * radix + digit_value x) xs h)
 
-at_digit : (radix value x : ℕ) (wanted : Bool) (xs : List ℕ) → 2 ≤ radix → radix ≤ 16 → digit_value x < radix
-    → number_from radix wanted value (x ∷ xs) ≡ number_from radix false (min (min (value * radix) (2 ^ 64 - 1) + digit_value x) (2 ^ 64 - 1)) xs
+at_digit : (radix value x : ℕ) (wanted : Bool) (xs : List ℕ) → 2 ≤ radix → radix ≤ 16
+    → digit_value x < radix
+    → number_from radix wanted value (x ∷ xs)
+    ≡ number_from radix false
+    (min (min (value * radix) (2 ^ 64 - 1) + digit_value x) (2 ^ 64 - 1)) xs
 unfolding number_from is_integer
 at_digit radix value x wanted xs low high d =
-    let plain : x ≢ 95 = λ e. absurd (let z : digit_value 95 < radix = rw e at d in omega (arith, z)) in
+    let plain : x ≢ 95 =
+    λ e. absurd (let z : digit_value 95 < radix = rw e at d in omega (arith, z)) in
     let u : eqb x 95 ≡ false = ne_eqb x 95 plain in
     let t : ltb (digit_value x) radix ≡ true = lt-ltb _ _ d in
-    let inner : min (min (value * radix) (2 ^ 64 - 1) + digit_value x) (2 ^ 64 - 1) ≡ min (value * radix + digit_value x) (2 ^ 64 - 1) = omega arith in
-    rw (inner, u, and-false (not wanted), t) (ap (λ (n : ℕ). cond (is_integer radix false xs) (Some n) None) (capped_after radix (value * radix + digit_value x) (kept xs) (omega arith)))
+    let inner : min (min (value * radix) (2 ^ 64 - 1) + digit_value x) (2 ^ 64 - 1)
+    ≡ min (value * radix + digit_value x) (2 ^ 64 - 1) = omega arith in
+    rw (inner, u, and-false (not wanted), t)
+    (ap (λ (n : ℕ). cond (is_integer radix false xs) (Some n) None)
+    (capped_after radix (value * radix + digit_value x) (kept xs) (omega arith)))
 
-pub from_digit : (radix value : ℕ) (wanted : Bool) (ds : List ℕ) (i : ℕ) → 2 ≤ radix → radix ≤ 16 → i < length ds → digit_value (slice_index ds i) < radix
-    → number_from radix wanted value (drop i ds) ≡ number_from radix false (min (min (value * radix) (2 ^ 64 - 1) + digit_value (slice_index ds i)) (2 ^ 64 - 1)) (drop (i + 1) ds)
-from_digit radix value wanted ds i low high h d = rw (front_of ds i h) (at_digit radix value _ wanted _ low high d)
+pub from_digit : (radix value : ℕ) (wanted : Bool) (ds : List ℕ) (i : ℕ) → 2 ≤ radix → radix ≤ 16
+    → i < length ds → digit_value (slice_index ds i) < radix
+    → number_from radix wanted value (drop i ds)
+    ≡ number_from radix false
+    (min (min (value * radix) (2 ^ 64 - 1) + digit_value (slice_index ds i)) (2 ^ 64 - 1))
+    (drop (i + 1) ds)
+from_digit radix value wanted ds i low high h d =
+    rw (front_of ds i h) (at_digit radix value _ wanted _ low high d)
 
-at_other : (radix value x : ℕ) (wanted : Bool) (xs : List ℕ) → (digit_value x < radix → ⊥) → (wanted ≡ false → x ≢ 95)
+at_other : (radix value x : ℕ) (wanted : Bool) (xs : List ℕ) → (digit_value x < radix → ⊥)
+    → (wanted ≡ false → x ≢ 95)
     → number_from radix wanted value (x ∷ xs) ≡ None
 unfolding number_from is_integer
 at_other radix value x true xs d u =
@@ -83,11 +111,14 @@ at_other radix value x false xs d u =
     let t : ltb (digit_value x) radix ≡ false = le-ltb _ _ (omega (arith, d)) in
     rw (ne_eqb x 95 (u refl), t) refl
 
-pub from_other : (radix value : ℕ) (wanted : Bool) (ds : List ℕ) (i : ℕ) → i < length ds → (digit_value (slice_index ds i) < radix → ⊥) → (wanted ≡ false → slice_index ds i ≢ 95)
+pub from_other : (radix value : ℕ) (wanted : Bool) (ds : List ℕ) (i : ℕ) → i < length ds
+    → (digit_value (slice_index ds i) < radix → ⊥) → (wanted ≡ false → slice_index ds i ≢ 95)
     → number_from radix wanted value (drop i ds) ≡ None
-from_other radix value wanted ds i h d u = rw (front_of ds i h) (at_other radix value _ wanted _ d u)
+from_other radix value wanted ds i h d u =
+    rw (front_of ds i h) (at_other radix value _ wanted _ d u)
 
-pub ruleset number_rules = (from_start, from_underscore, from_end, from_end_wanted, from_digit, from_other)
+pub ruleset number_rules =
+    (from_start, from_underscore, from_end, from_end_wanted, from_digit, from_other)
 
 -- the cap is past every bound
 pub leb_capped : (c m b : ℕ) → b < c → leb (min m c) b ≡ leb m b
@@ -123,13 +154,16 @@ untyped_capped z = rw (signed_capped z) refl
 
 -- `split_once` at `#`
 pub halves_of : (bs : List ℕ) (r : Option (Bor (List ℕ) × Bor (List ℕ)))
-    → MatchOption r (position_or_len is_hash bs ≡ length bs) (λ x. (position_or_len is_hash bs < length bs) × (x.0.now ≡ before_first is_hash bs) × (x.1.now ≡ after_first is_hash bs))
+    → MatchOption r (position_or_len is_hash bs ≡ length bs)
+    (λ x. (position_or_len is_hash bs < length bs) × (x.0.now ≡ before_first is_hash bs)
+    × (x.1.now ≡ after_first is_hash bs))
     → option_map (λ h. (h.0.now, h.1.now)) r ≡ halves bs
 unfolding halves
 halves_of bs None h = rw (le-ltb (position_or_len is_hash bs) (length bs) (omega (arith, h))) refl
 halves_of bs (Some x) h = rw (lt-ltb (position_or_len is_hash bs) (length bs) h.0, h.1, h.2) refl
 
-pub integer_some : (w : List ℕ) (h : List ℕ × List ℕ) → halves w ≡ Some h → integer w ≡ based h.0 h.1
+pub integer_some : (w : List ℕ) (h : List ℕ × List ℕ) → halves w ≡ Some h
+    → integer w ≡ based h.0 h.1
 unfolding integer
 integer_some w h e = rw e refl
 

@@ -17,11 +17,13 @@ pub linked-none : (x : ℕ) → linked x 0 ≡ false
 unfolding linked
 linked-none x = refl
 
-pub closes-here : (bs : List ℕ) (i : ℕ) → i < length bs → ends (drop i bs) ≡ true → closes (drop i bs) ≡ true
+pub closes-here : (bs : List ℕ) (i : ℕ) → i < length bs → ends (drop i bs) ≡ true
+    → closes (drop i bs) ≡ true
 unfolding closes
 closes-here bs i h e = let f = rw (front_of bs i h) at e in rw (front_of bs i h) (rw f refl)
 
-pub closes-later : (bs : List ℕ) (i : ℕ) → i < length bs → ends (drop i bs) ≡ false → closes (drop i bs) ≡ closes (drop (i + 1) bs)
+pub closes-later : (bs : List ℕ) (i : ℕ) → i < length bs → ends (drop i bs) ≡ false
+    → closes (drop i bs) ≡ closes (drop (i + 1) bs)
 unfolding closes
 closes-later bs i h e = let f = rw (front_of bs i h) at e in rw (front_of bs i h) (rw f refl)
 
@@ -36,7 +38,8 @@ pub IsRun-end : (bs : List ℕ) (s e : ℕ) → s < e → e ≤ length bs
     → linked (slice_index bs (e - 1)) (slice_index bs e) ≡ false → IsRun bs s e
 IsRun-end bs s e a w i l = record { after = a; within = w; inner = i; last = l }
 
-pub past_end : (bs : List ℕ) (e : ℕ) → length bs ≤ e → linked (slice_index bs (e - 1)) (slice_index bs e) ≡ false
+pub past_end : (bs : List ℕ) (e : ℕ) → length bs ≤ e
+    → linked (slice_index bs (e - 1)) (slice_index bs e) ≡ false
 past_end bs e h = let z : slice_index bs e ≡ 0 = grind (arith, common_steps) in rw z (linked-none _)
 
 pub ruleset run_rules = (IsRun-end, past_end)
@@ -45,13 +48,15 @@ pub linked-ascii : (x y : ℕ) → linked x y ≡ true → y < 128
 unfolding linked
 linked-ascii x y h = grind (arith, nat_tests)
 
-pub run_ascii : (bs : List ℕ) (s e : ℕ) → IsRun bs s e → slice_index bs s < 128 → slice_index bs (e - 1) < 128
+pub run_ascii : (bs : List ℕ) (s e : ℕ) → IsRun bs s e → slice_index bs s < 128
+    → slice_index bs (e - 1) < 128
 run_ascii bs s e r a = ⊎_elim
     (λ (k : s + 1 < e). linked-ascii _ _ (r.inner (e - 1) (omega (arith, k)) (omega (arith, k))))
     (λ (k : e ≤ s + 1). let h : e - 1 ≡ s = omega (arith, r.after) in rw h a)
     (cases_lt (s + 1) e)
 
-pub boundary_after : (bs : List ℕ) (s e : ℕ) → IsUtf8 bs → s < e → e ≤ length bs → slice_index bs (e - 1) < 128 → IsCharBoundary bs e
+pub boundary_after : (bs : List ℕ) (s e : ℕ) → IsUtf8 bs → s < e → e ≤ length bs
+    → slice_index bs (e - 1) < 128 → IsCharBoundary bs e
 boundary_after bs s e u h w a =
     let same : (e - 1) + 1 ≡ e = omega arith in
     rw same at (IsCharBoundary-after_ascii bs (e - 1) u (omega arith) a)

@@ -17,13 +17,17 @@ cons_last : (x : ℕ) → last_line (x ∷ []) ≡ last_line []
 unfolding last_line
 cons_last x = rw (and-false (eqb x 10)) refl
 
-pub line_begins : (bs : List ℕ) (i : ℕ) → i + 1 < length bs → slice_index bs i ≡ 10 → last_line (drop i bs) ≡ last_line (drop (i + 1) bs) + 1
-line_begins bs i h e = let l : 0 < length (drop (i + 1) bs) = simp length-drop (omega arith) in let w : i < length bs = omega arith in rw (front_of bs i w) (cons_begins _ _ e l)
+pub line_begins : (bs : List ℕ) (i : ℕ) → i + 1 < length bs → slice_index bs i ≡ 10
+    → last_line (drop i bs) ≡ last_line (drop (i + 1) bs) + 1
+line_begins bs i h e = let l : 0 < length (drop (i + 1) bs) = simp length-drop (omega arith) in
+    let w : i < length bs = omega arith in rw (front_of bs i w) (cons_begins _ _ e l)
 
-pub line_goes_on : (bs : List ℕ) (i : ℕ) → i < length bs → slice_index bs i ≢ 10 → last_line (drop i bs) ≡ last_line (drop (i + 1) bs)
+pub line_goes_on : (bs : List ℕ) (i : ℕ) → i < length bs → slice_index bs i ≢ 10
+    → last_line (drop i bs) ≡ last_line (drop (i + 1) bs)
 line_goes_on bs i h e = rw (front_of bs i h) (cons_other _ _ e)
 
-pub text_ends : (bs : List ℕ) (i : ℕ) → i < length bs → length bs ≤ i + 1 → last_line (drop i bs) ≡ last_line (drop (i + 1) bs)
+pub text_ends : (bs : List ℕ) (i : ℕ) → i < length bs → length bs ≤ i + 1
+    → last_line (drop i bs) ≡ last_line (drop (i + 1) bs)
 text_ends bs i h e = rw (front_of bs i h, none_left bs (i + 1) e) (cons_last _)
 
 pub none_last : (bs : List ℕ) (i : ℕ) → length bs ≤ i → last_line (drop i bs) ≡ 1

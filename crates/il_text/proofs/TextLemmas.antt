@@ -3,13 +3,14 @@ use Rattle.std.proofs.Common.{◌≡◌, ℕ, ◌+◌, ◌<◌, ◌≤◌, ◌�
 use Rattle.std.specs.List.{count_by}
 use Rattle.std.proofs.lemmas.Bool.{false≢true, ltb-true, ltb-false, leb-true, leb-false}
 use Rattle.std.proofs.lemmas.List.Recursion.{is_count_by}
+use Rattle.bay_base.specs.Results.{◌>>=◌}
 use Rattle.il_text.specs.Forms.{parts_of}
 use Rattle.il_text.specs.Grammar.{Numbered, Derives}
 use Rattle.il_text.specs.Listing.{label, action, PlainProgram}
 use Rattle.il_text.specs.Parts.{Part, heading, opening, declaring, closing, labelling, acting, entering, leaving, ending}
 use Rattle.il_text.specs.Places.{last_line}
-use Rattle.il_text.specs.Reading.{Read, then_on, tokens_of, is_instruction, has_instruction, past_limit, counted, bounded, stepped, after_parts, after_line, whole_at, reading, none_yet, program_of, lines}
-use Rattle.il_text.specs.Steps.{Reached, nothing_read, at_place, with_name, with_item, with_opened, with_declarations, declared_in, left_here, block_scope, is_start, is_between, may_stand, may_act, may_enter, may_leave, step, steps}
+use Rattle.il_text.specs.Reading.{Read, tokens_of, is_instruction, has_instruction, past_limit, counted, bounded, stepped, after_parts, after_line, whole_at, reading, none_yet, program_of, lines}
+use Rattle.il_text.specs.Steps.{Reached, nothing_read, at_place, with_name, with_item, with_opened, with_declarations, declared_in, left_here, block_scope, is_start, is_between_blocks, may_stand, may_act, may_enter, may_leave, step, steps}
 use Rattle.il_text.specs.Symbols.{cut}
 use Rattle.il_text.specs.Texts.{Line, numbered, all_parts, is_entering, is_leaving, IsDeep, Allowed, no_program, too_deep, too_long, Refused, Ends, OnParts, OnTokens, Reads, ReadsAs}
 use Rattle.il_text.specs.Tokens.{Symbol, Piece}
@@ -33,21 +34,28 @@ part_depth : (n : ℕ) (r s : Reached) (p : Part) → step n r p ≡ Some s
     → depth s + cond (is_leaving (n, p)) 1 0 ≡ depth r + cond (is_entering (n, p)) 1 0
 unfolding step
 part_depth n r s (heading name) e =
-    let d = depth_of r s (with_name name r) refl (cond_some (is_start r.place) (with_name name r) s e).1 in omega (arith, d)
+    let d = depth_of r s (with_name name r) refl
+    (cond_some (is_start r.place) (with_name name r) s e).1 in omega (arith, d)
 part_depth n r s (opening scope) e =
-    let d = depth_of r s (at_place (place.Block scope) r) refl (cond_some (is_between r.place) (at_place (place.Block scope) r) s e).1 in omega (arith, d)
+    let d = depth_of r s (at_place (place.Block scope) r) refl
+    (cond_some (is_between_blocks r.place) (at_place (place.Block scope) r) s e).1 in
+    omega (arith, d)
 part_depth n r s (declaring ns kind initial) e =
     let c = declared_some n ns kind initial r s (block_scope r.place) e in
-    let d = depth_of r s (with_declarations (map (declared_in n c.0 kind initial) ns) r) refl c.3 in omega (arith, d)
+    let d = depth_of r s (with_declarations (map (declared_in n c.0 kind initial) ns) r) refl c.3 in
+    omega (arith, d)
 part_depth n r s closing e =
     let c = closed_some r s (block_scope r.place) e in
     let d = depth_of r s (at_place place.Declarations r) refl c.2 in omega (arith, d)
 part_depth n r s (labelling name) e =
-    let d = depth_of r s (with_item (label n name) r) refl (cond_some (may_stand r) (with_item (label n name) r) s e).1 in omega (arith, d)
+    let d = depth_of r s (with_item (label n name) r) refl
+    (cond_some (may_stand r) (with_item (label n name) r) s e).1 in omega (arith, d)
 part_depth n r s (acting a) e =
-    let d = depth_of r s (with_item (action n a) r) refl (cond_some (may_act r a) (with_item (action n a) r) s e).1 in omega (arith, d)
+    let d = depth_of r s (with_item (action n a) r) refl
+    (cond_some (may_act r a) (with_item (action n a) r) s e).1 in omega (arith, d)
 part_depth n r s (entering o g) e =
-    let d : depth (with_opened n o g r) ≡ depth s = ap depth (cond_some (may_enter r) (with_opened n o g r) s e).1 in omega (arith, d)
+    let d : depth (with_opened n o g r) ≡ depth s =
+    ap depth (cond_some (may_enter r) (with_opened n o g r) s e).1 in omega (arith, d)
 part_depth n r s leaving e =
     let c = cond_left (may_leave r) (left_here n r r.parentheses) s e in
     let l = left_some n r s r.parentheses c.1 in
@@ -55,7 +63,8 @@ part_depth n r s leaving e =
     let f : depth r ≡ length (l.0 ∷ l.1) = ap length l.2 in
     omega (arith, d, f)
 part_depth n r s ending e =
-    let d = depth_of r s (at_place place.Finished r) refl (cond_some (may_stand r) (at_place place.Finished r) s e).1 in omega (arith, d)
+    let d = depth_of r s (at_place place.Finished r) refl
+    (cond_some (may_stand r) (at_place place.Finished r) s e).1 in omega (arith, d)
 
 -- how many pass a test
 abbrev tally : {A : Type 0} → (A → Bool) → List A → ℕ
@@ -65,10 +74,14 @@ tally f (x ∷ xs) = cond (f x) (1 + tally f xs) (tally f xs)
 tally_is : {A : Type 0} → (f : A → Bool) (xs : List A) → tally f xs ≡ count_by f xs
 tally_is f xs = is_count_by (tally f) f refl (λ x ys. refl) xs
 
-tally_step : {A : Type 0} → (f : A → Bool) (x : A) (xs : List A) → tally f (x ∷ xs) ≡ cond (f x) 1 0 + tally f xs
-tally_step f x xs = elim (f x) as (λ b. cond b (1 + tally f xs) (tally f xs) ≡ cond b 1 0 + tally f xs) [ true ↦ refl | false ↦ sym (zero-add (tally f xs)) ]
+tally_step : {A : Type 0} → (f : A → Bool) (x : A) (xs : List A)
+    → tally f (x ∷ xs) ≡ cond (f x) 1 0 + tally f xs
+tally_step f x xs =
+    elim (f x) as (λ b. cond b (1 + tally f xs) (tally f xs) ≡ cond b 1 0 + tally f xs)
+    [ true ↦ refl | false ↦ sym (zero-add (tally f xs)) ]
 
-run_tally : (ps : List Numbered) (r s : Reached) → run r ps ≡ Some s → depth s + tally is_leaving ps ≡ depth r + tally is_entering ps
+run_tally : (ps : List Numbered) (r s : Reached) → run r ps ≡ Some s
+    → depth s + tally is_leaving ps ≡ depth r + tally is_entering ps
 run_tally [] r s e = let k : r ≡ s = cc in ap (λ (t : Reached). depth t + 0) (sym k)
 run_tally (p ∷ ps) r s e =
     let c = then_some (step p.0 r p.1) (λ t. run t ps) s e in
@@ -78,21 +91,25 @@ run_tally (p ∷ ps) r s e =
     let b = tally_step is_entering p ps in
     omega (arith, one, more, a, b)
 
-run_depth : (ps : List Numbered) (s : Reached) → run nothing_read ps ≡ Some s → depth s + count_by is_leaving ps ≡ count_by is_entering ps
+run_depth : (ps : List Numbered) (s : Reached) → run nothing_read ps ≡ Some s
+    → depth s + count_by is_leaving ps ≡ count_by is_entering ps
 run_depth ps s e =
     let h = run_tally ps nothing_read s e in
     let a = tally_is is_leaving ps in
     let b = tally_is is_entering ps in
     omega (arith, h, a, b)
 
-deep_so : (ls : List Line) (s : Reached) → run nothing_read (all_parts ls) ≡ Some s → 16 < depth s → IsDeep ls
+deep_so : (ls : List Line) (s : Reached) → run nothing_read (all_parts ls) ≡ Some s → 16 < depth s
+    → IsDeep ls
 deep_so ls s e h = let k = run_depth (all_parts ls) s e in omega (arith, k, h)
 
-shallow_so : (ls : List Line) (s : Reached) → run nothing_read (all_parts ls) ≡ Some s → depth s ≤ 16 → IsDeep ls → ⊥
+shallow_so : (ls : List Line) (s : Reached) → run nothing_read (all_parts ls) ≡ Some s
+    → depth s ≤ 16 → IsDeep ls → ⊥
 shallow_so ls s e h d = let k = run_depth (all_parts ls) s e in omega (arith, k, h, d)
 
 -- a part that is no instruction leaves the parentheses as they are
-quiet_part : (n : ℕ) (p : Part) → is_instruction p ≡ false → (is_leaving (n, p) ≡ false) × (is_entering (n, p) ≡ false)
+quiet_part : (n : ℕ) (p : Part) → is_instruction p ≡ false
+    → (is_leaving (n, p) ≡ false) × (is_entering (n, p) ≡ false)
 quiet_part n (heading name) h = (refl, refl)
 quiet_part n (opening scope) h = (refl, refl)
 quiet_part n (declaring ns kind initial) h = (refl, refl)
@@ -110,7 +127,8 @@ or_neither false b h = (refl, h)
 quiet_sum : (a b : ℕ) (p q : Bool) → p ≡ false → q ≡ false → a + cond p 1 0 ≡ b + cond q 1 0 → a ≡ b
 quiet_sum a b p q e f h = let k : a + 0 ≡ b + 0 = rw (e, f) at h in omega (arith, k)
 
-quiet_depth : (n : ℕ) (ps : List Part) (r s : Reached) → has_instruction ps ≡ false → steps n r ps ≡ Some s → depth s ≡ depth r
+quiet_depth : (n : ℕ) (ps : List Part) (r s : Reached) → has_instruction ps ≡ false
+    → steps n r ps ≡ Some s → depth s ≡ depth r
 unfolding steps
 quiet_depth n [] r s h e = let k : r ≡ s = cc in ap depth (sym k)
 quiet_depth n (p ∷ ps) r s h e =
@@ -124,10 +142,13 @@ quiet_depth n (p ∷ ps) r s h e =
 steps_run : (n : ℕ) (ps : List Part) (r : Reached) → run r (numbered (n, ps)) ≡ steps n r ps
 unfolding steps
 steps_run n [] r = refl
-steps_run n (p ∷ ps) r = and_then_same (step n r p) (λ s. run s (numbered (n, ps))) (λ s. steps n s ps) (λ s. unfold steps in steps_run n ps s)
+steps_run n (p ∷ ps) r =
+    and_then_same (step n r p) (λ s. run s (numbered (n, ps))) (λ s. steps n s ps)
+    (λ s. unfold steps in steps_run n ps s)
 
 -- the lines with one more
-line_run : (before : List Line) (n : ℕ) (ps : List Part) (r : Reached) → run nothing_read (all_parts before) ≡ Some r
+line_run : (before : List Line) (n : ℕ) (ps : List Part) (r : Reached)
+    → run nothing_read (all_parts before) ≡ Some r
     → run nothing_read (all_parts (before ++ (n, ps) ∷ [])) ≡ steps n r ps
 line_run before n ps r e =
     ap (run nothing_read) (flat_one numbered before (n, ps))
@@ -139,7 +160,8 @@ line_run before n ps r e =
 abbrev holds : Line → Bool
 holds l = has_instruction l.1
 
-tally_more : (before : List Line) (l : Line) → tally holds (before ++ l ∷ []) ≡ tally holds before + cond (holds l) 1 0
+tally_more : (before : List Line) (l : Line)
+    → tally holds (before ++ l ∷ []) ≡ tally holds before + cond (holds l) 1 0
 tally_more [] l = tally_step holds l [] ∙ omega arith
 tally_more (k ∷ before) l =
     let a = tally_step holds k (before ++ l ∷ []) in
@@ -147,8 +169,11 @@ tally_more (k ∷ before) l =
     let m = tally_more before l in
     omega (arith, a, b, m)
 
-count_more : (before : List Line) (l : Line) → count_by holds (before ++ l ∷ []) ≡ count_by holds before + cond (holds l) 1 0
-count_more before l = sym (tally_is holds (before ++ l ∷ [])) ∙ tally_more before l ∙ ap (λ (n : ℕ). n + cond (holds l) 1 0) (tally_is holds before)
+count_more : (before : List Line) (l : Line)
+    → count_by holds (before ++ l ∷ []) ≡ count_by holds before + cond (holds l) 1 0
+count_more before l =
+    sym (tally_is holds (before ++ l ∷ [])) ∙ tally_more before l
+    ∙ ap (λ (n : ℕ). n + cond (holds l) 1 0) (tally_is holds before)
 
 -- what is known after allowed lines
 record After (before : List Line) (r : Read) : Type 0 where
@@ -164,25 +189,32 @@ is_finished other = false
 some_same : (s t : Reached) → Some s ≡ Some t → s ≡ t
 some_same s t e = cc
 
-not_finished : (before : List Line) (s : Reached) (p : Stage) → p ≡ s.place → is_finished p ≡ false → run nothing_read (all_parts before) ≡ Some s
+not_finished : (before : List Line) (s : Reached) (p : Stage) → p ≡ s.place → is_finished p ≡ false
+    → run nothing_read (all_parts before) ≡ Some s
     → (program : PlainProgram) → Derives (all_parts before) program → ⊥
 not_finished before s p e f h program d =
     let k = derived_runs (all_parts before) program d in
-    let same : s ≡ state place.Finished program.name program.declarations program.items [] = some_same _ _ (sym h ∙ k) in
+    let same : s ≡ state place.Finished program.name program.declarations program.items [] =
+    some_same _ _ (sym h ∙ k) in
     let q : p ≡ place.Finished = e ∙ ap (λ (t : Reached). t.place) same in
     false≢true (sym f ∙ ap is_finished q)
 
-ends_so : (last : ℕ) (before : List Line) (s : Reached) (p : Stage) → p ≡ s.place → run nothing_read (all_parts before) ≡ Some s → Ends last before (whole_at last s p)
+ends_so : (last : ℕ) (before : List Line) (s : Reached) (p : Stage) → p ≡ s.place
+    → run nothing_read (all_parts before) ≡ Some s → Ends last before (whole_at last s p)
 ends_so last before s place.Start e h = (not_finished before s place.Start e refl h, refl)
-ends_so last before s place.Declarations e h = (not_finished before s place.Declarations e refl h, refl)
-ends_so last before s (place.Block scope) e h = (not_finished before s (place.Block scope) e refl h, refl)
+ends_so last before s place.Declarations e h =
+    (not_finished before s place.Declarations e refl h, refl)
+ends_so last before s (place.Block scope) e h =
+    (not_finished before s (place.Block scope) e refl h, refl)
 ends_so last before s place.Body e h = (not_finished before s place.Body e refl h, refl)
 ends_so last before s place.Finished e h = ended_derives (all_parts before) s h (sym e)
 
 -- what a line's parts make, and what the lines behind it read as
-abbrev Going : ℕ → List Line → ℕ → List (List Piece) → Result PlainProgram TextFault → List Part → Type 0
+abbrev Going : ℕ → List Line → ℕ → List (List Piece) → Result PlainProgram TextFault → List Part
+    → Type 0
 Going last before n ls x ps =
-    (Allowed (before ++ (n, ps) ∷ []) × Reads last (before ++ (n, ps) ∷ []) (n + 1) ls x) ⊎ Refused last n (before ++ (n, ps) ∷ []) x
+    (Allowed (before ++ (n, ps) ∷ []) × Reads last (before ++ (n, ps) ∷ []) (n + 1) ls x)
+    ⊎ Refused last n (before ++ (n, ps) ∷ []) x
 
 abbrev rest : ℕ → ℕ → List (List Piece) → Read → Result PlainProgram TextFault
 rest last n ls s = reading last s (n + 1) ls
@@ -191,21 +223,32 @@ rest last n ls s = reading last s (n + 1) ls
 abbrev More : ℕ → ℕ → List (List Piece) → Type 0
 More last n ls = (b : List Line) (s : Read) → After b s → Reads last b (n + 1) ls (rest last n ls s)
 
-goes_quiet : (last n instr : ℕ) (before : List Line) (ls : List (List Piece)) (ps : List Part) (s : Reached) → More last n ls
-    → run nothing_read (all_parts (before ++ (n, ps) ∷ [])) ≡ Some s → has_instruction ps ≡ false → instr ≡ count_by holds before → instr ≤ 4000 → depth s ≤ 16
+goes_quiet : (last n instr : ℕ) (before : List Line) (ls : List (List Piece)) (ps : List Part)
+    (s : Reached) → More last n ls
+    → run nothing_read (all_parts (before ++ (n, ps) ∷ [])) ≡ Some s → has_instruction ps ≡ false
+    → instr ≡ count_by holds before → instr ≤ 4000 → depth s ≤ 16
     → Going last before n ls (rest last n ls (record { reached = s; instructions = instr })) ps
 goes_quiet last n instr before ls ps s f h q c k d =
     let m = count_more before (n, ps) in
     let z : ◌≡◌ {A = ℕ} (cond (has_instruction ps) 1 0) 0 = rw q refl in
     let t : instr ≡ count_by holds (before ++ (n, ps) ∷ []) = omega (arith, m, z, c) in
     inl (
-      record { goes_on = goes_on _ s h; shallow = shallow_so (before ++ (n, ps) ∷ []) s h d; short = λ long. absurd (omega (arith, t, k, long)) },
-      f (before ++ (n, ps) ∷ []) (record { reached = s; instructions = instr }) (record { runs = h; count = t; short = k; shallow = d }),
+      record {
+        goes_on = goes_on _ s h;
+        shallow = shallow_so (before ++ (n, ps) ∷ []) s h d;
+        short = λ long. absurd (omega (arith, t, k, long));
+      },
+      f (before ++ (n, ps) ∷ []) (record { reached = s; instructions = instr })
+          (record { runs = h; count = t; short = k; shallow = d }),
     )
 
-counts_so : (last n instr : ℕ) (before : List Line) (ls : List (List Piece)) (ps : List Part) (s : Reached) (b : Bool) → More last n ls
-    → run nothing_read (all_parts (before ++ (n, ps) ∷ [])) ≡ Some s → has_instruction ps ≡ true → instr ≡ count_by holds before → ltb instr 4000 ≡ b → depth s ≤ 16
-    → Going last before n ls (then_on (cond b (Ok (record { reached = s; instructions = instr + 1 })) (Err (past_limit n last (TooLong n)))) (rest last n ls)) ps
+counts_so : (last n instr : ℕ) (before : List Line) (ls : List (List Piece)) (ps : List Part)
+    (s : Reached) (b : Bool) → More last n ls
+    → run nothing_read (all_parts (before ++ (n, ps) ∷ [])) ≡ Some s → has_instruction ps ≡ true
+    → instr ≡ count_by holds before → ltb instr 4000 ≡ b → depth s ≤ 16
+    → Going last before n ls
+    (cond b (Ok (record { reached = s; instructions = instr + 1 }))
+    (Err (past_limit n last (TooLong n))) >>= rest last n ls) ps
 counts_so last n instr before ls ps s true f h q c t d =
     let m = count_more before (n, ps) in
     let z : ◌≡◌ {A = ℕ} (cond (has_instruction ps) 1 0) 1 = rw q refl in
@@ -213,57 +256,87 @@ counts_so last n instr before ls ps s true f h q c t d =
     let k : instr < 4000 = ltb-true _ _ t in
     let fits : instr + 1 ≤ 4000 = omega (arith, k) in
     inl (
-      record { goes_on = goes_on _ s h; shallow = shallow_so (before ++ (n, ps) ∷ []) s h d; short = λ long. absurd (omega (arith, u, fits, long)) },
-      f (before ++ (n, ps) ∷ []) (record { reached = s; instructions = instr + 1 }) (record { runs = h; count = u; short = fits; shallow = d }),
+      record {
+        goes_on = goes_on _ s h;
+        shallow = shallow_so (before ++ (n, ps) ∷ []) s h d;
+        short = λ long. absurd (omega (arith, u, fits, long));
+      },
+      f (before ++ (n, ps) ∷ []) (record { reached = s; instructions = instr + 1 })
+          (record { runs = h; count = u; short = fits; shallow = d }),
     )
 counts_so last n instr before ls ps s false f h q c t d =
     let m = count_more before (n, ps) in
     let z : ◌≡◌ {A = ℕ} (cond (has_instruction ps) 1 0) 1 = rw q refl in
     let k : 4000 ≤ instr = ltb-false _ _ t in
-    inr (too_long (goes_on _ s h) (shallow_so (before ++ (n, ps) ∷ []) s h d) (omega (arith, m, z, c, k)) refl)
+    inr (too_long (goes_on _ s h) (shallow_so (before ++ (n, ps) ∷ []) s h d)
+    (omega (arith, m, z, c, k)) refl)
 
-bounded_so : (last n instr : ℕ) (before : List Line) (ls : List (List Piece)) (ps : List Part) (s : Reached) (b : Bool) → More last n ls
-    → run nothing_read (all_parts (before ++ (n, ps) ∷ [])) ≡ Some s → has_instruction ps ≡ true → instr ≡ count_by holds before → leb (depth s) 16 ≡ b
-    → Going last before n ls (then_on (cond b (counted n last instr s) (Err (past_limit n last (TooDeep n)))) (rest last n ls)) ps
-bounded_so last n instr before ls ps s true f h q c t = counts_so last n instr before ls ps s (ltb instr 4000) f h q c refl (leb-true _ _ t)
+bounded_so : (last n instr : ℕ) (before : List Line) (ls : List (List Piece)) (ps : List Part)
+    (s : Reached) (b : Bool) → More last n ls
+    → run nothing_read (all_parts (before ++ (n, ps) ∷ [])) ≡ Some s → has_instruction ps ≡ true
+    → instr ≡ count_by holds before → leb (depth s) 16 ≡ b
+    → Going last before n ls
+    (cond b (counted n last instr s) (Err (past_limit n last (TooDeep n))) >>= rest last n ls)
+    ps
+bounded_so last n instr before ls ps s true f h q c t =
+    counts_so last n instr before ls ps s (ltb instr 4000) f h q c refl (leb-true _ _ t)
 bounded_so last n instr before ls ps s false f h q c t =
     let k : 16 < depth s = leb-false _ _ t in
     inr (too_deep (goes_on _ s h) (deep_so (before ++ (n, ps) ∷ []) s h k) refl)
 
-limited_so : (last n : ℕ) (before : List Line) (r : Read) (ls : List (List Piece)) (ps : List Part) (s : Reached) (b : Bool) → More last n ls → After before r
-    → run nothing_read (all_parts (before ++ (n, ps) ∷ [])) ≡ Some s → steps n r.reached ps ≡ Some s → has_instruction ps ≡ b
-    → Going last before n ls (then_on (cond b (bounded n last r.instructions s) (Ok (record { reached = s; instructions = r.instructions }))) (rest last n ls)) ps
+limited_so : (last n : ℕ) (before : List Line) (r : Read) (ls : List (List Piece)) (ps : List Part)
+    (s : Reached) (b : Bool) → More last n ls → After before r
+    → run nothing_read (all_parts (before ++ (n, ps) ∷ [])) ≡ Some s → steps n r.reached ps ≡ Some s
+    → has_instruction ps ≡ b
+    → Going last before n ls
+    (cond b (bounded n last r.instructions s)
+    (Ok (record { reached = s; instructions = r.instructions })) >>= rest last n ls) ps
 unfolding bounded
-limited_so last n before r ls ps s true f a h e q = bounded_so last n r.instructions before ls ps s (leb (depth s) 16) f h q a.count refl
+limited_so last n before r ls ps s true f a h e q =
+    bounded_so last n r.instructions before ls ps s (leb (depth s) 16) f h q a.count refl
 limited_so last n before r ls ps s false f a h e q =
     let d = quiet_depth n ps r.reached s q e in
-    goes_quiet last n r.instructions before ls ps s f h q a.count a.short (omega (arith, d, a.shallow))
+    goes_quiet last n r.instructions before ls ps s f h q a.count a.short
+    (omega (arith, d, a.shallow))
 
-stepped_so : (last n : ℕ) (before : List Line) (r : Read) (ls : List (List Piece)) (ps : List Part) (o : Option Reached) → More last n ls → After before r
-    → steps n r.reached ps ≡ o → Going last before n ls (then_on (stepped n last r.instructions ps o) (rest last n ls)) ps
+stepped_so : (last n : ℕ) (before : List Line) (r : Read) (ls : List (List Piece)) (ps : List Part)
+    (o : Option Reached) → More last n ls → After before r
+    → steps n r.reached ps ≡ o
+    → Going last before n ls (stepped n last r.instructions ps o >>= rest last n ls) ps
 stepped_so last n before r ls ps None f a e =
-    inr (no_program (stops (all_parts (before ++ (n, ps) ∷ [])) (line_run before n ps r.reached a.runs ∙ e)) refl)
+    inr (no_program (stops (all_parts (before ++ (n, ps) ∷ []))
+    (line_run before n ps r.reached a.runs ∙ e)) refl)
 stepped_so last n before r ls ps (Some s) f a e =
-    limited_so last n before r ls ps s (has_instruction ps) f a (line_run before n ps r.reached a.runs ∙ e) e refl
+    limited_so last n before r ls ps s (has_instruction ps) f a
+    (line_run before n ps r.reached a.runs ∙ e) e refl
 
-parts_so : (last n : ℕ) (before : List Line) (r : Read) (ls : List (List Piece)) (o : Option (List Part)) → More last n ls → After before r
-    → OnParts n (Going last before n ls (then_on (after_parts n last r o) (rest last n ls))) o (then_on (after_parts n last r o) (rest last n ls))
+parts_so : (last n : ℕ) (before : List Line) (r : Read) (ls : List (List Piece))
+    (o : Option (List Part)) → More last n ls → After before r
+    → OnParts n (Going last before n ls (after_parts n last r o >>= rest last n ls)) o
+    (after_parts n last r o >>= rest last n ls)
 parts_so last n before r ls None f a = refl
-parts_so last n before r ls (Some ps) f a = stepped_so last n before r ls ps (steps n r.reached ps) f a refl
+parts_so last n before r ls (Some ps) f a =
+    stepped_so last n before r ls ps (steps n r.reached ps) f a refl
 
-tokens_so : (last n : ℕ) (before : List Line) (r : Read) (ls : List (List Piece)) (t : Result (List Symbol) TextFault) → More last n ls → After before r
-    → OnTokens n (Going last before n ls (then_on t (λ ts. then_on (after_line n last r ts) (rest last n ls)))) t (then_on t (λ ts. then_on (after_line n last r ts) (rest last n ls)))
+tokens_so : (last n : ℕ) (before : List Line) (r : Read) (ls : List (List Piece))
+    (t : Result (List Symbol) TextFault) → More last n ls → After before r
+    → OnTokens n (Going last before n ls (t >>= (λ ts. after_line n last r ts >>= rest last n ls)))
+    t (t >>= (λ ts. after_line n last r ts >>= rest last n ls))
 unfolding after_line
 tokens_so last n before r ls (Err e) f a = refl
 tokens_so last n before r ls (Ok ts) f a = parts_so last n before r ls (parts_of ts) f a
 
-reads_so : (last : ℕ) (before : List Line) (r : Read) (n : ℕ) (ls : List (List Piece)) → After before r → Reads last before n ls (reading last r n ls)
+reads_so : (last : ℕ) (before : List Line) (r : Read) (n : ℕ) (ls : List (List Piece))
+    → After before r → Reads last before n ls (reading last r n ls)
 unfolding reading
 reads_so last before r n [] a = ends_so last before r.reached r.reached.place refl a.runs
-reads_so last before r n (l ∷ ls) a = tokens_so last n before r ls (tokens_of n l) (λ b s k. unfold reading in reads_so last b s (n + 1) ls k) a
+reads_so last before r n (l ∷ ls) a =
+    tokens_so last n before r ls (tokens_of n l)
+    (λ b s k. unfold reading in reads_so last b s (n + 1) ls k) a
 
 -- the program that is found, or the fault, is what the text reads as
 pub text_reads : (text : List ℕ) → ReadsAs text (program_of text)
 unfolding program_of ReadsAs
 text_reads text =
-    reads_so (last_line text) [] none_yet 1 (lines (cut false text)) (record { runs = refl; count = refl; short = omega arith; shallow = omega arith })
+    reads_so (last_line text) [] none_yet 1 (lines (cut false text))
+    (record { runs = refl; count = refl; short = omega arith; shallow = omega arith })

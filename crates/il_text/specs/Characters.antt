@@ -7,6 +7,7 @@ use Rattle.std.specs.Str.{byte}
 abbrev pub is_blank : ℕ → Bool
 is_blank x = x == byte " " || x == 9
 
+-- the sign of a number
 abbrev pub is_sign : ℕ → Bool
 is_sign x = x == byte "+" || x == byte "-"
 
@@ -22,8 +23,8 @@ begins_word x = is_word x || is_sign x
 abbrev pub begins_name : ℕ → Bool
 begins_name x = is_ascii_alphabetic x || x == byte "_"
 
--- Whether x and y, which directly follow one another, belong to one token: within a word, at the sign
--- of a number, within `:=`, and within a line end.
+-- Whether x and y, which directly follow one another, belong to one token: within a word, at the
+-- sign of a number, within `:=`, and within a line end.
 unfoldable pub linked : ℕ → ℕ → Bool
 linked x y =
     ((is_word y || (is_sign y && x == byte "#")) && is_word x)

@@ -3,6 +3,7 @@ use Rattle.std.specs.Prelude.{ℕ, Option, Some, None}
 use Rattle.il_text.specs.declared.fault.TextFault.{TextFault}
 use Rattle.il_text.specs.declared.fault.TextFault.TheVariants.{BadToken, BadLine, TooDeep, BadLiteral, TooLong, OutOfMemory}
 
+-- the fault's number; want of memory has none
 abbrev pub code_of : TextFault → Option ℕ
 code_of (BadToken line) = Some 60
 code_of (BadLine line) = Some 61
@@ -11,6 +12,7 @@ code_of (BadLiteral line) = Some 63
 code_of (TooLong line) = Some 64
 code_of OutOfMemory = None
 
+-- the line of the fault, or 0 for want of memory
 abbrev pub line_of : TextFault → ℕ
 line_of (BadToken line) = line
 line_of (BadLine line) = line

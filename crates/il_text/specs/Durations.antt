@@ -3,6 +3,7 @@ use Rattle.std.specs.Prelude.{ℕ, ◌^◌, Option, option_map, min}
 use Rattle.il_text.specs.Literals.{Duration}
 use Rattle.il_text.specs.declared.literal.Duration as code
 
+-- what is left of a duration in the code
 abbrev pub seen : code.Duration → Duration
 seen d = record { rest = d.rest.now; total = d.total; begun = d.begun }
 
@@ -10,8 +11,10 @@ seen d = record { rest = d.rest.now; total = d.total; begun = d.begun }
 abbrev pub capped_one : Duration → Duration
 capped_one d = record { rest = d.rest; total = min d.total (2 ^ 32); begun = d.begun }
 
+-- the same for a duration that may have failed
 abbrev pub capped_duration : Option Duration → Option Duration
 capped_duration = option_map capped_one
 
+-- and for its milliseconds
 abbrev pub capped_time : Option ℕ → Option ℕ
 capped_time = option_map (λ n. min n (2 ^ 32))

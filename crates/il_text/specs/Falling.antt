@@ -1,10 +1,11 @@
--- A duration in the terms of its grammar: numbers with units, one behind the other, the units falling
--- (IEC 61131-3:2003, 2.2.3.1 and annex B.1.2.3.1).
+-- A duration in the terms of its grammar: numbers with units, one behind the other, the units
+-- falling (IEC 61131-3:2003, 2.2.3.1 and annex B.1.2.3.1).
 use Rattle.std.specs.Prelude.{◌≡◌, ◌<◌, ⊤, ℕ, ◌*◌, Bool, true, false, List, [], ◌∷◌, ◌++◌, codes, Some}
 use Rattle.std.specs.List.{flat_map, sum_by}
 use Rattle.bay_base.specs.Names.{same_name}
 use Rattle.il_text.specs.Literals.{number_of_part, milliseconds}
 
+-- the units of a duration, the greatest first
 pub data Unit : Type 0 where
   days : Unit
   hours : Unit
@@ -35,13 +36,16 @@ pub record Part : Type 0 where
   pub count : ℕ
   pub unit : Unit
 
+-- the octets of a part
 abbrev pub spelling : Part → List ℕ
 spelling p = p.digits ++ p.name
 
+-- the milliseconds of a part
 abbrev pub value : Part → ℕ
 value p = p.count * size p.unit
 
--- The octets of this part are its number and its unit; behind another part, an `_` may stand before the number.
+-- The octets of this part are its number and its unit; behind another part, an `_` may stand before
+-- the number.
 pub record IsPart (behind : Bool) (p : Part) : Type 0 where
   pub counted : number_of_part behind p.digits ≡ Some p.count
   pub named : same_name p.name (letters p.unit) ≡ true
@@ -51,8 +55,8 @@ abbrev pub Fall : ℕ → List Part → Type 0
 Fall above [] = ⊤
 Fall above (p ∷ ps) = IsPart true p × (size p.unit < above) × Fall (size p.unit) ps
 
--- These octets are a duration of so many milliseconds: at least one part, the units falling, spelled one behind the
--- other; the milliseconds are their sum.
+-- These octets are a duration of so many milliseconds: at least one part, the units falling,
+-- spelled one behind the other; the milliseconds are their sum.
 pub record IsDuration (octets : List ℕ) (ms : ℕ) : Type 0 where
   pub first : Part
   pub more : List Part
@@ -64,4 +68,5 @@ pub record IsDuration (octets : List ℕ) (ms : ℕ) : Type 0 where
 -- These octets have so many milliseconds exactly where they are a duration of as many.
 abbrev pub DurationsFall : Type 0
 DurationsFall = (octets : List ℕ) (ms : ℕ)
-    → (milliseconds octets ≡ Some ms → IsDuration octets ms) × (IsDuration octets ms → milliseconds octets ≡ Some ms)
+    → (milliseconds octets ≡ Some ms → IsDuration octets ms)
+    × (IsDuration octets ms → milliseconds octets ≡ Some ms)

@@ -14,14 +14,17 @@ use Rattle.il_text.specs.declared.form.Statement.TheVariants.{Plain, Open}
 use Rattle.il_text.specs.declared.program.Operand.{Operand}
 use Rattle.il_text.specs.declared.program.Operator.{Operator}
 
+-- an operator with `(`, and the load of the operand behind it
 abbrev pub opened_parts : Operator → Bool → Option Operand → List Part
 opened_parts o n None = entering o n ∷ []
 opened_parts o n (Some x) = entering o n ∷ acting (load false (source_of x)) ∷ []
 
+-- the parts of an instruction or of an operator with `(`
 abbrev pub statement_parts : Statement → List Part
 statement_parts (Plain instruction) = acting (action_of instruction) ∷ []
 statement_parts (Open operator negated operand) = opened_parts operator negated operand
 
+-- the parts of the code's line; a declaration has none where its names are no list
 abbrev pub line_parts : Line → Option (List Part)
 line_parts (line.Heading name) = Some (heading name.now ∷ [])
 line_parts (line.Opening scope) = Some (opening scope ∷ [])
@@ -33,5 +36,6 @@ line_parts (line.Statement statement) = Some (statement_parts statement)
 line_parts line.Leaving = Some (leaving ∷ [])
 line_parts line.Ending = Some (ending ∷ [])
 
+-- the tokens before and after the one that parts them
 abbrev pub halves_of : Halves → List Symbol × List Symbol
 halves_of h = (symbols_of h.front.now, symbols_of h.rest.now)

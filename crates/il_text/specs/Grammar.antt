@@ -1,4 +1,5 @@
--- The grammar of a program, over the parts of its lines (IEC 61131-3:2003, 2.5.3 and annexes B.1.4.3, B.1.5.3 and B.2).
+-- The grammar of a program, over the parts of its lines (IEC 61131-3:2003, 2.5.3 and annexes
+-- B.1.4.3, B.1.5.3 and B.2).
 use Rattle.std.specs.Prelude.{◌≡◌, ℕ, Bool, true, false, ◌&&◌, nat_le, List, [], ◌∷◌, ◌++◌, map, Option}
 use Rattle.std.specs.Option.{is_none}
 use Rattle.std.specs.List.{flat_map, list_all}
@@ -27,17 +28,27 @@ pub record Block : Type 0 where
   pub declarations : List Declaration
   pub end : ℕ
 
+-- a declaration as a part of its line
 abbrev pub declaration_part : Declaration → Numbered
 declaration_part d = (d.line, declaring d.names d.kind d.initial)
 
+-- the parts of a block: both its words, and the declarations between them
 abbrev pub block_parts : Block → List Numbered
-block_parts b = (b.line, opening b.scope) ∷ (map declaration_part b.declarations ++ (b.end, closing) ∷ [])
+block_parts b =
+    (b.line, opening b.scope) ∷ (map declaration_part b.declarations ++ (b.end, closing) ∷ [])
 
 -- the names that a declaration in a block declares, one by one
 abbrev pub names_declared : Scope → Declaration → List Declared
 names_declared scope d =
-    map (λ name. record { line = d.line; scope = scope; name = name; kind = d.kind; initial = d.initial }) d.names
+    map (λ name. record {
+      line = d.line;
+      scope = scope;
+      name = name;
+      kind = d.kind;
+      initial = d.initial;
+    }) d.names
 
+-- the names that a block declares
 abbrev pub block_declared : Block → List Declared
 block_declared b = flat_map (names_declared b.scope) b.declarations
 
@@ -46,6 +57,7 @@ abbrev pub may_declare : Scope → Declaration → Bool
 may_declare Local d = true
 may_declare External d = is_none d.initial
 
+-- each declaration of the block may stand in it
 abbrev pub is_allowed : Block → Bool
 is_allowed b = list_all (may_declare b.scope) b.declarations
 
@@ -122,6 +134,7 @@ pub record CanGoOn (ps : List Numbered) : Type 0 where
 abbrev pub OneProgram : Type 0
 OneProgram = (ps : List Numbered) (p q : PlainProgram) → Derives ps p → Derives ps q → p ≡ q
 
+-- the number of a part's line
 abbrev pub line_of : Numbered → ℕ
 line_of p = p.0
 
@@ -130,6 +143,7 @@ abbrev pub rises : ℕ → List ℕ → Bool
 rises k [] = true
 rises k (x ∷ xs) = nat_le k x && rises x xs
 
--- the lines of entries, from the first to the last: of a parenthesis that of its operator, those in it, and that of its `)`
+-- the lines of entries, from the first to the last: of a parenthesis that of its operator, those in
+-- it, and that of its `)`
 abbrev pub item_lines : List Entry → List ℕ
 item_lines es = map line_of (flat_map entry_parts es)

@@ -1,8 +1,8 @@
 -- The plain data that declarations and items of the code stand for.
 use Rattle.std.specs.Prelude.{List, [], ◌∷◌}
 use Rattle.il_text.specs.Listing.{Place, named, output, Source, constant, variable, Action, load, store, combine, invert, convert, jump, leave, call, Entry, label, action, block, entries_of, Declared}
-use Rattle.il_text.specs.declared.program.Variable.{Variable}
-use Rattle.il_text.specs.declared.program.Variable.TheVariants as v
+use Rattle.il_text.specs.declared.program.SymbolicVariable.{SymbolicVariable}
+use Rattle.il_text.specs.declared.program.SymbolicVariable.TheVariants as v
 use Rattle.il_text.specs.declared.program.Operand.{Operand}
 use Rattle.il_text.specs.declared.program.Operand.TheVariants as o
 use Rattle.il_text.specs.declared.program.Input.{Input}
@@ -15,22 +15,27 @@ use Rattle.il_text.specs.declared.program.Item.{Item, fold-Item}
 use Rattle.il_text.specs.declared.program.Item.TheOpen.{Item-F}
 use Rattle.il_text.specs.declared.program.Declaration.{Declaration}
 
-abbrev pub place_of : Variable → Place
+-- a name, or an output of a timer
+abbrev pub place_of : SymbolicVariable → Place
 place_of (v.Name name) = named name.now
 place_of (v.Output timer gives) = output timer.now gives
 
+-- what an instruction reads
 abbrev pub source_of : Operand → Source
 source_of (o.Literal value) = constant value
 source_of (o.Variable place) = variable (place_of place)
 
+-- an input of a timer, and what it is given
 abbrev pub argument_of : Argument → Input × Source
 argument_of given = (given.input, source_of given.operand)
 
+-- the arguments of a call in the order of the text
 abbrev pub arguments_of : Arguments → List (Input × Source)
 arguments_of a.None = []
 arguments_of (a.One first) = argument_of first ∷ []
 arguments_of (a.Two first second) = argument_of first ∷ argument_of second ∷ []
 
+-- an instruction
 abbrev pub action_of : Instruction → Action
 action_of (i.Load negated operand) = load negated (source_of operand)
 action_of (i.Store kind target) = store kind (place_of target)
@@ -45,10 +50,14 @@ action_of (i.Call timer arguments) = call timer.now (arguments_of arguments)
 abbrev pub entry_step : Item-F Entry → Entry
 entry_step (Item-F.Label line name) = label line name.now
 entry_step (Item-F.Instruction line instruction) = action line (action_of instruction)
-entry_step (Item-F.Block line operator negated items end) = block line operator negated (entries_of items.items) end
+entry_step (Item-F.Block line operator negated items end) =
+    block line operator negated (entries_of items.items) end
 
+-- an item with all that it holds
 abbrev pub entry_of : Item → Entry
 entry_of = fold-Item Entry entry_step
 
+-- a declared name
 abbrev pub declared_of : Declaration → Declared
-declared_of d = record { line = d.line; scope = d.scope; name = d.name.now; kind = d.kind; initial = d.initial }
+declared_of d =
+    record { line = d.line; scope = d.scope; name = d.name.now; kind = d.kind; initial = d.initial }

@@ -6,17 +6,21 @@ use Rattle.il_text.specs.Texts.{ReadsAs}
 use Rattle.il_text.specs.declared.fault.TextFault.{TextFault}
 use Rattle.il_text.specs.declared.program.Input.{Input}
 
+-- a name, or an output of a timer, in upper case
 abbrev pub upper_place : Place → Place
 upper_place (named n) = named (upper n)
 upper_place (output timer gives) = output (upper timer) gives
 
+-- what is read, with its names in upper case
 abbrev pub upper_source : Source → Source
 upper_source (constant value) = constant value
 upper_source (variable place) = variable (upper_place place)
 
+-- an argument with its names in upper case
 abbrev pub upper_argument : (Input × Source) → (Input × Source)
 upper_argument a = (a.0, upper_source a.1)
 
+-- an instruction with its names in upper case
 abbrev pub upper_action : Action → Action
 upper_action (load negated source) = load negated (upper_source source)
 upper_action (store kind place) = store kind (upper_place place)
@@ -31,23 +35,40 @@ abbrev mutual
   pub upper_entry : Entry → Entry
   upper_entry (label line name) = label line (upper name)
   upper_entry (action line a) = action line (upper_action a)
-  upper_entry (block line operator negated es end) = block line operator negated (upper_entries es) end
+  upper_entry (block line operator negated es end) =
+      block line operator negated (upper_entries es) end
 
   pub upper_entries : Entries → Entries
   upper_entries no_entries = no_entries
   upper_entries (entry e es) = entry (upper_entry e) (upper_entries es)
 
+-- a declared name in upper case
 abbrev pub upper_declared : Declared → Declared
-upper_declared d = record { line = d.line; scope = d.scope; name = upper d.name; kind = d.kind; initial = d.initial }
+upper_declared d =
+    record {
+      line = d.line;
+      scope = d.scope;
+      name = upper d.name;
+      kind = d.kind;
+      initial = d.initial;
+    }
 
+-- a program with its names in upper case
 abbrev pub upper_listing : PlainProgram → PlainProgram
-upper_listing l = record { name = upper l.name; declarations = map upper_declared l.declarations; items = map upper_entry l.items }
+upper_listing l =
+    record {
+      name = upper l.name;
+      declarations = map upper_declared l.declarations;
+      items = map upper_entry l.items;
+    }
 
+-- the same of a text's program; a fault stays as it is
 abbrev pub upper_program : Result PlainProgram TextFault → Result PlainProgram TextFault
 upper_program (Ok l) = Ok (upper_listing l)
 upper_program (Err e) = Err e
 
--- What a text reads as, its upper case reads as with the names in upper case; its fault is the same. So letters may be
--- spelled in either case.
+-- What a text reads as, its upper case reads as with the names in upper case; its fault is the
+-- same. So letters may be spelled in either case.
 abbrev pub LettersMayBeRespelled : Type 0
-LettersMayBeRespelled = (text : List ℕ) (read : Result PlainProgram TextFault) → ReadsAs text read → ReadsAs (upper text) (upper_program read)
+LettersMayBeRespelled = (text : List ℕ) (read : Result PlainProgram TextFault) → ReadsAs text read
+    → ReadsAs (upper text) (upper_program read)

@@ -20,8 +20,9 @@ pub data Source : Type 0 where
   constant : Literal → Source
   variable : Place → Source
 
--- An instruction: LD, or LDN where the truth value says so; a store of some kind; an operator with its operand, negated
--- where the truth value says so; NOT; a conversion; a jump to a label; a return; a call of a timer with its arguments.
+-- An instruction: LD, or LDN where the truth value says so; a store of some kind; an operator with
+-- its operand, negated where the truth value says so; NOT; a conversion; a jump to a label; a
+-- return; a call of a timer with its arguments.
 pub data Action : Type 0 where
   load : Bool → Source → Action
   store : StoreKind → Place → Action
@@ -33,8 +34,8 @@ pub data Action : Type 0 where
   call : List ℕ → List (Input × Source) → Action
 
 mutual
-  -- a label with its line; an instruction with its line; an operator, and whether it is negated, with the entries in its
-  -- parenthesis and the lines of both ends
+  -- a label with its line; an instruction with its line; an operator, and whether it is negated,
+  -- with the entries in its parenthesis and the lines of both ends
   pub data Entry : Type 0 where
     label : ℕ → List ℕ → Entry
     action : ℕ → Action → Entry
@@ -44,10 +45,12 @@ mutual
     no_entries : Entries
     entry : Entry → Entries → Entries
 
+-- entries as those of a parenthesis
 abbrev pub entries_of : List Entry → Entries
 entries_of [] = no_entries
 entries_of (e ∷ es) = entry e (entries_of es)
 
+-- one declared name, with its line, its type and the initial value that the text gives
 pub record Declared : Type 0 where
   pub line : ℕ
   pub scope : Scope
@@ -55,6 +58,7 @@ pub record Declared : Type 0 where
   pub kind : DeclaredType
   pub initial : Option Literal
 
+-- a program: its name, what it declares, and its entries in the order of the text
 pub record PlainProgram : Type 0 where
   pub name : List ℕ
   pub declarations : List Declared

@@ -6,9 +6,17 @@ use Rattle.il_text.specs.Views.{declared_of, entry_of}
 use Rattle.il_text.specs.declared.listing.Draft as code
 use Rattle.il_text.specs.declared.listing.Open.{Open}
 
+-- an open parenthesis
 abbrev pub opened_of : Open → Opened
-opened_of f = record { line = f.line; operator = f.operator; negated = f.negated; outer = map entry_of f.outer.items }
+opened_of f =
+    record {
+      line = f.line;
+      operator = f.operator;
+      negated = f.negated;
+      outer = map entry_of f.outer.items;
+    }
 
+-- what the lines so far make; the innermost parenthesis comes first
 abbrev pub reached_of : code.Draft → Reached
 reached_of l =
     record {
@@ -19,5 +27,6 @@ reached_of l =
       parentheses = reverse (map opened_of l.parentheses.items);
     }
 
+-- the same, and how many lines held an instruction or `)`
 abbrev pub read_of : code.Draft → Read
 read_of l = record { reached = reached_of l; instructions = l.instructions }

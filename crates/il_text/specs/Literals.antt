@@ -4,15 +4,18 @@ use Rattle.std.specs.Char.{is_digit, is_ascii_digit, is_ascii_alphabetic}
 use Rattle.std.specs.List.{position_or_len, before_first, after_first, prefix_len}
 use Rattle.std.specs.Str.{byte}
 use Rattle.std.specs.Str.Parse.{digits_value}
+use Rattle.bay_base.specs.Results.{◌>>=◌}
 use Rattle.bay_base.specs.Names.{same_name}
 use Rattle.il_text.specs.declared.literal.LiteralFault.{LiteralFault}
 use Rattle.il_text.specs.declared.literal.LiteralFault.TheVariants.{Malformed, OutOfRange}
 use Rattle.il_text.specs.declared.program.Literal.{Literal}
 use Rattle.il_text.specs.declared.program.Literal.TheVariants.{Truth, Number, Int, Dint, Lint, Time}
 
+-- an `_`, which may part digits
 abbrev pub is_underscore : ℕ → Bool
 is_underscore x = x == byte "_"
 
+-- the `#` behind a type or a base
 abbrev pub is_hash : ℕ → Bool
 is_hash x = x == byte "#"
 
@@ -26,12 +29,16 @@ is_integer radix wanted (x ∷ xs) =
 -- the number that digits write, with single underscores between them
 unfoldable pub number : ℕ → List ℕ → Option ℕ
 number radix ds =
-    if is_integer radix true ds then Some (digits_value radix (filter (λ x. not (is_underscore x)) ds)) else None
+    if is_integer radix true ds
+    then Some (digits_value radix (filter (λ x. not (is_underscore x)) ds))
+    else None
 
 -- the parts before and after the first `#`
 unfoldable pub halves : List ℕ → Option (List ℕ × List ℕ)
 halves w =
-    if nat_lt (position_or_len is_hash w) (length w) then Some (before_first is_hash w, after_first is_hash w) else None
+    if nat_lt (position_or_len is_hash w) (length w)
+    then Some (before_first is_hash w, after_first is_hash w)
+    else None
 
 -- the base that is written before `#`
 unfoldable pub base_of : List ℕ → Option ℕ
@@ -54,72 +61,87 @@ decimal w =
 
 -- binary_integer, octal_integer and hex_integer, of which none has a sign
 unfoldable pub based : List ℕ → List ℕ → Option Signed
-based base digits = option_and_then (λ radix. option_map (λ n. (false, n)) (number radix digits)) (base_of base)
+based base digits =
+    option_and_then (λ radix. option_map (λ n. (false, n)) (number radix digits)) (base_of base)
 
+-- a number by whether a `#` parts it
 abbrev decimal_or_based : List ℕ → Option (List ℕ × List ℕ) → Option Signed
 decimal_or_based w None = decimal w
 decimal_or_based w (Some h) = based h.0 h.1
 
+-- a number with a sign, or behind a base
 unfoldable pub integer : List ℕ → Option Signed
 integer w = decimal_or_based w (halves w)
-
--- what comes of a value, or the fault in its place
-abbrev pub read_on : {A B : Type 0} → Result A LiteralFault → (A → Result B LiteralFault) → Result B LiteralFault
-read_on (Ok x) f = f x
-read_on (Err e) f = Err e
 
 -- the value of a number, which is of 64 bits at most
 abbrev pub signed : Option Signed → Result ℤ LiteralFault
 signed None = Err Malformed
 signed (Some (false, n)) = if nat_le n 9223372036854775807 then Ok (pos n) else Err OutOfRange
 signed (Some (true, n)) =
-    if n == 0 then Ok (pos 0) else if nat_le n 9223372036854775808 then Ok (negsuc (n - 1)) else Err OutOfRange
+    if n == 0
+    then Ok (pos 0)
+    else if nat_le n 9223372036854775808
+    then Ok (negsuc (n - 1))
+    else Err OutOfRange
 
 -- a number without a type
 unfoldable pub untyped : Option Signed → Result Literal LiteralFault
-untyped z = read_on (signed z) (λ value. Ok (Number value))
+untyped z = signed z >>= (λ value. Ok (Number value))
 
+-- the number is in the range, both ends too
 abbrev pub is_between : ℤ → ℤ → ℤ → Bool
 is_between low high z = int_le low z && int_le z high
 
 -- the literals of BOOL, INT and DINT that have this value
 abbrev pub bool_literal : ℤ → Result Literal LiteralFault
-bool_literal (pos n) = if n == 0 then Ok (Truth false) else (if n == 1 then Ok (Truth true) else Err OutOfRange)
+bool_literal (pos n) =
+    if n == 0 then Ok (Truth false) else (if n == 1 then Ok (Truth true) else Err OutOfRange)
 bool_literal (negsuc n) = Err OutOfRange
 
+-- an INT is of 16 bits with a sign
 abbrev pub int_literal : ℤ → Result Literal LiteralFault
 int_literal z = if is_between (negsuc 32767) (pos 32767) z then Ok (Int z) else Err OutOfRange
 
+-- a DINT is of 32 bits with a sign
 abbrev pub dint_literal : ℤ → Result Literal LiteralFault
-dint_literal z = if is_between (negsuc 2147483647) (pos 2147483647) z then Ok (Dint z) else Err OutOfRange
+dint_literal z =
+    if is_between (negsuc 2147483647) (pos 2147483647) z then Ok (Dint z) else Err OutOfRange
 
+-- TRUE and FALSE, in letters of either case
 abbrev pub truth_of : List ℕ → Option Bool
-truth_of w = if same_name w (codes "TRUE") then Some true else (if same_name w (codes "FALSE") then Some false else None)
+truth_of w =
+    if same_name w (codes "TRUE") then Some true
+    else (if same_name w (codes "FALSE") then Some false else None)
 
 -- TRUE and FALSE are literals that no type of numbers holds
 abbrev pub number_or_truth : List ℕ → Option Bool → Result ℤ LiteralFault
 number_or_truth w (Some b) = Err OutOfRange
 number_or_truth w None = signed (integer w)
 
+-- the number behind a type of numbers
 unfoldable pub typed_number : List ℕ → Result ℤ LiteralFault
 typed_number w = number_or_truth w (truth_of w)
 
+-- a truth value, or else the number 0 or 1
 abbrev pub bool_or_truth : List ℕ → Option Bool → Result Literal LiteralFault
 bool_or_truth w (Some b) = Ok (Truth b)
-bool_or_truth w None = read_on (signed (integer w)) bool_literal
+bool_or_truth w None = signed (integer w) >>= bool_literal
 
 -- `BOOL#`: TRUE, FALSE, or the numbers 0 and 1
 unfoldable pub typed_bool : List ℕ → Result Literal LiteralFault
 typed_bool w = bool_or_truth w (truth_of w)
 
+-- what stands behind `INT#`
 unfoldable pub typed_int : List ℕ → Result Literal LiteralFault
-typed_int w = read_on (typed_number w) int_literal
+typed_int w = typed_number w >>= int_literal
 
+-- what stands behind `DINT#`
 unfoldable pub typed_dint : List ℕ → Result Literal LiteralFault
-typed_dint w = read_on (typed_number w) dint_literal
+typed_dint w = typed_number w >>= dint_literal
 
+-- what stands behind `LINT#`
 unfoldable pub typed_lint : List ℕ → Result Literal LiteralFault
-typed_lint w = read_on (typed_number w) (λ value. Ok (Lint value))
+typed_lint w = typed_number w >>= (λ value. Ok (Lint value))
 
 -- what is left of a duration, its milliseconds so far, and whether a part was there
 pub record Duration : Type 0 where
@@ -137,12 +159,18 @@ unit_len w = prefix_len is_ascii_alphabetic (drop (number_len w) w)
 
 -- the number of a part: after the first part of a duration an `_` may stand before it
 abbrev pub number_of_part : Bool → List ℕ → Option ℕ
-number_of_part begun ds = if begun && is_underscore (slice_index ds 0) then number 10 (drop 1 ds) else number 10 ds
+number_of_part begun ds =
+    if begun && is_underscore (slice_index ds 0) then number 10 (drop 1 ds) else number 10 ds
 
+-- a duration with one part more, where the part has a number
 abbrev pub with_part : ℕ → Duration → Option ℕ → Option Duration
 with_part factor d None = None
 with_part factor d (Some n) =
-    Some (record { rest = drop (unit_len d.rest) (drop (number_len d.rest) d.rest); total = d.total + n * factor; begun = true })
+    Some (record {
+      rest = drop (unit_len d.rest) (drop (number_len d.rest) d.rest);
+      total = d.total + n * factor;
+      begun = true;
+    })
 
 -- Takes the part in this unit, if one stands first; its number may pass the unit above.
 unfoldable pub part : List ℕ → ℕ → Duration → Option Duration
@@ -169,6 +197,7 @@ abbrev pub time_literal : Option ℕ → Result Literal LiteralFault
 time_literal None = Err Malformed
 time_literal (Some n) = if nat_le n 2147483647 then Ok (Time n) else Err OutOfRange
 
+-- what stands behind `T#` or `TIME#`
 unfoldable pub typed_time : List ℕ → Result Literal LiteralFault
 typed_time w = time_literal (milliseconds w)
 

@@ -25,8 +25,8 @@ unclosed = 256
 abbrev pub blank_of : ℕ → ℕ
 blank_of x = if x == 10 then 10 else byte " "
 
--- The text with a space for each character of a comment but its line ends (2.1.5). `inside` says that
--- the text begins within a comment. A comment ends at the first `*)` after its `(*`.
+-- The text with a space for each character of a comment but its line ends (2.1.5). `inside` says
+-- that the text begins within a comment. A comment ends at the first `*)` after its `(*`.
 unfoldable pub blanked : Bool → List ℕ → List ℕ
 blanked inside [] = []
 blanked inside (x ∷ []) = (if inside then blank_of x else x) ∷ []
@@ -35,20 +35,23 @@ blanked inside (x ∷ y ∷ xs) =
     (if ends (x ∷ y ∷ xs) then byte " " ∷ byte " " ∷ blanked false xs
     else blank_of x ∷ blanked true (y ∷ xs))
     else
-    (if opens (x ∷ y ∷ xs) then (if closes xs then byte " " else unclosed) ∷ byte " " ∷ blanked true xs
+    (if opens (x ∷ y ∷ xs) then (if closes xs then byte " " else unclosed) ∷ byte " "
+    ∷ blanked true xs
     else x ∷ blanked false (y ∷ xs))
 
--- Whether the character and the piece that directly follows it are one piece. A `&` takes the word `N`
--- to itself, where it stands alone.
+-- Whether the character and the piece that directly follows it are one piece. A `&` takes the word
+-- `N` to itself, where it stands alone.
 unfoldable pub joins : ℕ → List ℕ → Bool
 joins x p = linked x (slice_index p 0) || (x == byte "&" && same_name p (codes "N"))
 
+-- a character in front of pieces: a part of the first one, or a piece of its own
 abbrev pub join : ℕ → List (List ℕ) → List (List ℕ)
 join x [] = (x ∷ []) ∷ []
 join x (p ∷ ps) = if joins x p then (x ∷ p) ∷ ps else (x ∷ []) ∷ p ∷ ps
 
--- The pieces of a text without comments: the longest runs of characters that belong together. They are
--- joined from the right, so each piece is whole before the character in front of it is looked at.
+-- The pieces of a text without comments: the longest runs of characters that belong together. They
+-- are joined from the right, so each piece is whole before the character in front of it is looked
+-- at.
 unfoldable pub pieces : List ℕ → List (List ℕ)
 pieces [] = []
 pieces (x ∷ xs) = join x (pieces xs)

@@ -1,29 +1,34 @@
 -- Inner: what is left to read, at one place of a text.
 use Rattle.std.specs.Prelude.{ℕ, ◌+◌, List, [], ◌++◌, map, drop, Result}
+use Rattle.bay_base.specs.Results.{◌>>=◌}
 use Rattle.il_text.specs.Listing.{PlainProgram}
 use Rattle.il_text.specs.ListingViews.{read_of}
-use Rattle.il_text.specs.Reading.{Read, reading, lines, then_on, after_line, whole}
+use Rattle.il_text.specs.Reading.{Read, reading, lines, after_line, whole}
 use Rattle.il_text.specs.Symbols.{cut}
 use Rattle.il_text.specs.Tokens.{Symbol, Piece, token}
 use Rattle.il_text.specs.TokenViews.{symbols_of}
 use Rattle.il_text.specs.declared.fault.TextFault.{TextFault}
 use Rattle.il_text.specs.declared.read.Reader as code
 
--- the program that pieces make after the tokens of an unfinished line and what the lines before it reached
+-- the program that pieces make after the tokens of an unfinished line and what the lines before it
+-- reached
 unfoldable pub read_on : ℕ → Read → ℕ → List Symbol → List Piece → Result PlainProgram TextFault
 read_on last r line ss ps = reading last r line (lines (map token ss ++ ps))
 
+-- the program that what is read and what is left of a text make
 abbrev pub left_of : code.Reader → Result PlainProgram TextFault
 left_of r =
-    read_on r.last (read_of r.listing) r.line (symbols_of r.tokens.items) (cut r.in_comment (drop r.at r.text.now))
+    read_on r.last (read_of r.listing) r.line (symbols_of r.tokens.items)
+    (cut r.in_comment (drop r.at r.text.now))
 
 -- the same where the line ends here
 abbrev pub ended_of : code.Reader → Result PlainProgram TextFault
 ended_of r =
-    then_on (after_line r.line r.last (read_of r.listing) (symbols_of r.tokens.items))
-    (λ s. read_on r.last s (r.line + 1) [] (cut r.in_comment (drop r.at r.text.now)))
+    after_line r.line r.last (read_of r.listing) (symbols_of r.tokens.items)
+    >>= (λ s. read_on r.last s (r.line + 1) [] (cut r.in_comment (drop r.at r.text.now)))
 
 -- and where the text does
 abbrev pub whole_of : code.Reader → Result PlainProgram TextFault
 whole_of r =
-    then_on (after_line r.line r.last (read_of r.listing) (symbols_of r.tokens.items)) (λ s. whole r.last s.reached)
+    after_line r.line r.last (read_of r.listing) (symbols_of r.tokens.items)
+    >>= (λ s. whole r.last s.reached)

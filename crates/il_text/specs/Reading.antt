@@ -1,5 +1,6 @@
 -- The program of a text, line by line (IEC 61131-3:2003, 2.5.3 and annex B).
 use Rattle.std.specs.Prelude.{ℕ, ◌+◌, Bool, true, false, ◌||◌, ◌==◌, nat_lt, nat_le, if◌then◌else◌, List, [], ◌∷◌, length, Option, Some, None, Result, Ok, Err}
+use Rattle.bay_base.specs.Results.{◌>>=◌}
 use Rattle.il_text.specs.Listing.{PlainProgram}
 use Rattle.il_text.specs.Tokens.{Symbol, Piece, blank, line_end, token, bad_token, bad_literal}
 use Rattle.il_text.specs.Symbols.{cut}
@@ -26,16 +27,12 @@ lines (token s ∷ ps) = onto (token s) (lines ps)
 lines (bad_token ∷ ps) = onto bad_token (lines ps)
 lines (bad_literal ∷ ps) = onto bad_literal (lines ps)
 
-abbrev pub then_on : {A B : Type 0} → Result A TextFault → (A → Result B TextFault) → Result B TextFault
-then_on (Ok x) f = f x
-then_on (Err e) f = Err e
-
 -- the tokens of a line, or its leftmost fault
 unfoldable pub tokens_of : ℕ → List Piece → Result (List Symbol) TextFault
 tokens_of line [] = Ok []
 tokens_of line (blank ∷ ps) = tokens_of line ps
 tokens_of line (line_end ∷ ps) = tokens_of line ps
-tokens_of line (token s ∷ ps) = then_on (tokens_of line ps) (λ ss. Ok (s ∷ ss))
+tokens_of line (token s ∷ ps) = tokens_of line ps >>= (λ ss. Ok (s ∷ ss))
 tokens_of line (bad_token ∷ ps) = Err (BadToken line)
 tokens_of line (bad_literal ∷ ps) = Err (BadLiteral line)
 
@@ -44,6 +41,7 @@ pub record Read : Type 0 where
   pub reached : Reached
   pub instructions : ℕ
 
+-- the part counts towards the limit of lines
 abbrev pub is_instruction : Part → Bool
 is_instruction (heading name) = false
 is_instruction (opening scope) = false
@@ -60,27 +58,39 @@ abbrev pub has_instruction : List Part → Bool
 has_instruction [] = false
 has_instruction (p ∷ ps) = is_instruction p || has_instruction ps
 
--- A line past a limit. Where it is the last line, the text ends early there too, and that fault comes first.
+-- A line past a limit. Where it is the last line, the text ends early there too, and that fault
+-- comes first.
 abbrev pub past_limit : ℕ → ℕ → TextFault → TextFault
 past_limit line last fault = if line == last then BadLine line else fault
 
+-- one line with an instruction more, of which 4,000 may be
 abbrev pub counted : ℕ → ℕ → ℕ → Reached → Result Read TextFault
 counted line last before s =
-    if nat_lt before 4000 then Ok (record { reached = s; instructions = before + 1 }) else Err (past_limit line last (TooLong line))
+    if nat_lt before 4000
+    then Ok (record { reached = s; instructions = before + 1 })
+    else Err (past_limit line last (TooLong line))
 
--- what a line with an instruction leaves, within the limits of 16 open parentheses and 4,000 such lines
+-- what a line with an instruction leaves, within the limits of 16 open parentheses and 4,000 such
+-- lines
 unfoldable pub bounded : ℕ → ℕ → ℕ → Reached → Result Read TextFault
 bounded line last before s =
-    if nat_le (length s.parentheses) 16 then counted line last before s else Err (past_limit line last (TooDeep line))
+    if nat_le (length s.parentheses) 16
+    then counted line last before s
+    else Err (past_limit line last (TooDeep line))
 
+-- what a line leaves, where the limits count only one with an instruction
 abbrev pub limited : ℕ → ℕ → ℕ → List Part → Reached → Result Read TextFault
 limited line last before ps s =
-    if has_instruction ps then bounded line last before s else Ok (record { reached = s; instructions = before })
+    if has_instruction ps
+    then bounded line last before s
+    else Ok (record { reached = s; instructions = before })
 
+-- the same of a line that may not stand here
 abbrev pub stepped : ℕ → ℕ → ℕ → List Part → Option Reached → Result Read TextFault
 stepped line last before ps None = Err (BadLine line)
 stepped line last before ps (Some s) = limited line last before ps s
 
+-- the same of a line that may have no form
 abbrev pub after_parts : ℕ → ℕ → Read → Option (List Part) → Result Read TextFault
 after_parts line last r None = Err (BadLine line)
 after_parts line last r (Some ps) = stepped line last r.instructions ps (steps line r.reached ps)
@@ -89,6 +99,7 @@ after_parts line last r (Some ps) = stepped line last r.instructions ps (steps l
 unfoldable pub after_line : ℕ → ℕ → Read → List Symbol → Result Read TextFault
 after_line line last r ts = after_parts line last r (parts_of ts)
 
+-- the program that the lines make
 abbrev pub listed : Reached → PlainProgram
 listed s = record { name = s.name; declarations = s.declarations; items = s.items }
 
@@ -97,15 +108,18 @@ abbrev pub whole_at : ℕ → Reached → Stage → Result PlainProgram TextFaul
 whole_at last s place.Finished = Ok (listed s)
 whole_at last s other = Err (BadLine last)
 
+-- the program, if the text is whole
 abbrev pub whole : ℕ → Reached → Result PlainProgram TextFault
 whole last s = whole_at last s s.place
 
--- the program that lines make after others, the first of them at this number: its first faulty line decides
+-- the program that lines make after others, the first of them at this number: its first faulty line
+-- decides
 unfoldable pub reading : ℕ → Read → ℕ → List (List Piece) → Result PlainProgram TextFault
 reading last r line [] = whole last r.reached
 reading last r line (l ∷ ls) =
-    then_on (tokens_of line l) (λ ts. then_on (after_line line last r ts) (λ s. reading last s (line + 1) ls))
+    tokens_of line l >>= (λ ts. after_line line last r ts >>= (λ s. reading last s (line + 1) ls))
 
+-- before the first line
 abbrev pub none_yet : Read
 none_yet = record { reached = nothing_read; instructions = 0 }
 

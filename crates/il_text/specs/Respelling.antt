@@ -34,7 +34,8 @@ ends_with_cr [] = false
 ends_with_cr (x ∷ []) = x == 13
 ends_with_cr (x ∷ y ∷ xs) = ends_with_cr (y ∷ xs)
 
--- a text reads as that with CR LF in the place of a LF, which stands outside of comments and not behind a CR
+-- a text reads as that with CR LF in the place of a LF, which stands outside of comments and not
+-- behind a CR
 abbrev pub LineEndsMayBeRespelled : Type 0
 LineEndsMayBeRespelled =
     (before after : List ℕ) (read : Result PlainProgram TextFault)

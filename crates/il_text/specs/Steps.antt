@@ -18,8 +18,8 @@ pub record Opened : Type 0 where
   pub negated : Bool
   pub outer : List Entry
 
--- where the next line stands; the name; the declarations; the items of the innermost open parenthesis, or of the body; and
--- the open parentheses, the innermost first
+-- where the next line stands; the name; the declarations; the items of the innermost open
+-- parenthesis, or of the body; and the open parentheses, the innermost first
 pub record Reached : Type 0 where
   pub place : Stage
   pub name : List ℕ
@@ -27,26 +27,61 @@ pub record Reached : Type 0 where
   pub items : List Entry
   pub parentheses : List Opened
 
+-- before the first line
 abbrev pub nothing_read : Reached
-nothing_read = record { place = place.Start; name = []; declarations = []; items = []; parentheses = [] }
+nothing_read =
+    record { place = place.Start; name = []; declarations = []; items = []; parentheses = [] }
 
+-- the same at another place of the program
 abbrev pub at_place : Stage → Reached → Reached
-at_place p r = record { place = p; name = r.name; declarations = r.declarations; items = r.items; parentheses = r.parentheses }
+at_place p r =
+    record {
+      place = p;
+      name = r.name;
+      declarations = r.declarations;
+      items = r.items;
+      parentheses = r.parentheses;
+    }
 
+-- behind the line of PROGRAM
 abbrev pub with_name : List ℕ → Reached → Reached
-with_name n r = record { place = place.Declarations; name = n; declarations = r.declarations; items = r.items; parentheses = r.parentheses }
+with_name n r =
+    record {
+      place = place.Declarations;
+      name = n;
+      declarations = r.declarations;
+      items = r.items;
+      parentheses = r.parentheses;
+    }
 
+-- one name of a line of declarations
 abbrev pub declared_in : ℕ → Scope → DeclaredType → Option Literal → List ℕ → Declared
-declared_in line scope kind initial name = record { line = line; scope = scope; name = name; kind = kind; initial = initial }
+declared_in line scope kind initial name =
+    record { line = line; scope = scope; name = name; kind = kind; initial = initial }
 
+-- with these names declared besides
 abbrev pub with_declarations : List Declared → Reached → Reached
 with_declarations ds r =
-    record { place = r.place; name = r.name; declarations = r.declarations ++ ds; items = r.items; parentheses = r.parentheses }
+    record {
+      place = r.place;
+      name = r.name;
+      declarations = r.declarations ++ ds;
+      items = r.items;
+      parentheses = r.parentheses;
+    }
 
 -- the items with one more, in the body
 abbrev pub with_item : Entry → Reached → Reached
-with_item e r = record { place = place.Body; name = r.name; declarations = r.declarations; items = r.items ++ e ∷ []; parentheses = r.parentheses }
+with_item e r =
+    record {
+      place = place.Body;
+      name = r.name;
+      declarations = r.declarations;
+      items = r.items ++ e ∷ [];
+      parentheses = r.parentheses;
+    }
 
+-- within a parenthesis that begins on this line
 abbrev pub with_opened : ℕ → Operator → Bool → Reached → Reached
 with_opened line operator negated r =
     record {
@@ -54,9 +89,12 @@ with_opened line operator negated r =
       name = r.name;
       declarations = r.declarations;
       items = [];
-      parentheses = record { line = line; operator = operator; negated = negated; outer = r.items } ∷ r.parentheses;
+      parentheses =
+          record { line = line; operator = operator; negated = negated; outer = r.items }
+          ∷ r.parentheses;
     }
 
+-- behind the innermost parenthesis, which ends on this line
 abbrev pub with_closed : ℕ → Reached → Opened → List Opened → Reached
 with_closed line r f fs =
     record {
@@ -67,14 +105,17 @@ with_closed line r f fs =
       parentheses = fs;
     }
 
+-- the line of PROGRAM comes next
 abbrev pub is_start : Stage → Bool
 is_start place.Start = true
 is_start other = false
 
-abbrev pub is_between : Stage → Bool
-is_between place.Declarations = true
-is_between other = false
+-- a declaration block may begin here
+abbrev pub is_between_blocks : Stage → Bool
+is_between_blocks place.Declarations = true
+is_between_blocks other = false
 
+-- the scope of the open block
 abbrev pub block_scope : Stage → Option Scope
 block_scope (place.Block scope) = Some scope
 block_scope other = None
@@ -85,14 +126,17 @@ is_body place.Declarations = true
 is_body place.Body = true
 is_body other = false
 
+-- no parenthesis is open
 abbrev pub is_outside : List Opened → Bool
 is_outside [] = true
 is_outside (f ∷ fs) = false
 
+-- there is an entry
 abbrev pub is_some : List Entry → Bool
 is_some [] = false
 is_some (e ∷ es) = true
 
+-- the instruction is LD or LDN
 abbrev pub is_load : Action → Bool
 is_load (load negated source) = true
 is_load other = false
@@ -103,11 +147,16 @@ may_begin_with Local initial = true
 may_begin_with External None = true
 may_begin_with External (Some value) = false
 
-abbrev pub declared_here : ℕ → List (List ℕ) → DeclaredType → Option Literal → Reached → Option Scope → Option Reached
+-- declares names in the open block, if there is one
+abbrev pub declared_here : ℕ → List (List ℕ) → DeclaredType → Option Literal → Reached
+    → Option Scope → Option Reached
 declared_here n ns kind initial r None = None
 declared_here n ns kind initial r (Some scope) =
-    if may_begin_with scope initial then Some (with_declarations (map (declared_in n scope kind initial) ns) r) else None
+    if may_begin_with scope initial
+    then Some (with_declarations (map (declared_in n scope kind initial) ns) r)
+    else None
 
+-- ends the open block, if there is one
 abbrev pub closed_block : Reached → Option Scope → Option Reached
 closed_block r None = None
 closed_block r (Some scope) = Some (at_place place.Declarations r)
@@ -118,7 +167,8 @@ may_stand r = is_body r.place && is_outside r.parentheses
 
 -- an instruction may stand here: in a parenthesis the first is a load, and none leaves it
 unfoldable pub may_act : Reached → Action → Bool
-may_act r a = is_body r.place && (is_outside r.parentheses || (is_plain a && (is_some r.items || is_load a)))
+may_act r a =
+    is_body r.place && (is_outside r.parentheses || (is_plain a && (is_some r.items || is_load a)))
 
 -- a parenthesis may begin here
 unfoldable pub may_enter : Reached → Bool
@@ -128,6 +178,7 @@ may_enter r = is_body r.place && (is_outside r.parentheses || is_some r.items)
 unfoldable pub may_leave : Reached → Bool
 may_leave r = is_body r.place && is_some r.items
 
+-- ends the innermost parenthesis, if there is one
 abbrev pub left_here : ℕ → Reached → List Opened → Option Reached
 left_here n r [] = None
 left_here n r (f ∷ fs) = Some (with_closed n r f fs)
@@ -135,12 +186,14 @@ left_here n r (f ∷ fs) = Some (with_closed n r f fs)
 -- one part, of the line of this number
 unfoldable pub step : ℕ → Reached → Part → Option Reached
 step n r (heading name) = if is_start r.place then Some (with_name name r) else None
-step n r (opening scope) = if is_between r.place then Some (at_place (place.Block scope) r) else None
+step n r (opening scope) =
+    if is_between_blocks r.place then Some (at_place (place.Block scope) r) else None
 step n r (declaring ns kind initial) = declared_here n ns kind initial r (block_scope r.place)
 step n r closing = closed_block r (block_scope r.place)
 step n r (labelling name) = if may_stand r then Some (with_item (label n name) r) else None
 step n r (acting a) = if may_act r a then Some (with_item (action n a) r) else None
-step n r (entering operator negated) = if may_enter r then Some (with_opened n operator negated r) else None
+step n r (entering operator negated) =
+    if may_enter r then Some (with_opened n operator negated r) else None
 step n r leaving = if may_leave r then left_here n r r.parentheses else None
 step n r ending = if may_stand r then Some (at_place place.Finished r) else None
 

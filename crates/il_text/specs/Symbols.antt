@@ -1,4 +1,5 @@
--- What a piece of a text is: a blank, a line end, a token, or none (IEC 61131-3:2003, 2.1 and annex B).
+-- What a piece of a text is: a blank, a line end, a token, or none (IEC 61131-3:2003, 2.1 and annex
+-- B).
 use Rattle.std.specs.Prelude.{ℕ, Bool, true, false, ◌||◌, nat_le, if◌then◌else◌, List, [], ◌∷◌, length, slice_index, codes, map, Option, Some, None, Result, Ok, Err}
 use Rattle.std.specs.Str.{bytes_eq}
 use Rattle.bay_base.specs.Names.{same_name}
@@ -14,11 +15,13 @@ use Rattle.il_text.specs.declared.program.Operator.TheVariants.{And}
 use Rattle.il_text.specs.declared.token.Mark.TheVariants as mark
 use Rattle.il_text.specs.declared.token.Mnemonic.TheVariants.{Combine}
 
+-- a word that was read as a literal, or why it is none
 abbrev pub literal_piece : Result Literal LiteralFault → Piece
 literal_piece (Ok value) = token (literal value)
 literal_piece (Err Malformed) = bad_token
 literal_piece (Err OutOfRange) = bad_literal
 
+-- a reserved word, or else a name of at most 64 characters
 abbrev pub name_or_reserved : List ℕ → Option Symbol → Piece
 name_or_reserved w (Some s) = token s
 name_or_reserved w None = if nat_le (length w) 64 then token (name w) else bad_token
@@ -27,9 +30,11 @@ name_or_reserved w None = if nat_le (length w) 64 then token (name w) else bad_t
 unfoldable pub plain_word : List ℕ → Piece
 plain_word w = name_or_reserved w (reserved_symbol w)
 
+-- a word by whether a `#` parts it
 abbrev word_by_halves : List ℕ → Option (List ℕ × List ℕ) → Piece
 word_by_halves w (Some h) = literal_piece (prefixed h.0 h.1)
-word_by_halves w None = if begins_name (slice_index w 0) then plain_word w else literal_piece (untyped (decimal w))
+word_by_halves w None =
+    if begins_name (slice_index w 0) then plain_word w else literal_piece (untyped (decimal w))
 
 -- a name, a reserved word or a literal
 unfoldable pub word : List ℕ → Piece
@@ -49,6 +54,7 @@ mark_of p =
     else if same_name p (codes "&N") then Some (mnemonic_word (Combine And true))
     else None
 
+-- a mark, or what is no token
 abbrev pub mark_piece : Option Symbol → Piece
 mark_piece (Some s) = token s
 mark_piece None = bad_token
@@ -57,6 +63,7 @@ mark_piece None = bad_token
 abbrev pub is_line_end : List ℕ → Bool
 is_line_end p = bytes_eq p (10 ∷ []) || bytes_eq p (13 ∷ 10 ∷ [])
 
+-- what a piece of the text is
 unfoldable pub piece : List ℕ → Piece
 piece p =
     if is_blank (slice_index p 0) then blank

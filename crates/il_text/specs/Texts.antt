@@ -1,4 +1,5 @@
--- What a text reads as: its program, or its first faulty line (IEC 61131-3:2003, 2.1, 2.5.3 and 3.2).
+-- What a text reads as: its program, or its first faulty line (IEC 61131-3:2003, 2.1, 2.5.3 and
+-- 3.2).
 use Rattle.std.specs.Prelude.{◌≡◌, ◌↔◌, ℕ, ◌+◌, ◌<◌, ◌⊎◌, Bool, true, false, List, [], ◌∷◌, ◌++◌, map, count_by, Option, Some, None, Result, Ok, Err}
 use Rattle.std.specs.List.{flat_map}
 use Rattle.il_text.specs.Forms.{parts_of}
@@ -16,16 +17,20 @@ use Rattle.il_text.specs.declared.fault.TextFault.TheVariants.{BadLine, TooDeep,
 abbrev pub Line : Type 0
 Line = ℕ × List Part
 
+-- the parts of a line, each with its number
 abbrev pub numbered : Line → List Numbered
 numbered l = map (λ p. (l.0, p)) l.1
 
+-- the parts of lines, in order
 abbrev pub all_parts : List Line → List Numbered
 all_parts = flat_map numbered
 
+-- the part opens a parenthesis
 abbrev pub is_entering : Numbered → Bool
 is_entering (line, entering operator negated) = true
 is_entering (line, other) = false
 
+-- the part closes one
 abbrev pub is_leaving : Numbered → Bool
 is_leaving (line, leaving) = true
 is_leaving (line, other) = false
@@ -47,10 +52,13 @@ pub record Allowed (ls : List Line) : Type 0 where
 -- what is wrong with the last of these lines, where the lines before it are allowed
 pub data LineFault (last line : ℕ) (ls : List Line) (fault : TextFault) : Type 0 where
   no_program : (CanGoOn (all_parts ls) → ⊥) → fault ≡ BadLine line → LineFault last line ls fault
-  too_deep : CanGoOn (all_parts ls) → IsDeep ls → fault ≡ past_limit line last (TooDeep line) → LineFault last line ls fault
-  too_long : CanGoOn (all_parts ls) → (IsDeep ls → ⊥) → IsLong ls → fault ≡ past_limit line last (TooLong line)
+  too_deep : CanGoOn (all_parts ls) → IsDeep ls → fault ≡ past_limit line last (TooDeep line)
+      → LineFault last line ls fault
+  too_long : CanGoOn (all_parts ls) → (IsDeep ls → ⊥) → IsLong ls
+      → fault ≡ past_limit line last (TooLong line)
       → LineFault last line ls fault
 
+-- the last of these lines is the faulty one
 abbrev pub Refused : ℕ → ℕ → List Line → Result PlainProgram TextFault → Type 0
 Refused last line ls (Ok program) = ⊥
 Refused last line ls (Err fault) = LineFault last line ls fault
@@ -58,23 +66,30 @@ Refused last line ls (Err fault) = LineFault last line ls fault
 -- the text ends: the lines are a program, or it ends early
 abbrev pub Ends : ℕ → List Line → Result PlainProgram TextFault → Type 0
 Ends last ls (Ok program) = Derives (all_parts ls) program
-Ends last ls (Err fault) = ((program : PlainProgram) → Derives (all_parts ls) program → ⊥) × (fault ≡ BadLine last)
+Ends last ls (Err fault) =
+    ((program : PlainProgram) → Derives (all_parts ls) program → ⊥) × (fault ≡ BadLine last)
 
-abbrev pub OnParts : ℕ → (List Part → Type 0) → Option (List Part) → Result PlainProgram TextFault → Type 0
+-- a line that has no form is a bad line
+abbrev pub OnParts : ℕ → (List Part → Type 0) → Option (List Part) → Result PlainProgram TextFault
+    → Type 0
 OnParts line goes None r = r ≡ Err (BadLine line)
 OnParts line goes (Some ps) r = goes ps
 
-abbrev pub OnTokens : ℕ → (List Part → Type 0) → Result (List Symbol) TextFault → Result PlainProgram TextFault → Type 0
+-- a bad token or literal is the fault of its line
+abbrev pub OnTokens : ℕ → (List Part → Type 0) → Result (List Symbol) TextFault
+    → Result PlainProgram TextFault → Type 0
 OnTokens line goes (Err fault) r = r ≡ Err fault
 OnTokens line goes (Ok ts) r = OnParts line goes (parts_of ts) r
 
--- What the lines from this number on read as, after allowed lines: the first faulty line decides. In a line a bad token comes
--- first, then what is no form of a line, then what cannot be gone on to a program, then the limits.
+-- What the lines from this number on read as, after allowed lines: the first faulty line decides.
+-- In a line a bad token comes first, then what is no form of a line, then what cannot be gone on to
+-- a program, then the limits.
 abbrev pub Reads : ℕ → List Line → ℕ → List (List Piece) → Result PlainProgram TextFault → Type 0
 Reads last before line [] r = Ends last before r
 Reads last before line (l ∷ ls) r =
     OnTokens line
-    (λ ps. (Allowed (before ++ (line, ps) ∷ []) × Reads last (before ++ (line, ps) ∷ []) (line + 1) ls r)
+    (λ ps. (Allowed (before ++ (line, ps) ∷ [])
+    × Reads last (before ++ (line, ps) ∷ []) (line + 1) ls r)
     ⊎ Refused last line (before ++ (line, ps) ∷ []) r)
     (tokens_of line l) r
 
@@ -84,8 +99,10 @@ ReadsAs text r = Reads (last_line text) [] 1 (lines (cut false text)) r
 
 -- a text reads as one program, or has one fault
 abbrev pub OneReading : Type 0
-OneReading = (text : List ℕ) (x y : Result PlainProgram TextFault) → ReadsAs text x → ReadsAs text y → x ≡ y
+OneReading =
+    (text : List ℕ) (x y : Result PlainProgram TextFault) → ReadsAs text x → ReadsAs text y → x ≡ y
 
 -- a text reads as a program, or has a fault, exactly where the reading by lines gives it
 abbrev pub ProgramIsRead : Type 0
-ProgramIsRead = (text : List ℕ) (r : Result PlainProgram TextFault) → ReadsAs text r ↔ (program_of text ≡ r)
+ProgramIsRead =
+    (text : List ℕ) (r : Result PlainProgram TextFault) → ReadsAs text r ↔ (program_of text ≡ r)

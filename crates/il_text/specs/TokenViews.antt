@@ -1,22 +1,25 @@
 -- Inner: the plain data that tokens and pieces of the code stand for.
 use Rattle.std.specs.Prelude.{List, map}
-use Rattle.il_text.specs.Tokens.{Symbol, name, frame_word, type_word, literal, mnemonic_word, mark_symbol, Piece, blank, line_end, token, bad_token, bad_literal}
+use Rattle.il_text.specs.Tokens.{Symbol, name, keyword_word, type_word, literal, mnemonic_word, mark_symbol, Piece, blank, line_end, token, bad_token, bad_literal}
 use Rattle.il_text.specs.declared.token.Token.{Token}
 use Rattle.il_text.specs.declared.token.Token.TheVariants as t
 use Rattle.il_text.specs.declared.lexeme.Lexeme.{Lexeme}
 use Rattle.il_text.specs.declared.lexeme.Lexeme.TheVariants as x
 
+-- a token
 abbrev pub symbol_of : Token → Symbol
 symbol_of (t.Name n) = name n.now
-symbol_of (t.Frame word) = frame_word word
+symbol_of (t.Keyword word) = keyword_word word
 symbol_of (t.Type kind) = type_word kind
 symbol_of (t.Literal value) = literal value
 symbol_of (t.Mnemonic operator) = mnemonic_word operator
 symbol_of (t.Mark m) = mark_symbol m
 
+-- the tokens of a line
 abbrev pub symbols_of : List Token → List Symbol
 symbols_of = map symbol_of
 
+-- a piece of the text
 abbrev pub piece_of : Lexeme → Piece
 piece_of x.Blank = blank
 piece_of x.LineEnd = line_end

@@ -2,14 +2,14 @@
 use Rattle.std.specs.Prelude.{ℕ, List}
 use Rattle.il_text.specs.declared.program.DeclaredType.{DeclaredType}
 use Rattle.il_text.specs.declared.program.Literal.{Literal}
-use Rattle.il_text.specs.declared.token.Frame.{Frame}
+use Rattle.il_text.specs.declared.token.Keyword.{Keyword}
 use Rattle.il_text.specs.declared.token.Mark.{Mark}
 use Rattle.il_text.specs.declared.token.Mnemonic.{Mnemonic}
 
--- a token: a name, a word of the frame, a type, a literal, an operator, or a mark
+-- a token: a name, a keyword, a type, a literal, an operator, or a mark
 pub data Symbol : Type 0 where
   name : List ℕ → Symbol
-  frame_word : Frame → Symbol
+  keyword_word : Keyword → Symbol
   type_word : DeclaredType → Symbol
   literal : Literal → Symbol
   mnemonic_word : Mnemonic → Symbol

@@ -4,5 +4,11 @@ pub use Rattle.il_text.specs.ItemViews.{place_of, source_of, argument_of, argume
 use Rattle.il_text.specs.Listing.{PlainProgram}
 use Rattle.il_text.specs.declared.program.Program.{Program}
 
+-- a program
 abbrev pub plain_program : Program → PlainProgram
-plain_program p = record { name = p.name.now; declarations = map declared_of p.declarations.items; items = map entry_of p.items.items }
+plain_program p =
+    record {
+      name = p.name.now;
+      declarations = map declared_of p.declarations.items;
+      items = map entry_of p.items.items;
+    }

@@ -10,11 +10,12 @@ use Rattle.il_text.specs.declared.program.DeclaredType.TheVariants.{Elementary, 
 use Rattle.il_text.specs.declared.program.Literal.TheVariants.{Truth}
 use Rattle.il_text.specs.declared.program.Operator.TheVariants as operator
 use Rattle.il_text.specs.declared.program.StoreKind.TheVariants as kind
-use Rattle.il_text.specs.declared.program.TimerKind.TheVariants as timer
-use Rattle.il_text.specs.declared.token.Frame.TheVariants as frame
+use Rattle.bay_base.specs.declared.types.TimerKind.TheVariants as timer
+use Rattle.il_text.specs.declared.token.Keyword.TheVariants as keyword
 use Rattle.il_text.specs.declared.token.Mnemonic.TheVariants as mnemonic
-use Rattle.il_text.specs.Tokens.{Symbol, frame_word, type_word, literal, mnemonic_word}
+use Rattle.il_text.specs.Tokens.{Symbol, keyword_word, type_word, literal, mnemonic_word}
 
+-- the token of each reserved word
 abbrev pub symbol_of_word : ReservedWord → Symbol
 symbol_of_word word.Ld = mnemonic_word (mnemonic.Load false)
 symbol_of_word word.Ldn = mnemonic_word (mnemonic.Load true)
@@ -49,11 +50,11 @@ symbol_of_word word.Retc = mnemonic_word (mnemonic.Return condition.IfTrue)
 symbol_of_word word.Retcn = mnemonic_word (mnemonic.Return condition.IfFalse)
 symbol_of_word word.IntToDint = mnemonic_word (mnemonic.Convert conversion.IntToDint)
 symbol_of_word word.DintToLint = mnemonic_word (mnemonic.Convert conversion.DintToLint)
-symbol_of_word word.Program = frame_word frame.Program
-symbol_of_word word.EndProgram = frame_word frame.EndProgram
-symbol_of_word word.Var = frame_word frame.Var
-symbol_of_word word.VarExternal = frame_word frame.VarExternal
-symbol_of_word word.EndVar = frame_word frame.EndVar
+symbol_of_word word.Program = keyword_word keyword.Program
+symbol_of_word word.EndProgram = keyword_word keyword.EndProgram
+symbol_of_word word.Var = keyword_word keyword.Var
+symbol_of_word word.VarExternal = keyword_word keyword.VarExternal
+symbol_of_word word.EndVar = keyword_word keyword.EndVar
 symbol_of_word word.Bool = type_word (Elementary elementary.Bool)
 symbol_of_word word.Int = type_word (Elementary elementary.Int)
 symbol_of_word word.Dint = type_word (Elementary elementary.Dint)

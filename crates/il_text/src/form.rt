@@ -9,9 +9,9 @@ ghost use Rattle.il_text.specs.Views.{action_of, argument_of, arguments_of, plac
 
 use crate::program::{
     Argument, Arguments, Condition, DeclaredType, Input, Instruction, Literal, Operand, Operator,
-    Output, Scope, StoreKind, Variable,
+    Output, Scope, StoreKind, SymbolicVariable,
 };
-use crate::token::{Frame, Mark, Mnemonic, Token};
+use crate::token::{Keyword, Mark, Mnemonic, Token};
 use bay_base::names::same_name;
 
 /// An instruction, or an operator with the opening of its parenthesis.
@@ -53,6 +53,7 @@ struct Halves<'t, 'a> {
     rest: &'t [Token<'a>],
 }
 
+/// The name that a token is, if it is one.
 pub(crate) fn name_of(token: Token<'_>) -> Option<&str>
     ensures { option_map (λ n. n.now) result ≡ spec.name_of (symbol_of token.entry) }
 {
@@ -62,6 +63,7 @@ pub(crate) fn name_of(token: Token<'_>) -> Option<&str>
     }
 }
 
+/// The literal that a token is, if it is one.
 fn literal_of(token: Token<'_>) -> Option<Literal>
     ensures { result ≡ spec.literal_of (symbol_of token.entry) }
 {
@@ -71,6 +73,7 @@ fn literal_of(token: Token<'_>) -> Option<Literal>
     }
 }
 
+/// The type that a token is, if it is one.
 fn type_of(token: Token<'_>) -> Option<DeclaredType>
     ensures { result ≡ spec.type_of (symbol_of token.entry) }
 {
@@ -80,6 +83,7 @@ fn type_of(token: Token<'_>) -> Option<DeclaredType>
     }
 }
 
+/// The elementary type that a token is, if it is one: a timer has no initial value.
 fn elementary_of(token: Token<'_>) -> Option<DeclaredType>
     ensures { result ≡ spec.elementary_of (symbol_of token.entry) }
 {
@@ -89,54 +93,21 @@ fn elementary_of(token: Token<'_>) -> Option<DeclaredType>
     }
 }
 
+/// Whether a token is an operator.
 fn is_mnemonic(token: Token<'_>) -> bool
     ensures { result ≡ spec.is_mnemonic (symbol_of token.entry) }
 {
     matches!(token, Token::Mnemonic(_))
 }
 
-fn is_colon(token: Token<'_>) -> bool
-    ensures { result ≡ spec.is_colon (symbol_of token.entry) }
+/// Whether a token is this mark.
+pub(crate) fn is_mark(token: Token<'_>, mark: Mark) -> bool
+    ensures { result ≡ spec.is_mark mark (symbol_of token.entry) }
 {
-    matches!(token, Token::Mark(Mark::Colon))
+    matches!(token, Token::Mark(found) if found == mark)
 }
 
-fn is_assign(token: Token<'_>) -> bool
-    ensures { result ≡ spec.is_assign (symbol_of token.entry) }
-{
-    matches!(token, Token::Mark(Mark::Assign))
-}
-
-pub(crate) fn is_comma(token: Token<'_>) -> bool
-    ensures { result ≡ spec.is_comma (symbol_of token.entry) }
-{
-    matches!(token, Token::Mark(Mark::Comma))
-}
-
-fn is_semicolon(token: Token<'_>) -> bool
-    ensures { result ≡ spec.is_semicolon (symbol_of token.entry) }
-{
-    matches!(token, Token::Mark(Mark::Semicolon))
-}
-
-fn is_dot(token: Token<'_>) -> bool
-    ensures { result ≡ spec.is_dot (symbol_of token.entry) }
-{
-    matches!(token, Token::Mark(Mark::Dot))
-}
-
-fn is_open(token: Token<'_>) -> bool
-    ensures { result ≡ spec.is_open (symbol_of token.entry) }
-{
-    matches!(token, Token::Mark(Mark::Open))
-}
-
-fn is_close(token: Token<'_>) -> bool
-    ensures { result ≡ spec.is_close (symbol_of token.entry) }
-{
-    matches!(token, Token::Mark(Mark::Close))
-}
-
+/// One name and nothing else.
 #[tactic(auto, unfolding(crate::specs::Forms::only_name))]
 fn only_name<'a>(tokens: &[Token<'a>]) -> Option<&'a str>
     ensures { option_map (λ n. n.now) result ≡ spec.only_name (symbols_of tokens.now) }
@@ -147,6 +118,7 @@ fn only_name<'a>(tokens: &[Token<'a>]) -> Option<&'a str>
     }
 }
 
+/// The output of a timer that a word names, in letters of either case.
 #[tactic(auto, unfolding(crate::specs::Forms::output_named))]
 fn output_named(word: &str) -> Option<Output>
     ensures { result ≡ spec.output_named word.now }
@@ -162,26 +134,28 @@ fn output_named(word: &str) -> Option<Output>
 
 /// The output of a timer, by the tokens of both names.
 #[tactic(auto, unfolding(crate::specs::Forms::output_by))]
-fn output_by<'a>(timer: Token<'a>, output: Token<'a>) -> Option<Variable<'a>>
-    ensures { option_map place_of result ≡ spec.output_by (symbol_of timer.entry) (symbol_of output.entry) }
+fn output_by<'a>(timer: Token<'a>, output: Token<'a>) -> Option<SymbolicVariable<'a>>
+    ensures { option_map place_of result
+        ≡ spec.output_by (symbol_of timer.entry) (symbol_of output.entry) }
 {
     let timer = name_of(timer)?;
     let output = output_named(name_of(output)?)?;
-    Some(Variable::Output { timer, output })
+    Some(SymbolicVariable::Output { timer, output })
 }
 
 /// A name, or a name with `.Q` or `.ET`.
 #[tactic(auto, unfolding(crate::specs::Forms::place))]
-fn place<'a>(tokens: &[Token<'a>]) -> Option<Variable<'a>>
+fn place<'a>(tokens: &[Token<'a>]) -> Option<SymbolicVariable<'a>>
     ensures { option_map place_of result ≡ spec.place (symbols_of tokens.now) }
 {
     match tokens {
-        [only] => name_of(*only).map(Variable::Name),
-        [timer, dot, output] if is_dot(*dot) => output_by(*timer, *output),
+        [only] => name_of(*only).map(SymbolicVariable::Name),
+        [timer, dot, output] if is_mark(*dot, Mark::Dot) => output_by(*timer, *output),
         _ => None,
     }
 }
 
+/// One literal and nothing else.
 #[tactic(auto, unfolding(crate::specs::Forms::only_literal))]
 fn only_literal(tokens: &[Token<'_>]) -> Option<Literal>
     ensures { result ≡ spec.only_literal (symbols_of tokens.now) }
@@ -192,6 +166,7 @@ fn only_literal(tokens: &[Token<'_>]) -> Option<Literal>
     }
 }
 
+/// A literal, or what `place` reads.
 #[tactic(auto, unfolding(crate::specs::Forms::operand))]
 fn operand<'a>(tokens: &[Token<'a>]) -> Option<Operand<'a>>
     ensures { option_map source_of result ≡ spec.operand (symbols_of tokens.now) }
@@ -202,6 +177,7 @@ fn operand<'a>(tokens: &[Token<'a>]) -> Option<Operand<'a>>
     }
 }
 
+/// The input of a timer that a word names, in letters of either case.
 #[tactic(auto, unfolding(crate::specs::Forms::input_named))]
 fn input_named(word: &str) -> Option<Input>
     ensures { result ≡ spec.input_named word.now }
@@ -221,7 +197,7 @@ fn argument<'a>(tokens: &[Token<'a>]) -> Option<Argument<'a>>
     ensures { option_map argument_of result ≡ spec.argument (symbols_of tokens.now) }
 {
     match tokens {
-        [name, assign, rest @ ..] if is_assign(*assign) => {
+        [name, assign, rest @ ..] if is_mark(*assign, Mark::Assign) => {
             let input = input_named(name_of(*name)?)?;
             let operand = operand(rest)?;
             Some(Argument { input, operand })
@@ -230,47 +206,27 @@ fn argument<'a>(tokens: &[Token<'a>]) -> Option<Argument<'a>>
     }
 }
 
-fn same_input(a: Input, b: Input) -> bool
-    ensures { result ≡ spec.same_input a b }
-{
-    match (a, b) {
-        (Input::In, Input::In) | (Input::Pt, Input::Pt) => true,
-        (Input::In, Input::Pt) | (Input::Pt, Input::In) => false,
-    }
-}
-
+/// Two arguments, which are not given to one input.
 fn both<'a>(first: Argument<'a>, second: Argument<'a>) -> Option<Arguments<'a>>
-    ensures { option_map arguments_of result ≡ spec.both (argument_of first.entry) (argument_of second.entry) }
+    ensures { option_map arguments_of result
+        ≡ spec.both (argument_of first.entry) (argument_of second.entry) }
 {
-    if same_input(first.input, second.input) {
+    if first.input == second.input {
         None
     } else {
         Some(Arguments::Two(first, second))
     }
 }
 
-/// The place of the first comma, or the number of tokens where there is none.
-fn comma_at(tokens: &[Token<'_>]) -> usize
-    ensures place { result ≡ position_or_len (λ t. spec.is_comma (symbol_of t)) tokens.now }
+/// How many tokens stand before the first of this mark, or all where there is none.
+fn mark_at(tokens: &[Token<'_>], mark: Mark) -> usize
+    ensures place { result ≡ position_or_len (λ t. spec.is_mark mark (symbol_of t)) tokens.now }
     ensures within { result ≤ length tokens.now }
 {
-    tokens.iter().take_while(|token| !is_comma(**token)).count()
-}
-
-/// The place of the first `)`, or the number of tokens where there is none.
-fn close_at(tokens: &[Token<'_>]) -> usize
-    ensures place { result ≡ position_or_len (λ t. spec.is_close (symbol_of t)) tokens.now }
-    ensures within { result ≤ length tokens.now }
-{
-    tokens.iter().take_while(|token| !is_close(**token)).count()
-}
-
-/// The place of the first colon, or the number of tokens where there is none.
-fn colon_at(tokens: &[Token<'_>]) -> usize
-    ensures place { result ≡ position_or_len (λ t. spec.is_colon (symbol_of t)) tokens.now }
-    ensures within { result ≤ length tokens.now }
-{
-    tokens.iter().take_while(|token| !is_colon(**token)).count()
+    tokens
+        .iter()
+        .take_while(|token| !is_mark(**token, mark))
+        .count()
 }
 
 /// What stands before and after the token at this place.
@@ -286,32 +242,21 @@ fn parts_at<'t, 'a>(tokens: &'t [Token<'a>], at: usize) -> Option<Halves<'t, 'a>
     }
 }
 
+/// What stands before and after the first token of this mark.
 #[tactic(auto, using(crate::proofs::FormLemmas::place_of))]
-fn at_comma<'t, 'a>(tokens: &'t [Token<'a>]) -> Option<Halves<'t, 'a>>
-    ensures { option_map halves_of result ≡ spec.parted spec.is_comma (symbols_of tokens.now) }
+fn parted<'t, 'a>(tokens: &'t [Token<'a>], mark: Mark) -> Option<Halves<'t, 'a>>
+    ensures { option_map halves_of result ≡ spec.parted mark (symbols_of tokens.now) }
 {
-    parts_at(tokens, comma_at(tokens))
-}
-
-#[tactic(auto, using(crate::proofs::FormLemmas::place_of))]
-fn at_close<'t, 'a>(tokens: &'t [Token<'a>]) -> Option<Halves<'t, 'a>>
-    ensures { option_map halves_of result ≡ spec.parted spec.is_close (symbols_of tokens.now) }
-{
-    parts_at(tokens, close_at(tokens))
-}
-
-#[tactic(auto, using(crate::proofs::FormLemmas::place_of))]
-fn at_colon<'t, 'a>(tokens: &'t [Token<'a>]) -> Option<Halves<'t, 'a>>
-    ensures { option_map halves_of result ≡ spec.parted spec.is_colon (symbols_of tokens.now) }
-{
-    parts_at(tokens, colon_at(tokens))
+    parts_at(tokens, mark_at(tokens, mark))
 }
 
 /// One argument or two.
 fn argument_list<'a>(tokens: &[Token<'a>]) -> Option<Arguments<'a>>
-    ensures { option_map arguments_of result ≡ spec.argument_list (symbols_of tokens.now) (spec.parted spec.is_comma (symbols_of tokens.now)) }
+    ensures { option_map arguments_of result
+        ≡ spec.argument_list (symbols_of tokens.now)
+        (spec.parted Mark.Comma (symbols_of tokens.now)) }
 {
-    match at_comma(tokens) {
+    match parted(tokens, Mark::Comma) {
         None => argument(tokens).map(Arguments::One),
         Some(halves) => {
             let first = argument(halves.front)?;
@@ -337,7 +282,7 @@ fn arguments<'a>(tokens: &[Token<'a>]) -> Option<Arguments<'a>>
 fn closed_arguments<'a>(tokens: &[Token<'a>]) -> Option<Arguments<'a>>
     ensures { option_map arguments_of result ≡ spec.closed_arguments (symbols_of tokens.now) }
 {
-    let halves = at_close(tokens)?;
+    let halves = parted(tokens, Mark::Close)?;
     match halves.rest {
         [] => arguments(halves.front),
         _ => None,
@@ -350,7 +295,7 @@ fn called<'a>(tokens: &[Token<'a>]) -> Option<Instruction<'a>>
     ensures { option_map action_of result ≡ spec.called (symbols_of tokens.now) }
 {
     match tokens {
-        [timer, open, rest @ ..] if is_open(*open) => {
+        [timer, open, rest @ ..] if is_mark(*open, Mark::Open) => {
             let timer = name_of(*timer)?;
             let arguments = closed_arguments(rest)?;
             Some(Instruction::Call { timer, arguments })
@@ -359,8 +304,10 @@ fn called<'a>(tokens: &[Token<'a>]) -> Option<Instruction<'a>>
     }
 }
 
+/// An instruction behind whose operator nothing stands.
 fn alone<'a>(instruction: Instruction<'a>, tokens: &[Token<'a>]) -> Option<Statement<'a>>
-    ensures { option_map statement_parts result ≡ spec.alone (action_of instruction.entry) (symbols_of tokens.now) }
+    ensures { option_map statement_parts result
+        ≡ spec.alone (action_of instruction.entry) (symbols_of tokens.now) }
 {
     if tokens.is_empty() {
         Some(Statement::Plain(instruction))
@@ -371,7 +318,8 @@ fn alone<'a>(instruction: Instruction<'a>, tokens: &[Token<'a>]) -> Option<State
 
 /// What stands behind the `(` of an operator.
 fn entered<'a>(operator: Operator, negated: bool, tokens: &[Token<'a>]) -> Option<Statement<'a>>
-    ensures { option_map statement_parts result ≡ spec.entered operator negated (symbols_of tokens.now) }
+    ensures { option_map statement_parts result
+        ≡ spec.entered operator negated (symbols_of tokens.now) }
 {
     let operand = match tokens {
         [] => None,
@@ -386,11 +334,12 @@ fn entered<'a>(operator: Operator, negated: bool, tokens: &[Token<'a>]) -> Optio
 
 /// What stands behind an operator that combines.
 fn combined<'a>(operator: Operator, negated: bool, tokens: &[Token<'a>]) -> Option<Statement<'a>>
-    ensures { option_map statement_parts result ≡ spec.combined operator negated (symbols_of tokens.now) }
+    ensures { option_map statement_parts result
+        ≡ spec.combined operator negated (symbols_of tokens.now) }
 {
     match tokens {
         [] => None,
-        [first, rest @ ..] if is_open(*first) => entered(operator, negated, rest),
+        [first, rest @ ..] if is_mark(*first, Mark::Open) => entered(operator, negated, rest),
         _ => {
             let operand = operand(tokens)?;
             Some(Statement::Plain(Instruction::Combine {
@@ -402,22 +351,28 @@ fn combined<'a>(operator: Operator, negated: bool, tokens: &[Token<'a>]) -> Opti
     }
 }
 
+/// `LD` or `LDN` with its operand.
 fn load<'a>(negated: bool, tokens: &[Token<'a>]) -> Option<Instruction<'a>>
-    ensures { option_map action_of result ≡ option_map (text.load negated) (spec.operand (symbols_of tokens.now)) }
+    ensures { option_map action_of result
+        ≡ option_map (text.load negated) (spec.operand (symbols_of tokens.now)) }
 {
     let operand = operand(tokens)?;
     Some(Instruction::Load { negated, operand })
 }
 
+/// A store with the variable that it writes.
 fn store<'a>(kind: StoreKind, tokens: &[Token<'a>]) -> Option<Instruction<'a>>
-    ensures { option_map action_of result ≡ option_map (text.store kind) (spec.place (symbols_of tokens.now)) }
+    ensures { option_map action_of result
+        ≡ option_map (text.store kind) (spec.place (symbols_of tokens.now)) }
 {
     let target = place(tokens)?;
     Some(Instruction::Store { kind, target })
 }
 
+/// A jump with its label.
 fn jump<'a>(condition: Condition, tokens: &[Token<'a>]) -> Option<Instruction<'a>>
-    ensures { option_map action_of result ≡ option_map (text.jump condition) (spec.only_name (symbols_of tokens.now)) }
+    ensures { option_map action_of result
+        ≡ option_map (text.jump condition) (spec.only_name (symbols_of tokens.now)) }
 {
     let label = only_name(tokens)?;
     Some(Instruction::Jump { condition, label })
@@ -446,11 +401,12 @@ fn tail_of(tokens: &[Token<'_>]) -> Option<Tail>
     ensures { result ≡ spec.tail (symbols_of tokens.now) }
 {
     match tokens {
-        [kind, end] if is_semicolon(*end) => Some(Tail {
+        [kind, end] if is_mark(*end, Mark::Semicolon) => Some(Tail {
             kind: type_of(*kind)?,
             initial: None,
         }),
-        [kind, assign, value, end] if is_assign(*assign) && is_semicolon(*end) => {
+        [kind, assign, value, end]
+            if is_mark(*assign, Mark::Assign) && is_mark(*end, Mark::Semicolon) => {
             let kind = elementary_of(*kind)?;
             let value = literal_of(*value)?;
             Some(Tail {
@@ -467,7 +423,7 @@ fn tail_of(tokens: &[Token<'_>]) -> Option<Tail>
 fn declaration<'t, 'a>(tokens: &'t [Token<'a>]) -> Option<Line<'t, 'a>>
     ensures { option_and_then line_parts result ≡ spec.declaration (symbols_of tokens.now) }
 {
-    let halves = at_colon(tokens)?;
+    let halves = parted(tokens, Mark::Colon)?;
     let tail = tail_of(halves.rest)?;
     Some(Line::Declaration {
         names: halves.front,
@@ -475,6 +431,7 @@ fn declaration<'t, 'a>(tokens: &'t [Token<'a>]) -> Option<Line<'t, 'a>>
     })
 }
 
+/// Whether these tokens may stand behind a label: an operator first, or nothing.
 #[tactic(auto, unfolding(crate::specs::Forms::may_follow_label))]
 fn may_follow_label(tokens: &[Token<'_>]) -> bool
     ensures { result ≡ spec.may_follow_label (symbols_of tokens.now) }
@@ -488,17 +445,19 @@ fn may_follow_label(tokens: &[Token<'_>]) -> bool
 /// What stands behind the colon of a label.
 #[tactic(auto, unfolding(crate::specs::Forms::label_rest))]
 fn label_rest<'t, 'a>(tokens: &'t [Token<'a>]) -> Option<&'t [Token<'a>]>
-    ensures { option_map (λ ts. symbols_of ts.now) result ≡ spec.label_rest (symbols_of tokens.now) }
+    ensures { option_map (λ ts. symbols_of ts.now) result
+        ≡ spec.label_rest (symbols_of tokens.now) }
 {
     match tokens {
-        [colon, rest @ ..] if is_colon(*colon) && may_follow_label(rest) => Some(rest),
+        [colon, rest @ ..] if is_mark(*colon, Mark::Colon) && may_follow_label(rest) => Some(rest),
         _ => None,
     }
 }
 
 /// An operator as a token, and what belongs to it.
 fn statement_by<'a>(first: Token<'a>, tokens: &[Token<'a>]) -> Option<Statement<'a>>
-    ensures { option_map statement_parts result ≡ spec.statement_by (symbol_of first.entry) (symbols_of tokens.now) }
+    ensures { option_map statement_parts result
+        ≡ spec.statement_by (symbol_of first.entry) (symbols_of tokens.now) }
 {
     match first {
         Token::Mnemonic(mnemonic) => statement_of(mnemonic, tokens),
@@ -520,17 +479,17 @@ fn labelled<'t, 'a>(label: &'a str, tokens: &'t [Token<'a>]) -> Option<Line<'t, 
     }
 }
 
-/// A line that begins with a word of the frame.
-#[tactic(auto, unfolding(crate::specs::Forms::framed))]
-fn framed<'t, 'a>(word: Frame, tokens: &'t [Token<'a>]) -> Option<Line<'t, 'a>>
-    ensures { option_and_then line_parts result ≡ spec.framed word (symbols_of tokens.now) }
+/// A line that begins with a word of the keyword.
+#[tactic(auto, unfolding(crate::specs::Forms::keyword_line))]
+fn keyword_line<'t, 'a>(word: Keyword, tokens: &'t [Token<'a>]) -> Option<Line<'t, 'a>>
+    ensures { option_and_then line_parts result ≡ spec.keyword_line word (symbols_of tokens.now) }
 {
     let line = match word {
-        Frame::Program => return only_name(tokens).map(Line::Heading),
-        Frame::EndProgram => Line::Ending,
-        Frame::Var => Line::Opening(Scope::Local),
-        Frame::VarExternal => Line::Opening(Scope::External),
-        Frame::EndVar => Line::Closing,
+        Keyword::Program => return only_name(tokens).map(Line::Heading),
+        Keyword::EndProgram => Line::Ending,
+        Keyword::Var => Line::Opening(Scope::Local),
+        Keyword::VarExternal => Line::Opening(Scope::External),
+        Keyword::EndVar => Line::Closing,
     };
     if tokens.is_empty() { Some(line) } else { None }
 }
@@ -542,7 +501,8 @@ fn named_line<'t, 'a>(
     rest: &'t [Token<'a>],
     tokens: &'t [Token<'a>],
 ) -> Option<Line<'t, 'a>>
-    ensures { option_and_then line_parts result ≡ spec.named_line name.now (symbols_of rest.now) (symbols_of tokens.now) }
+    ensures { option_and_then line_parts result
+        ≡ spec.named_line name.now (symbols_of rest.now) (symbols_of tokens.now) }
 {
     match label_rest(rest) {
         Some(behind) => labelled(name, behind),
@@ -550,6 +510,7 @@ fn named_line<'t, 'a>(
     }
 }
 
+/// A line that begins with a mark: `)` alone.
 #[tactic(auto, unfolding(crate::specs::Forms::marked))]
 fn marked<'t, 'a>(mark: Mark, tokens: &'t [Token<'a>]) -> Option<Line<'t, 'a>>
     ensures { option_and_then line_parts result ≡ spec.marked mark (symbols_of tokens.now) }
@@ -560,6 +521,7 @@ fn marked<'t, 'a>(mark: Mark, tokens: &'t [Token<'a>]) -> Option<Line<'t, 'a>>
     }
 }
 
+/// A line that begins with an operator.
 fn statement_line<'t, 'a>(mnemonic: Mnemonic, tokens: &'t [Token<'a>]) -> Option<Line<'t, 'a>>
     ensures { option_and_then line_parts result ≡ spec.statement mnemonic (symbols_of tokens.now) }
 {
@@ -577,24 +539,26 @@ pub(crate) fn line_of<'t, 'a>(tokens: &'t [Token<'a>]) -> Option<Line<'t, 'a>>
     };
     match *first {
         Token::Name(name) => named_line(name, rest, tokens),
-        Token::Frame(word) => framed(word, rest),
+        Token::Keyword(word) => keyword_line(word, rest),
         Token::Mnemonic(mnemonic) => statement_line(mnemonic, rest),
         Token::Mark(mark) => marked(mark, rest),
         Token::Type(_) | Token::Literal(_) => None,
     }
 }
 
+/// Whether a line that begins with this token has no other.
 fn is_single(token: Token<'_>) -> bool
     ensures { result ≡ spec.is_single (symbol_of token.entry) }
 {
     matches!(token, Token::Type(_) | Token::Literal(_) | Token::Mark(_))
 }
 
+/// Whether the second token cannot follow the first, with which a line begins.
 fn is_misplaced(first: Token<'_>, second: Token<'_>) -> bool
     ensures { result ≡ spec.is_misplaced (symbol_of first.entry) (symbol_of second.entry) }
 {
     match first {
-        Token::Name(_) => !(is_colon(second) || is_comma(second)),
+        Token::Name(_) => !(is_mark(second, Mark::Colon) || is_mark(second, Mark::Comma)),
         _ => is_single(first),
     }
 }

@@ -23,6 +23,7 @@ pub(crate) enum Lexeme<'a> {
 /// The longest name, in characters.
 const MAX_NAME: usize = 64;
 
+/// What a literal that was read, or why none was, makes of its word.
 fn literal_lexeme<'a>(read: Result<Literal, LiteralFault>) -> Lexeme<'a>
     ensures { piece_of result ≡ spec.literal_piece read }
 {
@@ -63,6 +64,7 @@ fn word_lexeme(word: &str) -> Lexeme<'_>
     }
 }
 
+/// The mark that a piece is, or `&` or `&N`.
 #[tactic(auto, unfolding(crate::specs::Symbols::mark_of))]
 fn mark_of<'a>(piece: &[u8]) -> Option<Token<'a>>
     ensures { option_map symbol_of result ≡ spec.mark_of piece.now }
@@ -81,6 +83,7 @@ fn mark_of<'a>(piece: &[u8]) -> Option<Token<'a>>
     }
 }
 
+/// Whether a piece is LF or CR LF.
 fn is_line_end(piece: &[u8]) -> bool
     ensures { result ≡ spec.is_line_end piece.now }
 {

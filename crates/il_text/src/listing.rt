@@ -15,9 +15,9 @@ ghost use Rattle.il_text.specs.Views.{action_of, declared_of, entry_of};
 ghost use Rattle.il_text.specs.declared.fault.TextFault.TheVariants.{BadLine, OutOfMemory};
 
 use crate::fault::TextFault;
-use crate::form::{Line, Statement, Tail, is_comma, line_of, name_of};
+use crate::form::{Line, Statement, Tail, is_mark, line_of, name_of};
 use crate::program::{Declaration, Instruction, Item, Literal, Operand, Operator, Scope};
-use crate::token::Token;
+use crate::token::{Mark, Token};
 use std::alloc::Global;
 use std::mem;
 
@@ -87,24 +87,28 @@ fn is_plain(instruction: Instruction<'_>) -> bool
     }
 }
 
+/// Whether an instruction is LD or LDN, with which a parenthesis begins.
 fn is_load(instruction: Instruction<'_>) -> bool
     ensures { result ≡ rules.is_load (action_of instruction.entry) }
 {
     matches!(instruction, Instruction::Load { .. })
 }
 
+/// Whether the line of PROGRAM comes next.
 fn is_start(place: Stage) -> bool
     ensures { result ≡ rules.is_start place }
 {
     matches!(place, Stage::Start)
 }
 
-fn is_between(place: Stage) -> bool
-    ensures { result ≡ rules.is_between place }
+/// Whether a declaration block may begin here.
+fn is_between_blocks(place: Stage) -> bool
+    ensures { result ≡ rules.is_between_blocks place }
 {
     matches!(place, Stage::Declarations)
 }
 
+/// The scope of the declaration block that is open, if one is.
 fn block_scope(place: Stage) -> Option<Scope>
     ensures { result ≡ rules.block_scope place }
 {
@@ -114,12 +118,14 @@ fn block_scope(place: Stage) -> Option<Scope>
     }
 }
 
+/// Whether a line of the body may stand here, the first one or a later one.
 fn is_body(place: Stage) -> bool
     ensures { result ≡ rules.is_body place }
 {
     matches!(place, Stage::Declarations | Stage::Body)
 }
 
+/// Whether a variable of the scope may have this initial value: an external has none.
 fn may_begin_with(scope: Scope, initial: Option<Literal>) -> bool
     ensures { result ≡ rules.may_begin_with scope initial }
 {
@@ -129,8 +135,10 @@ fn may_begin_with(scope: Scope, initial: Option<Literal>) -> bool
     }
 }
 
+/// Whether a line counts towards the limit of lines: it holds an instruction or `)`.
 fn has_instruction(line: Line<'_, '_>) -> bool
-    ensures { (ps : List Part) → line_parts line.entry ≡ Some ps → result ≡ spec.has_instruction ps }
+    ensures { (ps : List Part) → line_parts line.entry ≡ Some ps
+        → result ≡ spec.has_instruction ps }
 {
     match line {
         Line::Labelled(_, _) | Line::Statement(_) | Line::Leaving => true,
@@ -143,7 +151,8 @@ fn has_instruction(line: Line<'_, '_>) -> bool
     }
 }
 
-/// A line past a limit; where it is the last one, the text ends early there too, and that comes first.
+/// A line past a limit; where it is the last one, the text ends early there too, and that comes
+/// first.
 fn past_limit(position: Position, fault: TextFault) -> TextFault
     ensures { result ≡ spec.past_limit position.line position.last fault }
 {
@@ -156,6 +165,7 @@ fn past_limit(position: Position, fault: TextFault) -> TextFault
 }
 
 impl<'a> Draft<'a> {
+    /// A program of which no line has been read.
     pub(crate) fn new(alloc: Global) -> Self
         ensures { read_of result ≡ spec.none_yet }
     {
@@ -177,8 +187,12 @@ impl<'a> Draft<'a> {
         tokens: &[Token<'a>],
         position: Position,
     ) -> Result<(), TextFault>
-        ensures ok { OnOk result (spec.after_line position.line position.last (read_of self.old) (symbols_of tokens.now) ≡ Ok (read_of self.new)) }
-        ensures refused { IfErr result (λ e. e ≢ OutOfMemory → spec.after_line position.line position.last (read_of self.old) (symbols_of tokens.now) ≡ Err e) }
+        ensures ok { OnOk result
+            (spec.after_line position.line position.last (read_of self.old) (symbols_of tokens.now)
+            ≡ Ok (read_of self.new)) }
+        ensures refused { IfErr result
+            (λ e. e ≢ OutOfMemory → spec.after_line position.line position.last (read_of self.old)
+            (symbols_of tokens.now) ≡ Err e) }
     {
         let line = position.line;
         if tokens.is_empty() {
@@ -197,8 +211,12 @@ impl<'a> Draft<'a> {
     /// Counts a line that holds an instruction or `)`.
     #[tactic(auto, using(crate::proofs::ListingLemmas::length_opened), unfolding(crate::specs::Reading::bounded))]
     fn count(&mut self, position: Position) -> Result<(), TextFault>
-        ensures ok { OnOk result (spec.bounded position.line position.last self.old.instructions (reached_of self.old) ≡ Ok (read_of self.new)) }
-        ensures refused { IfErr result (λ e. spec.bounded position.line position.last self.old.instructions (reached_of self.old) ≡ Err e) }
+        ensures ok { OnOk result
+            (spec.bounded position.line position.last self.old.instructions (reached_of self.old)
+            ≡ Ok (read_of self.new)) }
+        ensures refused { IfErr result
+            (λ e. spec.bounded position.line position.last self.old.instructions
+            (reached_of self.old) ≡ Err e) }
     {
         let line = position.line;
         if self.parentheses.len() > MAX_OPEN {
@@ -214,10 +232,14 @@ impl<'a> Draft<'a> {
     /// Takes the parts of a line.
     #[tactic(auto, using(crate::proofs::ListingLemmas::steps_rules))]
     fn take_form(&mut self, form: Line<'_, 'a>, line: usize) -> Result<(), TextFault>
-        ensures ok { OnOk result (option_and_then (steps line (reached_of self.old)) (line_parts form.entry) ≡ Some (reached_of self.new)) }
+        ensures ok { OnOk result
+            (option_and_then (steps line (reached_of self.old)) (line_parts form.entry)
+            ≡ Some (reached_of self.new)) }
         ensures count { OnOk result (self.new.instructions ≡ self.old.instructions) }
         ensures bad { IfErr result (λ e. e ≢ OutOfMemory → e ≡ BadLine line) }
-        ensures none { IfErr result (λ e. e ≢ OutOfMemory → option_and_then (steps line (reached_of self.old)) (line_parts form.entry) ≡ None) }
+        ensures none { IfErr result
+            (λ e. e ≢ OutOfMemory → option_and_then (steps line (reached_of self.old))
+            (line_parts form.entry) ≡ None) }
     {
         match form {
             Line::Heading(name) => self.take_heading(name, line),
@@ -267,12 +289,15 @@ impl<'a> Draft<'a> {
         is_body(self.place) && is_some(self.items.as_slice())
     }
 
+    /// Takes the line of PROGRAM.
     #[tactic(auto, unfolding(crate::specs::Steps::step))]
     fn take_heading(&mut self, name: &'a str, line: usize) -> Result<(), TextFault>
-        ensures ok { OnOk result (step line (reached_of self.old) (heading name.now) ≡ Some (reached_of self.new)) }
+        ensures ok { OnOk result
+            (step line (reached_of self.old) (heading name.now) ≡ Some (reached_of self.new)) }
         ensures count { OnOk result (self.new.instructions ≡ self.old.instructions) }
         ensures bad { IfErr result (λ e. e ≡ BadLine line) }
-        ensures none { IfErr result (λ e. step line (reached_of self.old) (heading name.now) ≡ None) }
+        ensures none { IfErr result
+            (λ e. step line (reached_of self.old) (heading name.now) ≡ None) }
     {
         if !is_start(self.place) {
             return Err(TextFault::BadLine { line });
@@ -282,23 +307,27 @@ impl<'a> Draft<'a> {
         Ok(())
     }
 
+    /// Takes VAR or VAR_EXTERNAL.
     #[tactic(auto, unfolding(crate::specs::Steps::step))]
     fn take_opening(&mut self, scope: Scope, line: usize) -> Result<(), TextFault>
-        ensures ok { OnOk result (step line (reached_of self.old) (opening scope) ≡ Some (reached_of self.new)) }
+        ensures ok { OnOk result
+            (step line (reached_of self.old) (opening scope) ≡ Some (reached_of self.new)) }
         ensures count { OnOk result (self.new.instructions ≡ self.old.instructions) }
         ensures bad { IfErr result (λ e. e ≡ BadLine line) }
         ensures none { IfErr result (λ e. step line (reached_of self.old) (opening scope) ≡ None) }
     {
-        if !is_between(self.place) {
+        if !is_between_blocks(self.place) {
             return Err(TextFault::BadLine { line });
         }
         self.place = Stage::Block(scope);
         Ok(())
     }
 
+    /// Takes END_VAR.
     #[tactic(auto, unfolding(crate::specs::Steps::step))]
     fn take_closing(&mut self, line: usize) -> Result<(), TextFault>
-        ensures ok { OnOk result (step line (reached_of self.old) closing ≡ Some (reached_of self.new)) }
+        ensures ok { OnOk result
+            (step line (reached_of self.old) closing ≡ Some (reached_of self.new)) }
         ensures count { OnOk result (self.new.instructions ≡ self.old.instructions) }
         ensures bad { IfErr result (λ e. e ≡ BadLine line) }
         ensures none { IfErr result (λ e. step line (reached_of self.old) closing ≡ None) }
@@ -317,10 +346,14 @@ impl<'a> Draft<'a> {
         tail: Tail,
         line: usize,
     ) -> Result<(), TextFault>
-        ensures ok { OnOk result (option_and_then (steps line (reached_of self.old)) (declared_names tail (symbols_of names.now)) ≡ Some (reached_of self.new)) }
+        ensures ok { OnOk result
+            (option_and_then (steps line (reached_of self.old))
+            (declared_names tail (symbols_of names.now)) ≡ Some (reached_of self.new)) }
         ensures count { OnOk result (self.new.instructions ≡ self.old.instructions) }
         ensures bad { IfErr result (λ e. e ≢ OutOfMemory → e ≡ BadLine line) }
-        ensures none { IfErr result (λ e. e ≢ OutOfMemory → option_and_then (steps line (reached_of self.old)) (declared_names tail (symbols_of names.now)) ≡ None) }
+        ensures none { IfErr result
+            (λ e. e ≢ OutOfMemory → option_and_then (steps line (reached_of self.old))
+            (declared_names tail (symbols_of names.now)) ≡ None) }
     {
         let Some(scope) = block_scope(self.place) else {
             return Err(TextFault::BadLine { line });
@@ -333,12 +366,15 @@ impl<'a> Draft<'a> {
         Ok(())
     }
 
+    /// Takes a label.
     #[tactic(auto, unfolding(crate::specs::Steps::step))]
     fn take_label(&mut self, name: &'a str, line: usize) -> Result<(), TextFault>
-        ensures ok { OnOk result (step line (reached_of self.old) (labelling name.now) ≡ Some (reached_of self.new)) }
+        ensures ok { OnOk result
+            (step line (reached_of self.old) (labelling name.now) ≡ Some (reached_of self.new)) }
         ensures count { OnOk result (self.new.instructions ≡ self.old.instructions) }
         ensures bad { IfErr result (λ e. e ≢ OutOfMemory → e ≡ BadLine line) }
-        ensures none { IfErr result (λ e. e ≢ OutOfMemory → step line (reached_of self.old) (labelling name.now) ≡ None) }
+        ensures none { IfErr result
+            (λ e. e ≢ OutOfMemory → step line (reached_of self.old) (labelling name.now) ≡ None) }
     {
         if !self.may_stand() {
             return Err(TextFault::BadLine { line });
@@ -351,10 +387,14 @@ impl<'a> Draft<'a> {
     /// Takes an instruction. In a parenthesis the first is a load, and none leaves it.
     #[tactic(auto, unfolding(crate::specs::Steps::step))]
     fn take_acting(&mut self, instruction: Instruction<'a>, line: usize) -> Result<(), TextFault>
-        ensures ok { OnOk result (step line (reached_of self.old) (acting (action_of instruction.entry)) ≡ Some (reached_of self.new)) }
+        ensures ok { OnOk result
+            (step line (reached_of self.old) (acting (action_of instruction.entry))
+            ≡ Some (reached_of self.new)) }
         ensures count { OnOk result (self.new.instructions ≡ self.old.instructions) }
         ensures bad { IfErr result (λ e. e ≢ OutOfMemory → e ≡ BadLine line) }
-        ensures none { IfErr result (λ e. e ≢ OutOfMemory → step line (reached_of self.old) (acting (action_of instruction.entry)) ≡ None) }
+        ensures none { IfErr result
+            (λ e. e ≢ OutOfMemory → step line (reached_of self.old)
+            (acting (action_of instruction.entry)) ≡ None) }
     {
         if !self.may_act(instruction) {
             return Err(TextFault::BadLine { line });
@@ -372,10 +412,14 @@ impl<'a> Draft<'a> {
         negated: bool,
         line: usize,
     ) -> Result<(), TextFault>
-        ensures ok { OnOk result (step line (reached_of self.old) (entering operator negated) ≡ Some (reached_of self.new)) }
+        ensures ok { OnOk result
+            (step line (reached_of self.old) (entering operator negated)
+            ≡ Some (reached_of self.new)) }
         ensures count { OnOk result (self.new.instructions ≡ self.old.instructions) }
         ensures bad { IfErr result (λ e. e ≢ OutOfMemory → e ≡ BadLine line) }
-        ensures none { IfErr result (λ e. e ≢ OutOfMemory → step line (reached_of self.old) (entering operator negated) ≡ None) }
+        ensures none { IfErr result
+            (λ e. e ≢ OutOfMemory → step line (reached_of self.old) (entering operator negated)
+            ≡ None) }
     {
         if !self.may_enter() {
             return Err(TextFault::BadLine { line });
@@ -394,10 +438,12 @@ impl<'a> Draft<'a> {
     /// Takes a `)`, before which something has to stand in the parenthesis.
     #[tactic(auto, unfolding(crate::specs::Steps::step))]
     fn take_leaving(&mut self, line: usize) -> Result<(), TextFault>
-        ensures ok { OnOk result (step line (reached_of self.old) leaving ≡ Some (reached_of self.new)) }
+        ensures ok { OnOk result
+            (step line (reached_of self.old) leaving ≡ Some (reached_of self.new)) }
         ensures count { OnOk result (self.new.instructions ≡ self.old.instructions) }
         ensures bad { IfErr result (λ e. e ≢ OutOfMemory → e ≡ BadLine line) }
-        ensures none { IfErr result (λ e. e ≢ OutOfMemory → step line (reached_of self.old) leaving ≡ None) }
+        ensures none { IfErr result
+            (λ e. e ≢ OutOfMemory → step line (reached_of self.old) leaving ≡ None) }
     {
         if !self.may_leave() {
             return Err(TextFault::BadLine { line });
@@ -423,9 +469,11 @@ impl<'a> Draft<'a> {
         Ok(())
     }
 
+    /// Takes END_PROGRAM.
     #[tactic(auto, unfolding(crate::specs::Steps::step))]
     fn take_ending(&mut self, line: usize) -> Result<(), TextFault>
-        ensures ok { OnOk result (step line (reached_of self.old) ending ≡ Some (reached_of self.new)) }
+        ensures ok { OnOk result
+            (step line (reached_of self.old) ending ≡ Some (reached_of self.new)) }
         ensures count { OnOk result (self.new.instructions ≡ self.old.instructions) }
         ensures bad { IfErr result (λ e. e ≡ BadLine line) }
         ensures none { IfErr result (λ e. step line (reached_of self.old) ending ≡ None) }
@@ -437,12 +485,17 @@ impl<'a> Draft<'a> {
         Ok(())
     }
 
+    /// Takes an instruction, or an operator with `(` and its operand.
     #[tactic(auto, using(crate::proofs::ListingLemmas::steps_rules))]
     fn take_statement(&mut self, statement: Statement<'a>, line: usize) -> Result<(), TextFault>
-        ensures ok { OnOk result (steps line (reached_of self.old) (statement_parts statement.entry) ≡ Some (reached_of self.new)) }
+        ensures ok { OnOk result
+            (steps line (reached_of self.old) (statement_parts statement.entry)
+            ≡ Some (reached_of self.new)) }
         ensures count { OnOk result (self.new.instructions ≡ self.old.instructions) }
         ensures bad { IfErr result (λ e. e ≢ OutOfMemory → e ≡ BadLine line) }
-        ensures none { IfErr result (λ e. e ≢ OutOfMemory → steps line (reached_of self.old) (statement_parts statement.entry) ≡ None) }
+        ensures none { IfErr result
+            (λ e. e ≢ OutOfMemory → steps line (reached_of self.old)
+            (statement_parts statement.entry) ≡ None) }
     {
         match statement {
             Statement::Plain(instruction) => self.take_acting(instruction, line),
@@ -468,10 +521,14 @@ impl<'a> Draft<'a> {
         operand: Operand<'a>,
         line: usize,
     ) -> Result<(), TextFault>
-        ensures ok { OnOk result (steps line (reached_of self.old) (opened_parts operator negated (Some operand.entry)) ≡ Some (reached_of self.new)) }
+        ensures ok { OnOk result
+            (steps line (reached_of self.old) (opened_parts operator negated (Some operand.entry))
+            ≡ Some (reached_of self.new)) }
         ensures count { OnOk result (self.new.instructions ≡ self.old.instructions) }
         ensures bad { IfErr result (λ e. e ≢ OutOfMemory → e ≡ BadLine line) }
-        ensures none { IfErr result (λ e. e ≢ OutOfMemory → steps line (reached_of self.old) (opened_parts operator negated (Some operand.entry)) ≡ None) }
+        ensures none { IfErr result
+            (λ e. e ≢ OutOfMemory → steps line (reached_of self.old)
+            (opened_parts operator negated (Some operand.entry)) ≡ None) }
     {
         self.take_entering(operator, negated, line)?;
         let load = Instruction::Load {
@@ -482,6 +539,7 @@ impl<'a> Draft<'a> {
         Ok(())
     }
 
+    /// Takes a label and what stands behind it.
     #[tactic(auto, using(crate::proofs::ListingLemmas::steps_rules))]
     fn take_labelled(
         &mut self,
@@ -489,10 +547,14 @@ impl<'a> Draft<'a> {
         statement: Statement<'a>,
         line: usize,
     ) -> Result<(), TextFault>
-        ensures ok { OnOk result (steps line (reached_of self.old) (labelling name.now ∷ statement_parts statement.entry) ≡ Some (reached_of self.new)) }
+        ensures ok { OnOk result
+            (steps line (reached_of self.old) (labelling name.now ∷ statement_parts statement.entry)
+            ≡ Some (reached_of self.new)) }
         ensures count { OnOk result (self.new.instructions ≡ self.old.instructions) }
         ensures bad { IfErr result (λ e. e ≢ OutOfMemory → e ≡ BadLine line) }
-        ensures none { IfErr result (λ e. e ≢ OutOfMemory → steps line (reached_of self.old) (labelling name.now ∷ statement_parts statement.entry) ≡ None) }
+        ensures none { IfErr result
+            (λ e. e ≢ OutOfMemory → steps line (reached_of self.old)
+            (labelling name.now ∷ statement_parts statement.entry) ≡ None) }
     {
         self.take_label(name, line)?;
         self.take_statement(statement, line)?;
@@ -500,6 +562,7 @@ impl<'a> Draft<'a> {
     }
 }
 
+/// Whether no parenthesis is open.
 #[tactic(auto, using(crate::proofs::ListingLemmas::outside_rules))]
 fn is_outside(parentheses: &[Open<'_>]) -> bool
     ensures { result ≡ rules.is_outside (reverse (map opened_of parentheses.now)) }
@@ -507,6 +570,7 @@ fn is_outside(parentheses: &[Open<'_>]) -> bool
     parentheses.is_empty()
 }
 
+/// Whether there is an item.
 #[tactic(auto, using(crate::proofs::ListingLemmas::some_rules))]
 fn is_some(items: &[Item<'_>]) -> bool
     ensures { result ≡ rules.is_some (map entry_of items.now) }
@@ -569,7 +633,7 @@ fn declare_token<'a>(
 {
     let line = declaring.line;
     if after_name {
-        if is_comma(token) {
+        if is_mark(token, Mark::Comma) {
             return Ok(false);
         }
         return Err(TextFault::BadLine { line });

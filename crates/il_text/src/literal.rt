@@ -92,6 +92,7 @@ pub(crate) fn halves(word: &str) -> Option<(&str, &str)>
     word.split_once('#')
 }
 
+/// A number with a sign or behind a base: whether it is negative, and its magnitude.
 #[tactic(auto, using(crate::proofs::LiteralLemmas::integer_some, crate::proofs::LiteralLemmas::integer_none))]
 fn integer(word: &str) -> Option<(bool, u64)>
     ensures { result ≡ capped_signed (spec.integer word.now) }
@@ -125,6 +126,7 @@ pub(crate) fn untyped(number: Option<(bool, u64)>) -> Result<Literal, LiteralFau
     Ok(Literal::Number(signed(number)?))
 }
 
+/// The BOOL of a number, which is 0 or 1.
 fn bool_literal(value: i64) -> Result<Literal, LiteralFault>
     ensures { result ≡ spec.bool_literal value }
 {
@@ -135,6 +137,7 @@ fn bool_literal(value: i64) -> Result<Literal, LiteralFault>
     }
 }
 
+/// The INT of a number.
 fn int_literal(value: i64) -> Result<Literal, LiteralFault>
     ensures { result ≡ spec.int_literal value }
 {
@@ -145,6 +148,7 @@ fn int_literal(value: i64) -> Result<Literal, LiteralFault>
     }
 }
 
+/// The DINT of a number.
 fn dint_literal(value: i64) -> Result<Literal, LiteralFault>
     ensures { result ≡ spec.dint_literal value }
 {
@@ -155,6 +159,7 @@ fn dint_literal(value: i64) -> Result<Literal, LiteralFault>
     }
 }
 
+/// The truth value that a word names, in letters of either case.
 fn truth_of(word: &str) -> Option<bool>
     ensures { result ≡ spec.truth_of word.now }
 {
@@ -178,6 +183,7 @@ fn typed_number(word: &str) -> Result<i64, LiteralFault>
     }
 }
 
+/// What stands behind `BOOL#`: TRUE, FALSE, 0 or 1.
 #[tactic(auto, using(crate::proofs::LiteralLemmas::signed_capped), unfolding(crate::specs::Literals::typed_bool))]
 fn typed_bool(word: &str) -> Result<Literal, LiteralFault>
     ensures { result ≡ spec.typed_bool word.now }
@@ -188,6 +194,7 @@ fn typed_bool(word: &str) -> Result<Literal, LiteralFault>
     bool_literal(signed(integer(word))?)
 }
 
+/// What stands behind `INT#`.
 #[tactic(auto, unfolding(crate::specs::Literals::typed_int))]
 fn typed_int(word: &str) -> Result<Literal, LiteralFault>
     ensures { result ≡ spec.typed_int word.now }
@@ -195,6 +202,7 @@ fn typed_int(word: &str) -> Result<Literal, LiteralFault>
     int_literal(typed_number(word)?)
 }
 
+/// What stands behind `DINT#`.
 #[tactic(auto, unfolding(crate::specs::Literals::typed_dint))]
 fn typed_dint(word: &str) -> Result<Literal, LiteralFault>
     ensures { result ≡ spec.typed_dint word.now }
@@ -202,6 +210,7 @@ fn typed_dint(word: &str) -> Result<Literal, LiteralFault>
     dint_literal(typed_number(word)?)
 }
 
+/// What stands behind `LINT#`.
 #[tactic(auto, unfolding(crate::specs::Literals::typed_lint))]
 fn typed_lint(word: &str) -> Result<Literal, LiteralFault>
     ensures { result ≡ spec.typed_lint word.now }
@@ -268,6 +277,7 @@ fn part_number(digits: &[u8], begun: bool) -> Option<u64>
     }
 }
 
+/// A total with a number of units more, each of so many milliseconds, up to the cap.
 fn add_capped(total: u64, number: u64, factor: u64) -> u64
     requires { factor < 2 ^ 31 }
     ensures { result ≡ min (min total (2 ^ 32) + min number (2 ^ 32) * factor) (2 ^ 32) }
@@ -280,8 +290,10 @@ fn add_capped(total: u64, number: u64, factor: u64) -> u64
 fn part<'a>(duration: Option<Duration<'a>>, unit: &[u8], factor: u64) -> Option<Duration<'a>>
     requires some { 0 < factor }
     requires small { factor < 2 ^ 31 }
-    ensures { (before : Option spec.Duration) → capped_duration before ≡ option_map seen duration.entry
-        → capped_duration (option_and_then (spec.part unit.now factor) before) ≡ option_map seen result }
+    ensures { (before : Option spec.Duration)
+        → capped_duration before ≡ option_map seen duration.entry
+        → capped_duration (option_and_then (spec.part unit.now factor) before)
+        ≡ option_map seen result }
 {
     let duration = duration?;
     let (digits, tail) = duration.rest.split_at(number_len(duration.rest));
@@ -297,7 +309,8 @@ fn part<'a>(duration: Option<Duration<'a>>, unit: &[u8], factor: u64) -> Option<
     })
 }
 
-/// The milliseconds of a duration: parts in falling units, of which the first may pass the next unit.
+/// The milliseconds of a duration: parts in falling units, of which the first may pass the next
+/// unit.
 fn milliseconds(word: &[u8]) -> Option<u64>
     ensures { result ≡ capped_time (spec.milliseconds word.now) }
 {
@@ -320,6 +333,7 @@ fn milliseconds(word: &[u8]) -> Option<u64>
     }
 }
 
+/// What stands behind `T#` or `TIME#`.
 #[tactic(auto, using(crate::proofs::DurationLemmas::time_capped), unfolding(crate::specs::Literals::typed_time))]
 fn typed_time(word: &[u8]) -> Result<Literal, LiteralFault>
     ensures { result ≡ spec.typed_time word.now }
@@ -327,6 +341,7 @@ fn typed_time(word: &[u8]) -> Result<Literal, LiteralFault>
     time_literal(milliseconds(word))
 }
 
+/// The TIME of so many milliseconds, at most 2,147,483,647.
 fn time_literal(milliseconds: Option<u64>) -> Result<Literal, LiteralFault>
     ensures { result ≡ spec.time_literal milliseconds }
 {

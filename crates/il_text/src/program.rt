@@ -3,7 +3,7 @@ ghost use Rattle.std.specs.Prelude.{◌≡◌, map, true};
 ghost use Rattle.il_text.specs.Grammar.{rises, item_lines};
 ghost use Rattle.il_text.specs.ItemViews.{entry_of};
 
-use bay_base::types::ElementaryType;
+use bay_base::types::{ElementaryType, TimerKind};
 
 /// A program: its name, what it declares, and its items in the order of the text. The lines of the
 /// items never fall.
@@ -44,15 +44,6 @@ pub enum DeclaredType {
     Timer(TimerKind),
 }
 
-/// A timer (IEC 61131-3:2003, 2.5.2.3.4).
-#[derive(Clone, Copy, Debug)]
-pub enum TimerKind {
-    /// `TON`
-    OnDelay,
-    /// `TOF`
-    OffDelay,
-}
-
 /// A literal: its type, where it has one, and its value (IEC 61131-3:2003, 2.2).
 #[derive(Clone, Copy, Debug)]
 pub enum Literal {
@@ -81,7 +72,7 @@ pub enum Output {
 
 /// What an instruction reads or writes by name, with the spelling of the text.
 #[derive(Clone, Copy, Debug)]
-pub enum Variable<'a> {
+pub enum SymbolicVariable<'a> {
     /// A name.
     Name(&'a str),
     /// A timer's name and one of its outputs.
@@ -92,7 +83,7 @@ pub enum Variable<'a> {
 #[derive(Clone, Copy, Debug)]
 pub enum Operand<'a> {
     Literal(Literal),
-    Variable(Variable<'a>),
+    Variable(SymbolicVariable<'a>),
 }
 
 /// An operator that combines the current result with an operand (IEC 61131-3:2003, table 52).
@@ -180,10 +171,10 @@ pub enum Instruction<'a> {
     /// `ST`, `STN`, `S`, `R`: the current result is stored.
     Store {
         kind: StoreKind,
-        target: Variable<'a>,
+        target: SymbolicVariable<'a>,
     },
-    /// An operator: the current result is combined with the operand, which is negated first where it
-    /// says so.
+    /// An operator: the current result is combined with the operand, which is negated first where
+    /// it says so.
     Combine {
         operator: Operator,
         negated: bool,
@@ -219,9 +210,9 @@ pub enum Item<'a> {
         line: usize,
         instruction: Instruction<'a>,
     },
-    /// The line of `operator(`, the items of the parenthesis, and the line of its `)`. The result of the
-    /// items is negated first where it says so. An operand behind the parenthesis is a load of it on the
-    /// same line, which is the first item.
+    /// The line of `operator(`, the items of the parenthesis, and the line of its `)`. The result
+    /// of the items is negated first where it says so. An operand behind the parenthesis is a load
+    /// of it on the same line, which is the first item.
     Block {
         line: usize,
         operator: Operator,

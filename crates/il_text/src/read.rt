@@ -33,22 +33,26 @@ struct Reader<'a> {
     ghost line_within: { line ≤ at + 1 },
 }
 
-/// Reads a program in Instruction List (IEC 61131-3:2003, 3.2 and annex B.2.1). The first faulty line
-/// is the refusal; within a line a bad token or literal comes before a bad line, and the leftmost of
-/// those before the others, then a bad line, then a parenthesis too deep, then a line too many. A text
-/// that ends early is a bad line at its last line. The lines of the items never fall.
+/// Reads a program in Instruction List (IEC 61131-3:2003, 3.2 and annex B.2.1). The first faulty
+/// line is the refusal; within a line a bad token or literal comes before a bad line, and the
+/// leftmost of those before the others, then a bad line, then a parenthesis too deep, then a line
+/// too many. A text that ends early is a bad line at its last line. The lines of the items never
+/// fall.
 pub fn read_program<'a>(alloc: Global, text: &'a str) -> Result<Program<'a>, TextFault>
     ensures ok { IfOk result (λ program. ReadsAs text.now (Ok (plain_program program))) }
     ensures refused { IfErr result (λ fault. fault ≢ OutOfMemory → ReadsAs text.now (Err fault)) }
-    ensures lines { IfOk result (λ program. rises 0 (item_lines (plain_program program).items) ≡ true) }
+    ensures lines { IfOk result
+        (λ program. rises 0 (item_lines (plain_program program).items) ≡ true) }
 {
     let program = read_lines(alloc, text)?;
     Ok(program)
 }
 
+/// Reads the lines of a text, from the first to the last.
 fn read_lines<'a>(alloc: Global, text: &'a str) -> Result<Program<'a>, TextFault>
     ensures ok { IfOk result (λ program. program_of text.now ≡ Ok (plain_program program)) }
-    ensures refused { IfErr result (λ fault. fault ≢ OutOfMemory → program_of text.now ≡ Err fault) }
+    ensures refused { IfErr result
+        (λ fault. fault ≢ OutOfMemory → program_of text.now ≡ Err fault) }
 {
     let mut reader = Reader {
         text,

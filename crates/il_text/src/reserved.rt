@@ -4,19 +4,19 @@ ghost use Rattle.il_text.specs.TokenViews.{symbol_of};
 ghost use Rattle.il_text.specs.Words as spec;
 ghost use Rattle.il_text.specs.declared.token.Mnemonic.TheVariants.{Combine};
 
-use crate::program::{
-    Condition, Conversion, DeclaredType, Literal, Operator, StoreKind, TimerKind,
-};
-use crate::token::{Frame, Mnemonic, Token};
-use bay_base::types::ElementaryType;
+use crate::program::{Condition, Conversion, DeclaredType, Literal, Operator, StoreKind};
+use crate::token::{Keyword, Mnemonic, Token};
+use bay_base::types::{ElementaryType, TimerKind};
 use bay_base::words::{ReservedWord, reserved_word};
 
+/// The operator of a line that combines the current result with an operand.
 pub(crate) fn combine(operator: Operator, negated: bool) -> Mnemonic
     ensures { result ≡ Combine operator negated }
 {
     Mnemonic::Combine { operator, negated }
 }
 
+/// The token that each reserved word is.
 fn token_of<'a>(word: ReservedWord) -> Token<'a>
     ensures { symbol_of result ≡ spec.symbol_of_word word }
 {
@@ -54,11 +54,11 @@ fn token_of<'a>(word: ReservedWord) -> Token<'a>
         ReservedWord::Retcn => Token::Mnemonic(Mnemonic::Return(Condition::IfFalse)),
         ReservedWord::IntToDint => Token::Mnemonic(Mnemonic::Convert(Conversion::IntToDint)),
         ReservedWord::DintToLint => Token::Mnemonic(Mnemonic::Convert(Conversion::DintToLint)),
-        ReservedWord::Program => Token::Frame(Frame::Program),
-        ReservedWord::EndProgram => Token::Frame(Frame::EndProgram),
-        ReservedWord::Var => Token::Frame(Frame::Var),
-        ReservedWord::VarExternal => Token::Frame(Frame::VarExternal),
-        ReservedWord::EndVar => Token::Frame(Frame::EndVar),
+        ReservedWord::Program => Token::Keyword(Keyword::Program),
+        ReservedWord::EndProgram => Token::Keyword(Keyword::EndProgram),
+        ReservedWord::Var => Token::Keyword(Keyword::Var),
+        ReservedWord::VarExternal => Token::Keyword(Keyword::VarExternal),
+        ReservedWord::EndVar => Token::Keyword(Keyword::EndVar),
         ReservedWord::Bool => Token::Type(DeclaredType::Elementary(ElementaryType::Bool)),
         ReservedWord::Int => Token::Type(DeclaredType::Elementary(ElementaryType::Int)),
         ReservedWord::Dint => Token::Type(DeclaredType::Elementary(ElementaryType::Dint)),

@@ -1,9 +1,9 @@
 // The tokens of a text.
 use crate::program::{Condition, Conversion, DeclaredType, Literal, Operator, StoreKind};
 
-/// A word of a program's frame.
+/// A word of a program's keyword.
 #[derive(Clone, Copy)]
-pub enum Frame {
+pub enum Keyword {
     Program,
     EndProgram,
     Var,
@@ -25,7 +25,7 @@ pub enum Mnemonic {
 }
 
 /// A mark of a line.
-#[derive(Clone, Copy)]
+#[derive(Clone, Copy, PartialEq, Eq)]
 pub enum Mark {
     Colon,
     Assign,
@@ -40,7 +40,7 @@ pub enum Mark {
 #[derive(Clone, Copy)]
 pub(crate) enum Token<'a> {
     Name(&'a str),
-    Frame(Frame),
+    Keyword(Keyword),
     Type(DeclaredType),
     Literal(Literal),
     Mnemonic(Mnemonic),

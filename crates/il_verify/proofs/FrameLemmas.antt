@@ -3,59 +3,73 @@ use Rattle.std.proofs.Common.{◌≡◌, ℕ, ◌≤◌, max, List, [], ◌∷�
 use Rattle.std.proofs.lemmas.List.{reverse-reverse, length-reverse}
 use Rattle.std.proofs.lemmas.Bool.{cases_lt}
 use Rattle.std.specs.Prelude.{option_map, Result, Ok, Err, IfErr, IfOk}
-use Rattle.il_image.specs.declared.kind.Kind.{Kind}
+use Rattle.il_image.specs.declared.kind.CellKind.{CellKind}
 use Rattle.il_image.specs.Kinds.{AreWithin}
 use Rattle.il_image.proofs.KindLemmas.{join_over, join_least}
 use Rattle.il_verify.specs.declared.frame.Frame.{Frame}
-use Rattle.il_verify.specs.Frames.{Clashing, Grows, Mark, joins, mark_of}
+use Rattle.il_verify.specs.Frames.{Clashing, Grows, PlainFrame, join_all, plain_frame}
 use Rattle.il_verify.proofs.EffectLemmas.{some_same}
 use Rattle.il_verify.proofs.WithinLemmas.{all_within_along, all_within_self, within_reverse}
 
-joins_over : (xs ys : List Kind) → length xs ≡ length ys → AreWithin xs (joins xs ys) × AreWithin ys (joins xs ys)
-joins_over [] [] e = (tt, tt)
-joins_over [] (y ∷ ys) e = absurd (omega arith)
-joins_over (x ∷ xs) [] e = absurd (omega arith)
-joins_over (x ∷ xs) (y ∷ ys) e =
-    let more = joins_over xs ys (omega arith) in
+join_all_over : (xs ys : List CellKind) → length xs ≡ length ys
+    → AreWithin xs (join_all xs ys) × AreWithin ys (join_all xs ys)
+join_all_over [] [] e = (tt, tt)
+join_all_over [] (y ∷ ys) e = absurd (omega arith)
+join_all_over (x ∷ xs) [] e = absurd (omega arith)
+join_all_over (x ∷ xs) (y ∷ ys) e =
+    let more = join_all_over xs ys (omega arith) in
     let here = join_over x y in
     ((here.0, more.0), (here.1, more.1))
 
-joins_least : (xs ys top : List Kind) → AreWithin xs top → AreWithin ys top → AreWithin (joins xs ys) top
-joins_least [] [] top h g = h
-joins_least [] (y ∷ ys) top h g = h
-joins_least (x ∷ xs) [] top h g = h
-joins_least (x ∷ xs) (y ∷ ys) [] h g = absurd h
-joins_least (x ∷ xs) (y ∷ ys) (t ∷ top) h g = (join_least x y t h.0 g.0, joins_least xs ys top h.1 g.1)
+join_all_least : (xs ys top : List CellKind) → AreWithin xs top → AreWithin ys top
+    → AreWithin (join_all xs ys) top
+join_all_least [] [] top h g = h
+join_all_least [] (y ∷ ys) top h g = h
+join_all_least (x ∷ xs) [] top h g = h
+join_all_least (x ∷ xs) (y ∷ ys) [] h g = absurd h
+join_all_least (x ∷ xs) (y ∷ ys) (t ∷ top) h g =
+    (join_least x y t h.0 g.0, join_all_least xs ys top h.1 g.1)
 
-joins_least_reversed : (xs ys top : List Kind) → AreWithin (reverse xs) top → AreWithin (reverse ys) top → AreWithin (reverse (joins xs ys)) top
-joins_least_reversed xs ys top h g =
-    let h2 : AreWithin xs (reverse top) = subst (λ (v : List Kind). AreWithin v (reverse top)) (reverse-reverse xs) (within_reverse (reverse xs) top h) in
-    let g2 : AreWithin ys (reverse top) = subst (λ (v : List Kind). AreWithin v (reverse top)) (reverse-reverse ys) (within_reverse (reverse ys) top g) in
-    subst (AreWithin (reverse (joins xs ys))) (reverse-reverse top) (within_reverse (joins xs ys) (reverse top) (joins_least xs ys (reverse top) h2 g2))
+join_all_least_reversed : (xs ys top : List CellKind) → AreWithin (reverse xs) top
+    → AreWithin (reverse ys) top → AreWithin (reverse (join_all xs ys)) top
+join_all_least_reversed xs ys top h g =
+    let h2 : AreWithin xs (reverse top) =
+    subst (λ (v : List CellKind). AreWithin v (reverse top)) (reverse-reverse xs)
+    (within_reverse (reverse xs) top h) in
+    let g2 : AreWithin ys (reverse top) =
+    subst (λ (v : List CellKind). AreWithin v (reverse top)) (reverse-reverse ys)
+    (within_reverse (reverse ys) top g) in
+    subst (AreWithin (reverse (join_all xs ys))) (reverse-reverse top)
+    (within_reverse (join_all xs ys) (reverse top) (join_all_least xs ys (reverse top) h2 g2))
 
-abbrev pub mark : List Kind → ℕ → Mark
-mark kinds longest = record { kinds = reverse kinds; longest = longest }
+abbrev pub plain : List CellKind → ℕ → PlainFrame
+plain kinds longest = record { kinds = reverse kinds; longest = longest }
 
 larger : (a b : ℕ) → (max a b ≡ b) ⊎ (max a b ≡ a)
 larger a b = elim (cases_lt a b) [ inl h ↦ inl (omega arith) | inr h ↦ inr (omega arith) ]
 
-which : (a b : ℕ) (old : Mark) → old.longest ≡ a → (max a b ≡ b) ⊎ ((m : Mark) × (Some old ≡ Some m) × (max a b ≡ m.longest))
+which : (a b : ℕ) (old : PlainFrame) → old.longest ≡ a
+    → (max a b ≡ b) ⊎ ((m : PlainFrame) × (Some old ≡ Some m) × (max a b ≡ m.longest))
 which a b old e = elim (larger a b) [ inl h ↦ inl h | inr h ↦ inr (old, refl, h ∙ sym e) ]
 
-pub grown : (olds news : List Kind) (a b : ℕ) → length olds ≡ length news → Grows (mark news b) (Some (mark olds a)) (mark (joins olds news) (max a b))
+pub grown : (olds news : List CellKind) (a b : ℕ) → length olds ≡ length news
+    → Grows (plain news b) (Some (plain olds a)) (plain (join_all olds news) (max a b))
 grown olds news a b e =
-    let over = joins_over olds news e in
+    let over = join_all_over olds news e in
     record {
-      over = within_reverse news (joins olds news) over.1;
-      keeps = λ m is. let same : mark olds a ≡ m = some_same _ m is in subst (λ (v : Mark). AreWithin v.kinds (reverse (joins olds news))) same (within_reverse olds (joins olds news) over.0);
-      least = λ top h g. joins_least_reversed olds news top (g (mark olds a) refl) h;
+      over = within_reverse news (join_all olds news) over.1;
+      keeps = λ m is. let same : plain olds a ≡ m = some_same _ m is in
+          subst (λ (v : PlainFrame). AreWithin v.kinds (reverse (join_all olds news))) same
+          (within_reverse olds (join_all olds news) over.0);
+      least = λ top h g. join_all_least_reversed olds news top (g (plain olds a) refl) h;
       longer = omega arith;
-      keeps_longer = λ m is. let same : mark olds a ≡ m = some_same _ m is in subst (λ (v : Mark). v.longest ≤ max a b) same (omega arith);
-      from = which a b (mark olds a) refl;
+      keeps_longer = λ m is. let same : plain olds a ≡ m =
+          some_same _ m is in subst (λ (v : PlainFrame). v.longest ≤ max a b) same (omega arith);
+      from = which a b (plain olds a) refl;
     }
 
 -- A place that nothing has come to.
-pub begun : (news : List Kind) (b : ℕ) → Grows (mark news b) None (mark news b)
+pub begun : (news : List CellKind) (b : ℕ) → Grows (plain news b) None (plain news b)
 begun news b = record {
   over = all_within_self (reverse news);
   keeps = λ m is. absurd cc;
@@ -65,38 +79,56 @@ begun news b = record {
   from = inl refl;
 }
 
-pub joined_grows : (olds news kinds : List Kind) (a b c : ℕ) → length olds ≡ length news → kinds ≡ joins olds news → c ≡ max a b → Grows (mark news b) (Some (mark olds a)) (mark kinds c)
+pub joined_grows : (olds news kinds : List CellKind) (a b c : ℕ) → length olds ≡ length news
+    → kinds ≡ join_all olds news → c ≡ max a b
+    → Grows (plain news b) (Some (plain olds a)) (plain kinds c)
 joined_grows olds news kinds a b c e same larger =
-    subst (λ (v : List Kind). Grows (mark news b) (Some (mark olds a)) (mark v c)) (sym same)
-    (subst (λ (n : ℕ). Grows (mark news b) (Some (mark olds a)) (mark (joins olds news) n)) (sym larger) (grown olds news a b e))
+    subst (λ (v : List CellKind). Grows (plain news b) (Some (plain olds a)) (plain v c)) (sym same)
+    (subst (λ (n : ℕ). Grows (plain news b) (Some (plain olds a)) (plain (join_all olds news) n))
+    (sym larger) (grown olds news a b e))
 
-pub begun_grows : (o : Option Frame) (news kinds : List Kind) (b : ℕ) → o ≡ None → kinds ≡ news → Grows (mark news b) (option_map mark_of o) (mark kinds b)
+pub begun_grows : (o : Option Frame) (news kinds : List CellKind) (b : ℕ) → o ≡ None → kinds ≡ news
+    → Grows (plain news b) (option_map plain_frame o) (plain kinds b)
 begun_grows o news kinds b is same =
-    subst (λ (v : Option Frame). Grows (mark news b) (option_map mark_of v) (mark kinds b)) (sym is)
-    (subst (λ (v : List Kind). Grows (mark news b) None (mark v b)) (sym same) (begun news b))
+    subst (λ (v : Option Frame). Grows (plain news b) (option_map plain_frame v) (plain kinds b))
+    (sym is)
+    (subst (λ (v : List CellKind). Grows (plain news b) None (plain v b)) (sym same) (begun news b))
 
-pub grows_along : (come : Mark) (old : Option Mark) (mid new : Mark) → Grows come old mid → Grows come (Some mid) new → Grows come old new
+pub grows_along : (come : PlainFrame) (old : Option PlainFrame) (mid new : PlainFrame)
+    → Grows come old mid → Grows come (Some mid) new → Grows come old new
 grows_along come old mid new h g = record {
   over = g.over;
   keeps = λ m is. all_within_along m.kinds mid.kinds new.kinds (h.keeps m is) (g.keeps mid refl);
-  least = λ top c o. g.least top c (λ m is. subst (λ (v : Mark). AreWithin v.kinds top) (some_same mid m is) (h.least top c o));
+  least = λ top c o. g.least top c
+      (λ m is. subst (λ (v : PlainFrame). AreWithin v.kinds top) (some_same mid m is)
+      (h.least top c o));
   longer = g.longer;
-  keeps_longer = λ m is. let first : m.longest ≤ mid.longest = h.keeps_longer m is in let then : mid.longest ≤ new.longest = g.keeps_longer mid refl in omega arith;
+  keeps_longer = λ m is. let first : m.longest ≤ mid.longest = h.keeps_longer m is in
+      let then : mid.longest ≤ new.longest = g.keeps_longer mid refl in omega arith;
   from = elim g.from [
     | inl e ↦ inl e
-    | inr w ↦ (let same : mid ≡ w.0 = some_same mid w.0 w.1 in let e : new.longest ≡ mid.longest = w.2 ∙ ap (λ (v : Mark). v.longest) (sym same) in
+    | inr w ↦ (let same : mid ≡ w.0 = some_same mid w.0 w.1 in
+        let e : new.longest ≡ mid.longest = w.2 ∙ ap (λ (v : PlainFrame). v.longest) (sym same) in
         elim h.from [ inl f ↦ inl (e ∙ f) | inr v ↦ inr (v.0, v.1, e ∙ v.2) ])
   ];
 }
 
 -- kinds of another number than those of the place
-pub clash_of : (o : Option Frame) (frame : Frame) (kinds : List Kind) → o ≡ Some frame → (length frame.kinds.items ≡ length kinds → ⊥) → Clashing (option_map mark_of o) (reverse kinds)
-clash_of o frame kinds is ne = (mark_of frame, ap (option_map mark_of) is, λ e. ne (sym (length-reverse frame.kinds.items) ∙ e ∙ length-reverse kinds))
+pub clash_of : (o : Option Frame) (frame : Frame) (kinds : List CellKind) → o ≡ Some frame
+    → (length frame.kinds.items ≡ length kinds → ⊥)
+    → Clashing (option_map plain_frame o) (reverse kinds)
+clash_of o frame kinds is ne = (
+  plain_frame frame,
+  ap (option_map plain_frame) is,
+  λ e. ne (sym (length-reverse frame.kinds.items) ∙ e ∙ length-reverse kinds),
+)
 
-pub if_err_weaker : {T E : Type 0} (r : Result T E) (P Q : E → Type 0) → ((e : E) → P e → Q e) → IfErr r P → IfErr r Q
+pub if_err_weaker : {T E : Type 0} (r : Result T E) (P Q : E → Type 0) → ((e : E) → P e → Q e)
+    → IfErr r P → IfErr r Q
 if_err_weaker (Ok x) P Q f h = tt
 if_err_weaker (Err e) P Q f h = f e h
 
-pub if_ok_weaker : {T E : Type 0} (r : Result T E) (P Q : T → Type 0) → ((x : T) → P x → Q x) → IfOk r P → IfOk r Q
+pub if_ok_weaker : {T E : Type 0} (r : Result T E) (P Q : T → Type 0) → ((x : T) → P x → Q x)
+    → IfOk r P → IfOk r Q
 if_ok_weaker (Ok x) P Q f h = f x h
 if_ok_weaker (Err e) P Q f h = tt

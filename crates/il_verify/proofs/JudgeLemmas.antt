@@ -6,20 +6,21 @@ use Rattle.std.proofs.lemmas.Bool.{cases_lt, lt-ltb, le-ltb}
 use Rattle.std.proofs.lemmas.List.{length-map, map-append}
 use Rattle.std.proofs.lemmas.Option.{slice_get_within}
 use Rattle.std.proofs.lemmas.Simd.{map-map}
+use Rattle.bay_base.specs.Options.{◌>>=◌}
 use Rattle.bay_base.specs.declared.types.ElementaryType.{ElementaryType}
 use Rattle.bay_base.specs.declared.types.ElementaryType.TheVariants as elementary
 use Rattle.bay_base.specs.Types.{same_type}
 use Rattle.il_image.specs.declared.arithmetic.Width.{Width}
 use Rattle.il_image.specs.declared.instr.Instr.{Instr}
 use Rattle.il_image.specs.declared.instr.Instr.TheVariants.{Halt, Push, Drop, Slot, Not, Combine, Compute, Compare, Widen, Jump, Timer}
-use Rattle.il_image.specs.declared.kind.Kind.{Kind}
-use Rattle.il_image.specs.declared.kind.Kind.TheVariants.{Any, Plain, NotZero}
+use Rattle.il_image.specs.declared.kind.CellKind.{CellKind}
+use Rattle.il_image.specs.declared.kind.CellKind.TheVariants.{Any, Plain, NotZero}
 use Rattle.il_image.specs.declared.opcode.SlotUse.TheVariants.{Load, Store, SetIf, ResetIf}
 use Rattle.il_image.specs.declared.opcode.Widening.TheVariants.{IntToDint, DintToLint}
 use Rattle.il_image.specs.declared.opcode.When.TheVariants.{Always, IfTrue, IfFalse}
 use Rattle.il_image.specs.declared.opcode.TimerUse.TheVariants.{SetInput, SetPreset, Run, LoadOutput, LoadElapsed}
 use Rattle.il_image.specs.Arithmetic.{type_of_width}
-use Rattle.il_image.specs.Effects.{◌>>=◌, below, effect, looks_at, second_kind, two, with_timer, with_truth}
+use Rattle.il_image.specs.Effects.{below, effect, looks_at, second_kind, two, with_timer, with_truth}
 use Rattle.il_image.specs.Images.{Image}
 use Rattle.il_image.specs.Kinds.{is_within}
 use Rattle.il_image.specs.Machine.{divides}
@@ -27,7 +28,7 @@ use Rattle.il_image.specs.Tables.{slot_types}
 use Rattle.il_image.proofs.KindLemmas.{same_self, within_along}
 use Rattle.il_verify.specs.declared.fault.VerifyFault.{VerifyFault}
 use Rattle.il_verify.specs.declared.fault.VerifyFault.TheVariants.{StackEmpty, StackFull, WrongKind, ZeroDivisor, NoSlot, NoTimer, BadTarget, Unreachable, DepthClash, NoHalt, BadBinding, OutOfMemory}
-use Rattle.il_verify.specs.declared.slots.Slot.{Slot as UsedSlot}
+use Rattle.il_verify.specs.declared.slots.SlotType.{SlotType}
 use Rattle.il_verify.specs.Judging.{◌or_else◌, fault_of, is_full, misfit, missing, operands, undivided, unfit, where_so, writes_read_only}
 use Rattle.il_verify.specs.Slots.{point_slot, slots_of, types_of, variable_slot}
 use Rattle.il_verify.proofs.EffectLemmas.{some_same, bind_some}
@@ -35,8 +36,12 @@ use Rattle.il_verify.proofs.EffectLemmas.{some_same, bind_some}
 pub types_are : (image : Image) → types_of (slots_of image) ≡ slot_types image
 unfolding slots_of
 types_are image =
-    rw (map-append (λ (s : UsedSlot). s.elementary) (map point_slot image.points) (map variable_slot image.variables))
-    (rw (map-map (λ (s : UsedSlot). s.elementary) point_slot image.points, map-map (λ (s : UsedSlot). s.elementary) variable_slot image.variables) refl)
+    rw (map-append (λ (s : SlotType). s.elementary) (map point_slot image.points)
+    (map variable_slot image.variables))
+    (rw (
+      map-map (λ (s : SlotType). s.elementary) point_slot image.points,
+      map-map (λ (s : SlotType). s.elementary) variable_slot image.variables,
+    ) refl)
 
 -- ---- faults one behind the other
 
@@ -53,37 +58,51 @@ not_where b f e = rw e refl
 
 -- ---- what is allowed
 
-has_slot : (slots : List UsedSlot) (n : ℕ) (t : ElementaryType) → slice_get (types_of slots) n ≡ Some t → nat_lt n (length slots) ≡ true
+has_slot : (slots : List SlotType) (n : ℕ) (t : ElementaryType)
+    → slice_get (types_of slots) n ≡ Some t → nat_lt n (length slots) ≡ true
 has_slot slots n t e =
     let within : n < length (types_of slots) = slice_get_within (types_of slots) n t e in
-    let size : length (types_of slots) ≡ length slots = length-map slots (λ (s : UsedSlot). s.elementary) in
+    let size : length (types_of slots) ≡ length slots =
+    length-map slots (λ (s : SlotType). s.elementary) in
     lt-ltb n (length slots) (omega arith)
 
-slot_there : (slots : List UsedSlot) (n : ℕ) (f : ElementaryType → Option (List Kind)) (gives : List Kind) → (slice_get (types_of slots) n >>= f) ≡ Some gives → cond (nat_lt n (length slots)) None (Some NoSlot) ≡ None
-slot_there slots n f gives e = let t = bind_some (slice_get (types_of slots) n) f gives e in rw (has_slot slots n t.0 t.1) refl
+slot_there : (slots : List SlotType) (n : ℕ) (f : ElementaryType → Option (List CellKind))
+    (gives : List CellKind) → (slice_get (types_of slots) n >>= f) ≡ Some gives
+    → cond (nat_lt n (length slots)) None (Some NoSlot) ≡ None
+slot_there slots n f gives e = let t =
+    bind_some (slice_get (types_of slots) n) f gives e in rw (has_slot slots n t.0 t.1) refl
 
-timer_there : (timers n : ℕ) (made : Option (List Kind)) (gives : List Kind) → with_timer timers n made ≡ Some gives → cond (nat_lt n timers) None (Some NoTimer) ≡ None
+timer_there : (timers n : ℕ) (made : Option (List CellKind)) (gives : List CellKind)
+    → with_timer timers n made ≡ Some gives → cond (nat_lt n timers) None (Some NoTimer) ≡ None
 timer_there timers n made gives e = go (nat_lt n timers) e
   where
     go : (b : Bool) → cond b made None ≡ Some gives → cond b None (Some NoTimer) ≡ None
     go true e = refl
     go false e = absurd cc
 
-timer_made : (timers n : ℕ) (made : Option (List Kind)) (gives : List Kind) → with_timer timers n made ≡ Some gives → made ≡ Some gives
+timer_made : (timers n : ℕ) (made : Option (List CellKind)) (gives : List CellKind)
+    → with_timer timers n made ≡ Some gives → made ≡ Some gives
 timer_made timers n made gives e = go (nat_lt n timers) e
   where
     go : (b : Bool) → cond b made None ≡ Some gives → made ≡ Some gives
     go true e = e
     go false e = absurd cc
 
-nothing_missing : (slots : List UsedSlot) (timers : ℕ) (i : Instr) (kinds gives : List Kind) → effect (types_of slots) timers i kinds ≡ Some gives → missing (length slots) timers i ≡ None
+nothing_missing : (slots : List SlotType) (timers : ℕ) (i : Instr) (kinds gives : List CellKind)
+    → effect (types_of slots) timers i kinds ≡ Some gives → missing (length slots) timers i ≡ None
 nothing_missing slots timers Halt kinds gives e = refl
 nothing_missing slots timers (Push v) kinds gives e = refl
 nothing_missing slots timers Drop kinds gives e = refl
-nothing_missing slots timers (Slot Load n) kinds gives e = slot_there slots n (λ (t : ElementaryType). Some (Plain t ∷ kinds)) gives e
-nothing_missing slots timers (Slot Store n) kinds gives e = slot_there slots n (λ (t : ElementaryType). looks_at (Plain t) kinds) gives e
-nothing_missing slots timers (Slot SetIf n) kinds gives e = slot_there slots n (λ (t : ElementaryType). cond (same_type t elementary.Bool) (looks_at (Plain elementary.Bool) kinds) None) gives e
-nothing_missing slots timers (Slot ResetIf n) kinds gives e = slot_there slots n (λ (t : ElementaryType). cond (same_type t elementary.Bool) (looks_at (Plain elementary.Bool) kinds) None) gives e
+nothing_missing slots timers (Slot Load n) kinds gives e =
+    slot_there slots n (λ (t : ElementaryType). Some (Plain t ∷ kinds)) gives e
+nothing_missing slots timers (Slot Store n) kinds gives e =
+    slot_there slots n (λ (t : ElementaryType). looks_at (Plain t) kinds) gives e
+nothing_missing slots timers (Slot SetIf n) kinds gives e =
+    slot_there slots n (λ (t : ElementaryType). cond (same_type t elementary.Bool)
+    (looks_at (Plain elementary.Bool) kinds) None) gives e
+nothing_missing slots timers (Slot ResetIf n) kinds gives e =
+    slot_there slots n (λ (t : ElementaryType). cond (same_type t elementary.Bool)
+    (looks_at (Plain elementary.Bool) kinds) None) gives e
 nothing_missing slots timers Not kinds gives e = refl
 nothing_missing slots timers (Combine c) kinds gives e = refl
 nothing_missing slots timers (Compute o w) kinds gives e = refl
@@ -98,51 +117,67 @@ nothing_missing slots timers (Timer LoadElapsed n) kinds gives e = timer_there t
 
 -- ---- enough values
 
-below_some : (wanted : Kind) (kinds rest : List Kind) → below wanted kinds ≡ Some rest → length kinds ≡ suc (length rest)
+below_some : (wanted : CellKind) (kinds rest : List CellKind) → below wanted kinds ≡ Some rest
+    → length kinds ≡ suc (length rest)
 below_some wanted [] rest e = absurd cc
 below_some wanted (k ∷ kinds) rest e = go (is_within k wanted) e
   where
     go : (b : Bool) → cond b (Some kinds) None ≡ Some rest → suc (length kinds) ≡ suc (length rest)
-    go true f = ap (λ (v : List Kind). suc (length v)) (some_same kinds rest f)
+    go true f = ap (λ (v : List CellKind). suc (length v)) (some_same kinds rest f)
     go false f = absurd cc
 
-looks_some : (wanted : Kind) (kinds gives : List Kind) → looks_at wanted kinds ≡ Some gives → 1 ≤ length kinds
+looks_some : (wanted : CellKind) (kinds gives : List CellKind) → looks_at wanted kinds ≡ Some gives
+    → 1 ≤ length kinds
 looks_some wanted kinds gives e =
-    let r = bind_some (below wanted kinds) (λ (rest : List Kind). Some kinds) gives e in
+    let r = bind_some (below wanted kinds) (λ (rest : List CellKind). Some kinds) gives e in
     let size : length kinds ≡ suc (length r.0) = below_some wanted kinds r.0 r.1 in omega arith
 
-one_some : (wanted given : Kind) (kinds gives : List Kind) → (below wanted kinds >>= (λ rest. Some (given ∷ rest))) ≡ Some gives → 1 ≤ length kinds
+one_some : (wanted given : CellKind) (kinds gives : List CellKind)
+    → (below wanted kinds >>= (λ rest. Some (given ∷ rest))) ≡ Some gives → 1 ≤ length kinds
 one_some wanted given kinds gives e =
-    let r = bind_some (below wanted kinds) (λ (rest : List Kind). Some (given ∷ rest)) gives e in
+    let r = bind_some (below wanted kinds) (λ (rest : List CellKind). Some (given ∷ rest)) gives e
+    in
     let size : length kinds ≡ suc (length r.0) = below_some wanted kinds r.0 r.1 in omega arith
 
-two_some : (top second given : Kind) (kinds gives : List Kind) → two top second given kinds ≡ Some gives → 2 ≤ length kinds
+two_some : (top second given : CellKind) (kinds gives : List CellKind)
+    → two top second given kinds ≡ Some gives → 2 ≤ length kinds
 two_some top second given kinds gives e =
-    let r = bind_some (below top kinds) (λ (more : List Kind). below second more >>= (λ rest. Some (given ∷ rest))) gives e in
+    let r = bind_some (below top kinds)
+    (λ (more : List CellKind). below second more >>= (λ rest. Some (given ∷ rest))) gives e in
     let size : length kinds ≡ suc (length r.0) = below_some top kinds r.0 r.1 in
     let more : 1 ≤ length r.0 = one_some second given r.0 gives r.2 in omega arith
 
-truth_some : (types : List ElementaryType) (n : ℕ) (kinds gives : List Kind) → with_truth types n kinds ≡ Some gives → 1 ≤ length kinds
+truth_some : (types : List ElementaryType) (n : ℕ) (kinds gives : List CellKind)
+    → with_truth types n kinds ≡ Some gives → 1 ≤ length kinds
 truth_some types n kinds gives e =
-    let t = bind_some (slice_get types n) (λ (t : ElementaryType). cond (same_type t elementary.Bool) (looks_at (Plain elementary.Bool) kinds) None) gives e in
+    let t = bind_some (slice_get types n)
+    (λ (t : ElementaryType). cond (same_type t elementary.Bool)
+    (looks_at (Plain elementary.Bool) kinds) None) gives e in
     go (same_type t.0 elementary.Bool) t.2
   where
-    go : (b : Bool) → cond b (looks_at (Plain elementary.Bool) kinds) None ≡ Some gives → 1 ≤ length kinds
+    go : (b : Bool) → cond b (looks_at (Plain elementary.Bool) kinds) None ≡ Some gives
+        → 1 ≤ length kinds
     go true f = looks_some (Plain elementary.Bool) kinds gives f
     go false f = absurd cc
 
-enough : (types : List ElementaryType) (timers : ℕ) (i : Instr) (kinds gives : List Kind) → effect types timers i kinds ≡ Some gives → operands i ≤ length kinds
+enough : (types : List ElementaryType) (timers : ℕ) (i : Instr) (kinds gives : List CellKind)
+    → effect types timers i kinds ≡ Some gives → operands i ≤ length kinds
 enough types timers Halt kinds gives e = omega arith
 enough types timers (Push v) kinds gives e = omega arith
-enough types timers Drop kinds gives e = let size : length kinds ≡ suc (length gives) = below_some Any kinds gives e in omega arith
+enough types timers Drop kinds gives e = let size : length kinds ≡ suc (length gives) =
+    below_some Any kinds gives e in omega arith
 enough types timers (Slot Load n) kinds gives e = omega arith
 enough types timers (Slot Store n) kinds gives e =
-    let t = bind_some (slice_get types n) (λ (t : ElementaryType). looks_at (Plain t) kinds) gives e in looks_some (Plain t.0) kinds gives t.2
+    let t = bind_some (slice_get types n) (λ (t : ElementaryType). looks_at (Plain t) kinds) gives e
+    in looks_some (Plain t.0) kinds gives t.2
 enough types timers (Slot SetIf n) kinds gives e = truth_some types n kinds gives e
 enough types timers (Slot ResetIf n) kinds gives e = truth_some types n kinds gives e
-enough types timers Not kinds gives e = one_some (Plain elementary.Bool) (Plain elementary.Bool) kinds gives e
-enough types timers (Combine c) kinds gives e = two_some (Plain elementary.Bool) (Plain elementary.Bool) (Plain elementary.Bool) kinds gives e
-enough types timers (Compute o w) kinds gives e = two_some (second_kind o w) (Plain (type_of_width w)) (Plain (type_of_width w)) kinds gives e
+enough types timers Not kinds gives e =
+    one_some (Plain elementary.Bool) (Plain elementary.Bool) kinds gives e
+enough types timers (Combine c) kinds gives e =
+    two_some (Plain elementary.Bool) (Plain elementary.Bool) (Plain elementary.Bool) kinds gives e
+enough types timers (Compute o w) kinds gives e =
+    two_some (second_kind o w) (Plain (type_of_width w)) (Plain (type_of_width w)) kinds gives e
 enough types timers (Compare c) (x ∷ y ∷ kinds) gives e = omega arith
 enough types timers (Compare c) (x ∷ []) gives e = absurd cc
 enough types timers (Compare c) [] gives e = absurd cc
@@ -150,34 +185,47 @@ enough types timers (Widen IntToDint) [] gives e = absurd cc
 enough types timers (Widen DintToLint) [] gives e = absurd cc
 enough types timers (Widen w) (x ∷ kinds) gives e = omega arith
 enough types timers (Jump Always distance) kinds gives e = omega arith
-enough types timers (Jump IfTrue distance) kinds gives e = looks_some (Plain elementary.Bool) kinds gives e
-enough types timers (Jump IfFalse distance) kinds gives e = looks_some (Plain elementary.Bool) kinds gives e
-enough types timers (Timer SetInput n) kinds gives e = let size : length kinds ≡ suc (length gives) = below_some (Plain elementary.Bool) kinds gives (timer_made timers n _ gives e) in omega arith
-enough types timers (Timer SetPreset n) kinds gives e = let size : length kinds ≡ suc (length gives) = below_some (Plain elementary.Time) kinds gives (timer_made timers n _ gives e) in omega arith
+enough types timers (Jump IfTrue distance) kinds gives e =
+    looks_some (Plain elementary.Bool) kinds gives e
+enough types timers (Jump IfFalse distance) kinds gives e =
+    looks_some (Plain elementary.Bool) kinds gives e
+enough types timers (Timer SetInput n) kinds gives e =
+    let size : length kinds ≡ suc (length gives) =
+    below_some (Plain elementary.Bool) kinds gives (timer_made timers n _ gives e) in omega arith
+enough types timers (Timer SetPreset n) kinds gives e =
+    let size : length kinds ≡ suc (length gives) =
+    below_some (Plain elementary.Time) kinds gives (timer_made timers n _ gives e) in omega arith
 enough types timers (Timer Run n) kinds gives e = omega arith
 enough types timers (Timer LoadOutput n) kinds gives e = omega arith
 enough types timers (Timer LoadElapsed n) kinds gives e = omega arith
 
 -- ---- the kinds fit
 
-wider_below : (lower upper : Kind) (kinds rest : List Kind) → is_within lower upper ≡ true → below lower kinds ≡ Some rest → below upper kinds ≡ Some rest
+wider_below : (lower upper : CellKind) (kinds rest : List CellKind) → is_within lower upper ≡ true
+    → below lower kinds ≡ Some rest → below upper kinds ≡ Some rest
 wider_below lower upper [] rest h e = absurd cc
 wider_below lower upper (k ∷ kinds) rest h e = go (is_within k lower) refl e
   where
-    go : (b : Bool) → is_within k lower ≡ b → cond b (Some kinds) None ≡ Some rest → cond (is_within k upper) (Some kinds) None ≡ Some rest
+    go : (b : Bool) → is_within k lower ≡ b → cond b (Some kinds) None ≡ Some rest
+        → cond (is_within k upper) (Some kinds) None ≡ Some rest
     go true is f = rw (within_along k lower upper is h) f
     go false is f = absurd cc
 
-second_within : (w : Width) (b : Bool) → is_within (cond b (NotZero w) (Plain (type_of_width w))) (Plain (type_of_width w)) ≡ true
+second_within : (w : Width) (b : Bool)
+    → is_within (cond b (NotZero w) (Plain (type_of_width w))) (Plain (type_of_width w)) ≡ true
 second_within w true = same_self (type_of_width w)
 second_within w false = same_self (type_of_width w)
 
-undivided_some : (types : List ElementaryType) (timers : ℕ) (i : Instr) (kinds gives : List Kind) → effect types timers i kinds ≡ Some gives → effect types timers (undivided i) kinds ≡ Some gives
+undivided_some : (types : List ElementaryType) (timers : ℕ) (i : Instr)
+    (kinds gives : List CellKind)
+    → effect types timers i kinds ≡ Some gives
+    → effect types timers (undivided i) kinds ≡ Some gives
 undivided_some types timers (Compute o w) kinds gives e =
     let number = Plain (type_of_width w) in
-    let f = λ (more : List Kind). below number more >>= (λ rest. Some (number ∷ rest)) in
+    let f = λ (more : List CellKind). below number more >>= (λ rest. Some (number ∷ rest)) in
     let m = bind_some (below (second_kind o w) kinds) f gives e in
-    let wide : below number kinds ≡ Some m.0 = wider_below (second_kind o w) number kinds m.0 (second_within w (divides o)) m.1 in
+    let wide : below number kinds ≡ Some m.0 =
+    wider_below (second_kind o w) number kinds m.0 (second_within w (divides o)) m.1 in
     rw wide m.2
 undivided_some types timers Halt kinds gives e = e
 undivided_some types timers (Push v) kinds gives e = e
@@ -190,7 +238,8 @@ undivided_some types timers (Widen w) kinds gives e = e
 undivided_some types timers (Jump when distance) kinds gives e = e
 undivided_some types timers (Timer timer_use n) kinds gives e = e
 
-fits_all : (a b : Option (List Kind)) (x y : List Kind) → a ≡ Some x → b ≡ Some y → unfit a b ≡ None
+fits_all : (a b : Option (List CellKind)) (x y : List CellKind) → a ≡ Some x → b ≡ Some y
+    → unfit a b ≡ None
 fits_all a b x y e f = rw (e, f) refl
 
 -- ---- the faults behind an effect
@@ -200,49 +249,74 @@ behind_none None b r e f = f
 behind_none (Some x) b r e f = absurd cc
 
 -- where an instruction is allowed on the kinds, what is behind the first faults is its fault
-allowed_behind : (slots : List UsedSlot) (timers : ℕ) (i : Instr) (kinds gives : List Kind) (r : Option VerifyFault) → effect (types_of slots) timers i kinds ≡ Some gives
-    → (where_so (writes_read_only slots i) BadBinding or_else where_so (is_full (Some gives)) StackFull) ≡ r → fault_of slots timers i kinds ≡ r
+allowed_behind : (slots : List SlotType) (timers : ℕ) (i : Instr) (kinds gives : List CellKind)
+    (r : Option VerifyFault) → effect (types_of slots) timers i kinds ≡ Some gives
+    → (where_so (writes_read_only slots i) BadBinding or_else where_so (is_full (Some gives))
+    StackFull) ≡ r → fault_of slots timers i kinds ≡ r
 unfolding fault_of
 allowed_behind slots timers i kinds gives r e last =
     let many : operands i ≤ length kinds = enough (types_of slots) timers i kinds gives e in
     behind_none (missing (length slots) timers i) _ r (nothing_missing slots timers i kinds gives e)
-    (behind_none (where_so (nat_lt (length kinds) (operands i)) StackEmpty) _ r (not_where _ StackEmpty (le-ltb (length kinds) (operands i) many))
-    (behind_none (misfit slots timers i kinds) _ r (fits_all _ _ gives gives (undivided_some (types_of slots) timers i kinds gives e) e) (rw e last)))
+    (behind_none (where_so (nat_lt (length kinds) (operands i)) StackEmpty) _ r
+    (not_where _ StackEmpty (le-ltb (length kinds) (operands i) many))
+    (behind_none (misfit slots timers i kinds) _ r
+    (fits_all _ _ gives gives (undivided_some (types_of slots) timers i kinds gives e) e)
+    (rw e last)))
 
-pub allowed_faultless : (slots : List UsedSlot) (timers : ℕ) (i : Instr) (kinds gives : List Kind) → effect (types_of slots) timers i kinds ≡ Some gives → writes_read_only slots i ≡ false → length gives ≤ 32
+pub allowed_faultless : (slots : List SlotType) (timers : ℕ) (i : Instr)
+    (kinds gives : List CellKind)
+    → effect (types_of slots) timers i kinds ≡ Some gives → writes_read_only slots i ≡ false
+    → length gives ≤ 32
     → fault_of slots timers i kinds ≡ None
-allowed_faultless slots timers i kinds gives e writes room = allowed_behind slots timers i kinds gives None e (rw (writes, le-ltb 32 (length gives) room) refl)
+allowed_faultless slots timers i kinds gives e writes room =
+    allowed_behind slots timers i kinds gives None e
+    (rw (writes, le-ltb 32 (length gives) room) refl)
 
-pub write_fault : (slots : List UsedSlot) (timers : ℕ) (i : Instr) (kinds gives : List Kind) → effect (types_of slots) timers i kinds ≡ Some gives → writes_read_only slots i ≡ true
+pub write_fault : (slots : List SlotType) (timers : ℕ) (i : Instr) (kinds gives : List CellKind)
+    → effect (types_of slots) timers i kinds ≡ Some gives → writes_read_only slots i ≡ true
     → fault_of slots timers i kinds ≡ Some BadBinding
-write_fault slots timers i kinds gives e writes = allowed_behind slots timers i kinds gives (Some BadBinding) e (rw writes refl)
+write_fault slots timers i kinds gives e writes =
+    allowed_behind slots timers i kinds gives (Some BadBinding) e (rw writes refl)
 
-pub room_fault : (slots : List UsedSlot) (timers : ℕ) (i : Instr) (kinds gives : List Kind) → effect (types_of slots) timers i kinds ≡ Some gives → writes_read_only slots i ≡ false → 32 < length gives
+pub room_fault : (slots : List SlotType) (timers : ℕ) (i : Instr) (kinds gives : List CellKind)
+    → effect (types_of slots) timers i kinds ≡ Some gives → writes_read_only slots i ≡ false
+    → 32 < length gives
     → fault_of slots timers i kinds ≡ Some StackFull
-room_fault slots timers i kinds gives e writes many = allowed_behind slots timers i kinds gives (Some StackFull) e (rw (writes, lt-ltb 32 (length gives) many) refl)
+room_fault slots timers i kinds gives e writes many =
+    allowed_behind slots timers i kinds gives (Some StackFull) e
+    (rw (writes, lt-ltb 32 (length gives) many) refl)
 
 -- ---- the first faults
 
-pub missing_fault : (slots : List UsedSlot) (timers : ℕ) (i : Instr) (kinds : List Kind) (f : VerifyFault) → missing (length slots) timers i ≡ Some f → fault_of slots timers i kinds ≡ Some f
+pub missing_fault : (slots : List SlotType) (timers : ℕ) (i : Instr) (kinds : List CellKind)
+    (f : VerifyFault) → missing (length slots) timers i ≡ Some f
+    → fault_of slots timers i kinds ≡ Some f
 unfolding fault_of
 missing_fault slots timers i kinds f e = rw e refl
 
-pub empty_fault : (slots : List UsedSlot) (timers : ℕ) (i : Instr) (kinds : List Kind) → missing (length slots) timers i ≡ None → length kinds < operands i → fault_of slots timers i kinds ≡ Some StackEmpty
+pub empty_fault : (slots : List SlotType) (timers : ℕ) (i : Instr) (kinds : List CellKind)
+    → missing (length slots) timers i ≡ None → length kinds < operands i
+    → fault_of slots timers i kinds ≡ Some StackEmpty
 unfolding fault_of
 empty_fault slots timers i kinds e less = rw (e, lt-ltb (length kinds) (operands i) less) refl
 
-pub misfit_fault : (slots : List UsedSlot) (timers : ℕ) (i : Instr) (kinds : List Kind) (f : VerifyFault) → missing (length slots) timers i ≡ None → operands i ≤ length kinds → misfit slots timers i kinds ≡ Some f
+pub misfit_fault : (slots : List SlotType) (timers : ℕ) (i : Instr) (kinds : List CellKind)
+    (f : VerifyFault) → missing (length slots) timers i ≡ None → operands i ≤ length kinds
+    → misfit slots timers i kinds ≡ Some f
     → fault_of slots timers i kinds ≡ Some f
 unfolding fault_of
 misfit_fault slots timers i kinds f e many is =
     behind_none (missing (length slots) timers i) _ (Some f) e
-    (behind_none (where_so (nat_lt (length kinds) (operands i)) StackEmpty) _ (Some f) (not_where _ StackEmpty (le-ltb (length kinds) (operands i) many)) (rw is refl))
+    (behind_none (where_so (nat_lt (length kinds) (operands i)) StackEmpty) _ (Some f)
+    (not_where _ StackEmpty (le-ltb (length kinds) (operands i) many)) (rw is refl))
 
 -- ---- what having no fault says
 
-pub record IsFine (slots : List UsedSlot) (timers : ℕ) (i : Instr) (kinds : List Kind) : Type 0 where
+pub record IsFine (slots : List SlotType) (timers : ℕ) (i : Instr) (kinds : List CellKind)
+    : Type 0 where
   pub writes : writes_read_only slots i ≡ false
-  pub room : (gives : List Kind) → effect (types_of slots) timers i kinds ≡ Some gives → length gives ≤ 32
+  pub room : (gives : List CellKind) → effect (types_of slots) timers i kinds ≡ Some gives
+      → length gives ≤ 32
 
 few : (n : ℕ) → nat_lt 32 n ≡ false → n ≤ 32
 few n e = elim (cases_lt 32 n) [
@@ -250,7 +324,8 @@ few n e = elim (cases_lt 32 n) [
   | inr h ↦ h
 ]
 
-pub faultless_fine : (slots : List UsedSlot) (timers : ℕ) (i : Instr) (kinds : List Kind) → fault_of slots timers i kinds ≡ None → IsFine slots timers i kinds
+pub faultless_fine : (slots : List SlotType) (timers : ℕ) (i : Instr) (kinds : List CellKind)
+    → fault_of slots timers i kinds ≡ None → IsFine slots timers i kinds
 unfolding fault_of
 faultless_fine slots timers i kinds e =
     let a = first_none (missing (length slots) timers i) _ e in
@@ -259,7 +334,9 @@ faultless_fine slots timers i kinds e =
     let d = first_none (where_so (writes_read_only slots i) BadBinding) _ c.1 in
     record {
       writes = not_so (writes_read_only slots i) BadBinding d.0;
-      room = λ gives is. few (length gives) (subst (λ (o : Option (List Kind)). is_full o ≡ false) is (not_so (is_full (effect (types_of slots) timers i kinds)) StackFull d.1));
+      room = λ gives is. few (length gives)
+          (subst (λ (o : Option (List CellKind)). is_full o ≡ false) is
+          (not_so (is_full (effect (types_of slots) timers i kinds)) StackFull d.1));
     }
 
 -- ---- which faults an instruction has by itself
@@ -295,7 +372,7 @@ unless_own : (b : Bool) (f : VerifyFault) → IsOwn f → AllOwn (cond b None (S
 unless_own true f h = tt
 unless_own false f h = h
 
-unfit_own : (a b : Option (List Kind)) → AllOwn (unfit a b)
+unfit_own : (a b : Option (List CellKind)) → AllOwn (unfit a b)
 unfit_own None b = tt
 unfit_own (Some x) None = tt
 unfit_own (Some x) (Some y) = tt
@@ -313,12 +390,15 @@ missing_own slots timers (Compare c) = tt
 missing_own slots timers (Widen w) = tt
 missing_own slots timers (Jump when distance) = tt
 
-pub own_of : (slots : List UsedSlot) (timers : ℕ) (i : Instr) (kinds : List Kind) (f : VerifyFault) → fault_of slots timers i kinds ≡ Some f → IsOwn f
+pub own_of : (slots : List SlotType) (timers : ℕ) (i : Instr) (kinds : List CellKind)
+    (f : VerifyFault)
+    → fault_of slots timers i kinds ≡ Some f → IsOwn f
 unfolding fault_of
 own_of slots timers i kinds f e =
     let all : AllOwn (fault_of slots timers i kinds) =
     both_own (missing (length slots) timers i) _ (missing_own (length slots) timers i)
     (both_own (where_so (nat_lt (length kinds) (operands i)) StackEmpty) _ (so_own _ StackEmpty tt)
     (both_own (misfit slots timers i kinds) _ (unfit_own _ _)
-    (both_own (where_so (writes_read_only slots i) BadBinding) _ (so_own _ BadBinding tt) (so_own _ StackFull tt)))) in
+    (both_own (where_so (writes_read_only slots i) BadBinding) _ (so_own _ BadBinding tt)
+    (so_own _ StackFull tt)))) in
     subst AllOwn e all

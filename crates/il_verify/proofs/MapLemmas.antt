@@ -1,15 +1,15 @@
--- The marks of the map of frames.
+-- The frames of the map of frames.
 use Rattle.std.proofs.Common.{◌≡◌, ℕ, ◌<◌, Bool, true, false, cond, List, [], ◌∷◌, ◌++◌, length, slice_get, slice_index_or, slice_set, refl, sym, ap, subst, ◌∙◌, arith, Option, Some, None, inl, inr}
 use Rattle.std.specs.Prelude.{zero, suc, option_and_then, option_map, ◌==◌}
 use Rattle.std.proofs.lemmas.Bool.Decides.{nat_tests}
 use Rattle.std.proofs.lemmas.Bool.{cases_eq}
 use Rattle.std.proofs.lemmas.Option.{slice_get-get_or}
 use Rattle.il_image.specs.declared.instr.Instr.{Instr}
-use Rattle.il_image.specs.declared.kind.Kind.{Kind}
+use Rattle.il_image.specs.declared.kind.CellKind.{CellKind}
 use Rattle.il_verify.specs.declared.frame.Frame.{Frame}
 use Rattle.il_verify.specs.Refusals.{JumpsTo}
 use Rattle.il_verify.proofs.OrderLemmas.{set_elsewhere, set_here}
-use Rattle.il_verify.specs.Frames.{Clashing, Falls, Grows, Jumps, Mark, Marks, Pends, beside, frame_at, goes_on, mark_of, marks_of}
+use Rattle.il_verify.specs.Frames.{Clashing, Falls, Grows, Jumps, PlainFrame, PlainFrames, Pends, beside, frame_at, goes_on, plain_frame, plain_frames}
 
 here_is : (p q : ℕ) → q ≡ p → (q == p) ≡ true
 here_is p q e = grind (arith, nat_tests)
@@ -17,78 +17,120 @@ here_is p q e = grind (arith, nat_tests)
 not_here : (p q : ℕ) → (q ≡ p → ⊥) → (q == p) ≡ false
 not_here p q ne = grind (arith, nat_tests)
 
-pub beside_here : {A : Type 0} (p q : ℕ) (mark : Option A) (marks : ℕ → Option A) → q ≡ p → beside p mark marks q ≡ mark
-beside_here p q mark marks e = ap (λ (b : Bool). cond b mark (marks q)) (here_is p q e)
+pub beside_here : {A : Type 0} (p q : ℕ) (frame : Option A) (frames : ℕ → Option A) → q ≡ p
+    → beside p frame frames q ≡ frame
+beside_here p q frame frames e = ap (λ (b : Bool). cond b frame (frames q)) (here_is p q e)
 
-pub beside_other : {A : Type 0} (p q : ℕ) (mark : Option A) (marks : ℕ → Option A) → (q ≡ p → ⊥) → beside p mark marks q ≡ marks q
-beside_other p q mark marks ne = ap (λ (b : Bool). cond b mark (marks q)) (not_here p q ne)
+pub beside_other : {A : Type 0} (p q : ℕ) (frame : Option A) (frames : ℕ → Option A) → (q ≡ p → ⊥)
+    → beside p frame frames q ≡ frames q
+beside_other p q frame frames ne = ap (λ (b : Bool). cond b frame (frames q)) (not_here p q ne)
 
-none_more : {A : Type 0} (xs : List (Option A)) (q : ℕ) → option_and_then (λ o. o) (slice_get (xs ++ None ∷ []) q) ≡ option_and_then (λ o. o) (slice_get xs q)
+none_more : {A : Type 0} (xs : List (Option A)) (q : ℕ)
+    → option_and_then (λ o. o) (slice_get (xs ++ None ∷ []) q)
+    ≡ option_and_then (λ o. o) (slice_get xs q)
 none_more [] zero = refl
 none_more [] (suc q) = refl
 none_more (x ∷ xs) zero = refl
 none_more (x ∷ xs) (suc q) = none_more xs q
 
-pub mark_at : (m : List (Option Frame)) (place : ℕ) (o : Option Frame) → o ≡ frame_at m place → marks_of m place ≡ option_map mark_of o
-unfolding marks_of
-mark_at m place o e = ap (option_map mark_of) (sym e)
+pub plain_at : (m : List (Option Frame)) (place : ℕ) (o : Option Frame) → o ≡ frame_at m place
+    → plain_frames m place ≡ option_map plain_frame o
+unfolding plain_frames
+plain_at m place o e = ap (option_map plain_frame) (sym e)
 
-pub no_marks : (m : List (Option Frame)) (place : ℕ) → m ≡ [] → marks_of m place ≡ None
-unfolding marks_of
-no_marks m place e = ap (λ (l : List (Option Frame)). option_map mark_of (frame_at l place)) e
+pub no_frames : (m : List (Option Frame)) (place : ℕ) → m ≡ [] → plain_frames m place ≡ None
+unfolding plain_frames
+no_frames m place e = ap (λ (l : List (Option Frame)). option_map plain_frame (frame_at l place)) e
 
-pub others_stay : (old : List (Option Frame)) (place : ℕ) (w : Option Frame) (q : ℕ) → (q ≡ place → ⊥) → marks_of (slice_set old place w) q ≡ marks_of old q
-unfolding marks_of
-others_stay old place w q ne = ap (λ (o : Option (Option Frame)). option_map mark_of (option_and_then (λ x. x) o)) (set_elsewhere old place q w ne)
+pub others_stay : (old : List (Option Frame)) (place : ℕ) (w : Option Frame) (q : ℕ)
+    → (q ≡ place → ⊥) → plain_frames (slice_set old place w) q ≡ plain_frames old q
+unfolding plain_frames
+others_stay old place w q ne =
+    ap (λ (o : Option (Option Frame)). option_map plain_frame (option_and_then (λ x. x) o))
+    (set_elsewhere old place q w ne)
 
-now_is : (old : List (Option Frame)) (place : ℕ) (w : Option Frame) → place < length old → marks_of (slice_set old place w) place ≡ option_map mark_of w
-unfolding marks_of
-now_is old place w less = ap (λ (o : Option (Option Frame)). option_map mark_of (option_and_then (λ x. x) o)) (set_here old place w less)
+now_is : (old : List (Option Frame)) (place : ℕ) (w : Option Frame) → place < length old
+    → plain_frames (slice_set old place w) place ≡ option_map plain_frame w
+unfolding plain_frames
+now_is old place w less =
+    ap (λ (o : Option (Option Frame)). option_map plain_frame (option_and_then (λ x. x) o))
+    (set_here old place w less)
 
 -- a place behind the others, where nothing is pending
-pub one_more : (old : List (Option Frame)) (q : ℕ) → marks_of (old ++ None ∷ []) q ≡ marks_of old q
-unfolding marks_of
-one_more old q = ap (option_map mark_of) (none_more old q)
+pub one_more : (old : List (Option Frame)) (q : ℕ)
+    → plain_frames (old ++ None ∷ []) q ≡ plain_frames old q
+unfolding plain_frames
+one_more old q = ap (option_map plain_frame) (none_more old q)
 
 -- a slot of a list is the frame at its place
-pub slot_at : (m : List (Option Frame)) (place : ℕ) (o : Option Frame) → place < length m → o ≡ slice_index_or m place o → o ≡ frame_at m place
-slot_at m place o less e = sym (ap (option_and_then (λ x. x)) (slice_get-get_or m place o less ∙ ap (λ (x : Option Frame). Some x) (sym e)))
+pub slot_at : (m : List (Option Frame)) (place : ℕ) (o : Option Frame) → place < length m
+    → o ≡ slice_index_or m place o → o ≡ frame_at m place
+slot_at m place o less e =
+    sym (ap (option_and_then (λ x. x))
+    (slice_get-get_or m place o less ∙ ap (λ (x : Option Frame). Some x) (sym e)))
 
-pub pended : (old grown : List (Option Frame)) (place : ℕ) (o w : Option Frame) (frame : Frame) (come : Mark) → ((q : ℕ) → marks_of grown q ≡ marks_of old q) → place < length grown → o ≡ frame_at grown place
-    → w ≡ Some frame → Grows come (option_map mark_of o) (mark_of frame) → Pends (marks_of old) (marks_of (slice_set grown place w)) place come
+pub pended : (old grown : List (Option Frame)) (place : ℕ) (o w : Option Frame) (frame : Frame)
+    (come : PlainFrame) → ((q : ℕ) → plain_frames grown q ≡ plain_frames old q)
+    → place < length grown → o ≡ frame_at grown place
+    → w ≡ Some frame → Grows come (option_map plain_frame o) (plain_frame frame)
+    → Pends (plain_frames old) (plain_frames (slice_set grown place w)) place come
 pended old grown place o w frame come same less was is grows = record {
-  mark = mark_of frame;
-  is = now_is grown place w less ∙ ap (option_map mark_of) is;
-  grows = subst (λ (v : Option Mark). Grows come v (mark_of frame)) (sym (mark_at grown place o was) ∙ same place) grows;
+  frame = plain_frame frame;
+  is = now_is grown place w less ∙ ap (option_map plain_frame) is;
+  grows = subst (λ (v : Option PlainFrame). Grows come v (plain_frame frame))
+      (sym (plain_at grown place o was) ∙ same place) grows;
   others = λ q ne. others_stay grown place w q ne ∙ same q;
 }
 
-pub clash_at : (old : List (Option Frame)) (place : ℕ) (o : Option Frame) (kinds : List Kind) → o ≡ frame_at old place → Clashing (option_map mark_of o) kinds → Clashing (marks_of old place) kinds
-clash_at old place o kinds was c = subst (λ (v : Option Mark). Clashing v kinds) (sym (mark_at old place o was)) c
+pub clash_at : (old : List (Option Frame)) (place : ℕ) (o : Option Frame) (kinds : List CellKind)
+    → o ≡ frame_at old place → Clashing (option_map plain_frame o) kinds
+    → Clashing (plain_frames old place) kinds
+clash_at old place o kinds was c =
+    subst (λ (v : Option PlainFrame). Clashing v kinds) (sym (plain_at old place o was)) c
 
 -- ---- to the next place
 
-pub falls_to : (instr : Instr) (next : ℕ) (come : Mark) (old mid : List (Option Frame)) (o : Option Frame) (m : Mark) → goes_on instr ≡ true → o ≡ frame_at old next → ((q : ℕ) → (q ≡ next → ⊥) → marks_of mid q ≡ marks_of old q) → Grows come (option_map mark_of o) m
-    → Falls instr next come (marks_of old) (beside next (Some m) (marks_of mid))
+pub falls_to : (instr : Instr) (next : ℕ) (come : PlainFrame) (old mid : List (Option Frame))
+    (o : Option Frame) (m : PlainFrame) → goes_on instr ≡ true → o ≡ frame_at old next
+    → ((q : ℕ) → (q ≡ next → ⊥) → plain_frames mid q ≡ plain_frames old q)
+    → Grows come (option_map plain_frame o) m
+    → Falls instr next come (plain_frames old) (beside next (Some m) (plain_frames mid))
 falls_to instr next come old mid o m on was gone grows to = elim (cases_eq to next) [
-  | inl e ↦ inl ((on, e), (m, beside_here next to (Some m) (marks_of mid) e, subst (λ (v : Option Mark). Grows come v m) (sym (mark_at old next o was) ∙ ap (marks_of old) (sym e)) grows))
-  | inr ne ↦ inr ((λ h. ne h.1), beside_other next to (Some m) (marks_of mid) ne ∙ gone to ne)
+  | inl e ↦ inl (
+    (on, e),
+    (
+      m,
+      beside_here next to (Some m) (plain_frames mid) e,
+      subst (λ (v : Option PlainFrame). Grows come v m)
+          (sym (plain_at old next o was) ∙ ap (plain_frames old) (sym e)) grows,
+    ),
+  )
+  | inr ne ↦ inr ((λ h. ne h.1), beside_other next to (Some m) (plain_frames mid) ne ∙ gone to ne)
 ]
 
-pub stays_so : (instr : Instr) (next : ℕ) (come : Mark) (old mid : List (Option Frame)) (o : Option Frame) → goes_on instr ≡ false → o ≡ frame_at old next → ((q : ℕ) → (q ≡ next → ⊥) → marks_of mid q ≡ marks_of old q)
-    → Falls instr next come (marks_of old) (beside next (option_map mark_of o) (marks_of mid))
+pub stays_so : (instr : Instr) (next : ℕ) (come : PlainFrame) (old mid : List (Option Frame))
+    (o : Option Frame) → goes_on instr ≡ false → o ≡ frame_at old next
+    → ((q : ℕ) → (q ≡ next → ⊥) → plain_frames mid q ≡ plain_frames old q)
+    → Falls instr next come (plain_frames old)
+    (beside next (option_map plain_frame o) (plain_frames mid))
 stays_so instr next come old mid o off was gone to = inr (
   (λ h. let on : goes_on instr ≡ true = h.0 in cc),
   (elim (cases_eq to next) [
-    | inl e ↦ beside_here next to (option_map mark_of o) (marks_of mid) e ∙ (sym (mark_at old next o was) ∙ ap (marks_of old) (sym e))
-    | inr ne ↦ beside_other next to (option_map mark_of o) (marks_of mid) ne ∙ gone to ne
+    | inl e ↦ beside_here next to (option_map plain_frame o) (plain_frames mid) e
+        ∙ (sym (plain_at old next o was) ∙ ap (plain_frames old) (sym e))
+    | inr ne ↦ beside_other next to (option_map plain_frame o) (plain_frames mid) ne ∙ gone to ne
   ]),
 )
 
 -- ---- by a jump
 
-pub jumps_by : (instr : Instr) (next place : ℕ) (come : Mark) (old new : Marks) → ((to : ℕ) → JumpsTo instr next to → to ≡ place) → JumpsTo instr next place → Pends old new place come → Jumps instr next come old new
+pub jumps_by : (instr : Instr) (next place : ℕ) (come : PlainFrame) (old new : PlainFrames)
+    → ((to : ℕ) → JumpsTo instr next to → to ≡ place) → JumpsTo instr next place
+    → Pends old new place come → Jumps instr next come old new
 jumps_by instr next place come old new only jumps p to = elim (cases_eq to place) [
-  | inl e ↦ inl (subst (JumpsTo instr next) (sym e) jumps, (p.mark, ap new e ∙ p.is, subst (λ (q : ℕ). Grows come (old q) p.mark) (sym e) p.grows))
+  | inl e ↦ inl (
+    subst (JumpsTo instr next) (sym e) jumps,
+    (p.frame, ap new e ∙ p.is, subst (λ (q : ℕ). Grows come (old q) p.frame) (sym e) p.grows),
+  )
   | inr ne ↦ inr ((λ h. ne (only to h)), p.others to ne)
 ]

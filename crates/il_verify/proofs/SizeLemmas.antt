@@ -17,7 +17,8 @@ use Rattle.il_verify.specs.Sizes.{size_of_opcode}
 use Rattle.il_verify.proofs.EffectLemmas.{not_both, some_same}
 use Rattle.il_verify.proofs.OrderLemmas.{There}
 
-length_signed : (t : ElementaryType) (z : ℤ) → length (signed_octets (size_of t) z) ≡ octet_count (size_of t)
+length_signed : (t : ElementaryType) (z : ℤ)
+    → length (signed_octets (size_of t) z) ≡ octet_count (size_of t)
 length_signed elementary.Bool z = refl
 length_signed elementary.Int z = refl
 length_signed elementary.Dint z = refl
@@ -37,26 +38,41 @@ size_is (Widen w) = refl
 size_is (Jump when distance) = refl
 size_is (Timer timer_use n) = refl
 
-first_of : (code : List ℕ) (place x d : ℕ) (xs : List ℕ) → drop place code ≡ x ∷ xs → get_or code place d ≡ x
+first_of : (code : List ℕ) (place x d : ℕ) (xs : List ℕ) → drop place code ≡ x ∷ xs
+    → get_or code place d ≡ x
 first_of [] zero x d xs e = absurd cc
 first_of [] (suc place) x d xs e = absurd cc
 first_of (y ∷ code) zero x d xs e = cc
 first_of (y ∷ code) (suc place) x d xs e = first_of code place x d xs e
 
-pub opcode_there : (code : List ℕ) (place d : ℕ) (i : Instr) (next : ℕ) → AreOctets code → instr_at code place ≡ Some (i, next) → opcode_of (get_or code place d) ≡ Some (opcode_of_instr i)
+pub opcode_there : (code : List ℕ) (place d : ℕ) (i : Instr) (next : ℕ) → AreOctets code
+    → instr_at code place ≡ Some (i, next)
+    → opcode_of (get_or code place d) ≡ Some (opcode_of_instr i)
 opcode_there code place d i next fits e =
     let s = stands code place i next fits e in
-    ap opcode_of (first_of code place (octet_of (opcode_of_instr i)) d (operand_of i ++ drop next code) s.spelled) ∙ opcode_back (opcode_of_instr i)
+    ap opcode_of (first_of code place (octet_of (opcode_of_instr i)) d
+    (operand_of i ++ drop next code) s.spelled) ∙ opcode_back (opcode_of_instr i)
 
-pub next_there : (code : List ℕ) (place : ℕ) (i : Instr) (next : ℕ) → AreOctets code → instr_at code place ≡ Some (i, next) → next ≡ place + size_of_opcode (opcode_of_instr i)
-next_there code place i next fits e = let s = stands code place i next fits e in s.size ∙ ap (λ (n : ℕ). place + n) (sym (size_is i))
+pub next_there : (code : List ℕ) (place : ℕ) (i : Instr) (next : ℕ) → AreOctets code
+    → instr_at code place ≡ Some (i, next) → next ≡ place + size_of_opcode (opcode_of_instr i)
+next_there code place i next fits e = let s =
+    stands code place i next fits e in s.size ∙ ap (λ (n : ℕ). place + n) (sym (size_is i))
 
 -- An opcode was found there: the instruction's, and the next place is so many octets behind.
-pub next_by : (code : List ℕ) (place d : ℕ) (o : Opcode) (n : ℕ) (t : There code place) → AreOctets code → opcode_of (get_or code place d) ≡ Some o → n ≡ size_of_opcode o → instr_at code place ≡ Some (t.instr, place + n)
+pub next_by : (code : List ℕ) (place d : ℕ) (o : Opcode) (n : ℕ) (t : There code place)
+    → AreOctets code → opcode_of (get_or code place d) ≡ Some o → n ≡ size_of_opcode o
+    → instr_at code place ≡ Some (t.instr, place + n)
 next_by code place d o n t fits e size =
-    let same : opcode_of_instr t.instr ≡ o = some_same (opcode_of_instr t.instr) o (sym (opcode_there code place d t.instr t.next fits t.is) ∙ e) in
-    let next : t.next ≡ place + n = next_there code place t.instr t.next fits t.is ∙ ap (λ (k : ℕ). place + k) (ap size_of_opcode same ∙ sym size) in
+    let same : opcode_of_instr t.instr ≡ o =
+    some_same (opcode_of_instr t.instr) o
+    (sym (opcode_there code place d t.instr t.next fits t.is) ∙ e) in
+    let next : t.next ≡ place + n =
+    next_there code place t.instr t.next fits t.is
+    ∙ ap (λ (k : ℕ). place + k) (ap size_of_opcode same ∙ sym size) in
     t.is ∙ ap (λ (m : ℕ). Some (t.instr, m)) next
 
-pub some_opcode : (code : List ℕ) (place d : ℕ) → There code place → AreOctets code → opcode_of (get_or code place d) ≡ None → ⊥
-some_opcode code place d t fits e = not_both (opcode_of (get_or code place d)) (opcode_of_instr t.instr) e (opcode_there code place d t.instr t.next fits t.is)
+pub some_opcode : (code : List ℕ) (place d : ℕ) → There code place → AreOctets code
+    → opcode_of (get_or code place d) ≡ None → ⊥
+some_opcode code place d t fits e =
+    not_both (opcode_of (get_or code place d)) (opcode_of_instr t.instr) e
+    (opcode_there code place d t.instr t.next fits t.is)

@@ -4,33 +4,43 @@ use Rattle.std.specs.Prelude.{slice_get, IsTrue, ◌↔◌}
 use Rattle.std.specs.Bool.{OnFalse}
 use Rattle.il_image.specs.declared.instr.Instr.{Instr}
 use Rattle.il_image.specs.declared.instr.Instr.TheVariants.{Jump}
-use Rattle.il_image.specs.declared.kind.Kind.{Kind}
+use Rattle.il_image.specs.declared.kind.CellKind.{CellKind}
 use Rattle.il_image.specs.declared.opcode.When.{When}
 use Rattle.il_image.specs.Effects.{effect}
 use Rattle.il_image.specs.Images.{Image}
 use Rattle.il_verify.specs.declared.fault.VerifyFault.{VerifyFault}
-use Rattle.il_verify.specs.declared.slots.Slot.{Slot}
-use Rattle.il_verify.specs.Frames.{Clashing, Jumps, JumpsWrong, Mark, Marks, MarksPlaces}
+use Rattle.il_verify.specs.declared.slots.SlotType.{SlotType}
+use Rattle.il_verify.specs.Frames.{Clashing, Jumps, JumpsWrong, PlainFrame, PlainFrames, MarksPlaces}
 use Rattle.il_verify.specs.Judging.{fault_of}
 use Rattle.il_verify.specs.Slots.{slots_of, types_of}
 use Rattle.il_verify.proofs.EffectLemmas.{some_same}
 use Rattle.il_verify.proofs.WithinLemmas.{within_length}
 
-pub fault_there : (image : Image) (slots : List Slot) (timers : ℕ) (instr : Instr) (kinds : List Kind) (o : Option VerifyFault) → slots ≡ slots_of image → timers ≡ length image.timers → fault_of slots timers instr kinds ≡ o
+pub fault_there : (image : Image) (slots : List SlotType) (timers : ℕ) (instr : Instr)
+    (kinds : List CellKind) (o : Option VerifyFault) → slots ≡ slots_of image
+    → timers ≡ length image.timers → fault_of slots timers instr kinds ≡ o
     → fault_of (slots_of image) (length image.timers) instr kinds ≡ o
-fault_there image slots timers instr kinds o e f is = sym (ap (λ (s : List Slot). fault_of s timers instr kinds) e ∙ ap (λ (n : ℕ). fault_of (slots_of image) n instr kinds) f) ∙ is
+fault_there image slots timers instr kinds o e f is =
+    sym (ap (λ (s : List SlotType). fault_of s timers instr kinds) e
+    ∙ ap (λ (n : ℕ). fault_of (slots_of image) n instr kinds) f) ∙ is
 
-pub effect_so : (image : Image) (slots : List Slot) (timers : ℕ) (instr : Instr) (kinds : List Kind) (o : Option (List Kind)) → slots ≡ slots_of image → timers ≡ length image.timers → effect (types_of slots) timers instr kinds ≡ o
+pub effect_so : (image : Image) (slots : List SlotType) (timers : ℕ) (instr : Instr)
+    (kinds : List CellKind) (o : Option (List CellKind)) → slots ≡ slots_of image
+    → timers ≡ length image.timers → effect (types_of slots) timers instr kinds ≡ o
     → effect (types_of (slots_of image)) (length image.timers) instr kinds ≡ o
 effect_so image slots timers instr kinds o e f is =
-    sym (ap (λ (s : List Slot). effect (types_of s) timers instr kinds) e ∙ ap (λ (n : ℕ). effect (types_of (slots_of image)) n instr kinds) f) ∙ is
+    sym (ap (λ (s : List SlotType). effect (types_of s) timers instr kinds) e
+    ∙ ap (λ (n : ℕ). effect (types_of (slots_of image)) n instr kinds) f) ∙ is
 
 -- A clash after the jump was one before it: what the jump brought has as many kinds.
-pub clash_before : (instr : Instr) (next : ℕ) (come : Mark) (old mid : Marks) → Jumps instr next come old mid → Clashing (mid next) come.kinds → Clashing (old next) come.kinds
+pub clash_before : (instr : Instr) (next : ℕ) (come : PlainFrame) (old mid : PlainFrames)
+    → Jumps instr next come old mid → Clashing (mid next) come.kinds
+    → Clashing (old next) come.kinds
 clash_before instr next come old mid jumps clash = elim (jumps next) [
   | inl c ↦
       absurd (let same : c.1.0 ≡ clash.0 = some_same c.1.0 clash.0 (sym c.1.1 ∙ clash.1) in
-      clash.2 (ap (λ (m : Mark). length m.kinds) (sym same) ∙ sym (within_length come.kinds c.1.0.kinds c.1.2.over)))
+      clash.2 (ap (λ (m : PlainFrame). length m.kinds) (sym same)
+      ∙ sym (within_length come.kinds c.1.0.kinds c.1.2.over)))
   | inr c ↦ (clash.0, sym c.1 ∙ clash.1, clash.2)
 ]
 
@@ -38,7 +48,15 @@ on_false : (b : Bool) (P : Type 0) → (b ≡ false → P) → OnFalse b P
 on_false true P f = tt
 on_false false P f = f refl
 
-pub jumps_wrong : (code : List ℕ) (starts : List Bool) (instr : Instr) (when : When) (next distance : ℕ) (b : Bool) → MarksPlaces code starts → instr ≡ Jump when distance → IsTrue b ↔ (slice_get starts (next + distance) ≡ Some true)
+pub jumps_wrong : (code : List ℕ) (starts : List Bool) (instr : Instr) (when : When)
+    (next distance : ℕ) (b : Bool) → MarksPlaces code starts → instr ≡ Jump when distance → IsTrue b
+    ↔ (slice_get starts (next + distance) ≡ Some true)
     → OnFalse b (JumpsWrong code instr next)
-jumps_wrong code starts instr when next distance b marks is says = on_false b (JumpsWrong code instr next) (λ off.
-    subst (λ (i : Instr). JumpsWrong code i next) (sym is) (record { to = next + distance; jumps = refl; bad = λ place. let on : b ≡ true = says.1 ((marks (next + distance)).1 place) in cc }))
+jumps_wrong code starts instr when next distance b marks is says =
+    on_false b (JumpsWrong code instr next) (λ off.
+    subst (λ (i : Instr). JumpsWrong code i next) (sym is)
+    (record {
+      to = next + distance;
+      jumps = refl;
+      bad = λ place. let on : b ≡ true = says.1 ((marks (next + distance)).1 place) in cc;
+    }))

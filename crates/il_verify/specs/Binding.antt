@@ -12,13 +12,18 @@ use Rattle.il_image.specs.Images.{Image}
 -- An image's point and a point of the bay have one name, as Instruction List compares names, one
 -- type and one writability.
 abbrev pub is_point : ImagePoint → Point → Bool
-is_point p b = same_name p.name b.name && (same_type p.elementary b.kind && beq p.writable b.writable)
+is_point p b =
+    same_name p.name b.name && (same_type p.elementary b.kind && beq p.writable b.writable)
 
 -- Each point is one of the bay's, and none stands twice.
 abbrev pub are_points : List Point → List ImagePoint → Bool
 are_points bay [] = true
-are_points bay (p ∷ points) = (list_any (λ b. is_point p b) bay && not (list_any (λ q. bytes_eq q.name p.name) points)) && are_points bay points
+are_points bay (p ∷ points) =
+    (list_any (λ b. is_point p b) bay && not (list_any (λ q. bytes_eq q.name p.name) points))
+    && are_points bay points
 
 -- There are at most 512 slots and 64 timers, and the points are the bay's.
 unfoldable pub fits : List Point → Image → Bool
-fits bay image = (nat_le (length image.points + length image.variables) 512 && nat_le (length image.timers) 64) && are_points bay image.points
+fits bay image =
+    (nat_le (length image.points + length image.variables) 512 && nat_le (length image.timers) 64)
+    && are_points bay image.points

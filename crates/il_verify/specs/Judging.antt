@@ -6,8 +6,8 @@ use Rattle.il_image.specs.declared.arithmetic.Operation.TheVariants.{Add}
 use Rattle.il_image.specs.declared.arithmetic.Width.{Width}
 use Rattle.il_image.specs.declared.instr.Instr.{Instr}
 use Rattle.il_image.specs.declared.instr.Instr.TheVariants.{Halt, Push, Drop, Slot, Not, Combine, Compute, Compare, Widen, Jump, Timer}
-use Rattle.il_image.specs.declared.kind.Kind.{Kind}
-use Rattle.il_image.specs.declared.kind.Kind.TheVariants.{Plain}
+use Rattle.il_image.specs.declared.kind.CellKind.{CellKind}
+use Rattle.il_image.specs.declared.kind.CellKind.TheVariants.{Plain}
 use Rattle.il_image.specs.declared.opcode.SlotUse.TheVariants.{Load, Store, SetIf, ResetIf}
 use Rattle.il_image.specs.declared.opcode.When.TheVariants.{Always, IfTrue, IfFalse}
 use Rattle.il_image.specs.declared.opcode.TimerUse.TheVariants.{SetInput, SetPreset, Run, LoadOutput, LoadElapsed}
@@ -15,7 +15,7 @@ use Rattle.il_image.specs.Arithmetic.{type_of_width}
 use Rattle.il_image.specs.Effects.{effect, second_kind, two}
 use Rattle.il_verify.specs.declared.fault.VerifyFault.{VerifyFault}
 use Rattle.il_verify.specs.declared.fault.VerifyFault.TheVariants.{StackEmpty, StackFull, WrongKind, ZeroDivisor, NoSlot, NoTimer, BadBinding}
-use Rattle.il_verify.specs.declared.slots.Slot.{Slot as UsedSlot}
+use Rattle.il_verify.specs.declared.slots.SlotType.{SlotType}
 use Rattle.il_verify.specs.Slots.{types_of}
 
 -- the slot or the timer that an instruction names is missing, where there are so many slots and
@@ -54,31 +54,35 @@ undivided (Compute o w) = Compute Add w
 undivided other = other
 
 -- the kinds behind an instruction, where it is allowed on these
-abbrev pub effect_on : List UsedSlot → ℕ → List Kind → Instr → Option (List Kind)
+abbrev pub effect_on : List SlotType → ℕ → List CellKind → Instr → Option (List CellKind)
 effect_on slots timers kinds i = effect (types_of slots) timers i kinds
 
 -- a value is of a wrong kind where the instruction is not allowed with any divisor, and else only
 -- the divisor may be zero
-abbrev pub unfit : Option (List Kind) → Option (List Kind) → Option VerifyFault
+abbrev pub unfit : Option (List CellKind) → Option (List CellKind) → Option VerifyFault
 unfit None actual = Some WrongKind
 unfit (Some with_any) None = Some ZeroDivisor
 unfit (Some with_any) (Some actual) = None
 
-abbrev pub misfit : List UsedSlot → ℕ → Instr → List Kind → Option VerifyFault
-misfit slots timers i kinds = unfit (effect_on slots timers kinds (undivided i)) (effect_on slots timers kinds i)
+-- the fault of the kinds that the instruction takes or looks at
+abbrev pub misfit : List SlotType → ℕ → Instr → List CellKind → Option VerifyFault
+misfit slots timers i kinds =
+    unfit (effect_on slots timers kinds (undivided i)) (effect_on slots timers kinds i)
 
 -- what the contracts of the code's parts cite: a BOOL, and an operation of two numbers
-abbrev pub truth : Kind
+abbrev pub truth : CellKind
 truth = Plain elementary.Bool
 
-abbrev pub computes : Operation → Width → List Kind → Option (List Kind)
+-- the kinds behind an operation of two numbers of a width
+abbrev pub computes : Operation → Width → List CellKind → Option (List CellKind)
 computes o w kinds = two (second_kind o w) (Plain (type_of_width w)) (Plain (type_of_width w)) kinds
 
 -- the slot that an instruction writes may only be read
-abbrev pub is_read_only : List UsedSlot → ℕ → Bool
+abbrev pub is_read_only : List SlotType → ℕ → Bool
 is_read_only slots n = unwrap_or (option_map (λ s. not s.writable) (slice_get slots n)) false
 
-abbrev pub writes_read_only : List UsedSlot → Instr → Bool
+-- the instruction writes a slot that may only be read
+abbrev pub writes_read_only : List SlotType → Instr → Bool
 writes_read_only slots (Slot Load n) = false
 writes_read_only slots (Slot Store n) = is_read_only slots n
 writes_read_only slots (Slot SetIf n) = is_read_only slots n
@@ -86,20 +90,22 @@ writes_read_only slots (Slot ResetIf n) = is_read_only slots n
 writes_read_only slots other = false
 
 -- more than 32 values lie on the stack behind the instruction
-abbrev pub is_full : Option (List Kind) → Bool
+abbrev pub is_full : Option (List CellKind) → Bool
 is_full None = false
 is_full (Some kinds) = nat_lt 32 (length kinds)
 
+-- the first fault of two tests
 infixr 5 ◌or_else◌
 abbrev pub ◌or_else◌ : Option VerifyFault → Option VerifyFault → Option VerifyFault
 None or_else other = other
 (Some fault) or_else other = Some fault
 
+-- the fault, where the test holds
 abbrev pub where_so : Bool → VerifyFault → Option VerifyFault
 where_so b fault = if b then Some fault else None
 
 -- the first fault of an instruction on these kinds
-unfoldable pub fault_of : List UsedSlot → ℕ → Instr → List Kind → Option VerifyFault
+unfoldable pub fault_of : List SlotType → ℕ → Instr → List CellKind → Option VerifyFault
 fault_of slots timers i kinds =
     missing (length slots) timers i
     or_else where_so (nat_lt (length kinds) (operands i)) StackEmpty

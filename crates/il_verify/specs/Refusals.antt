@@ -3,7 +3,7 @@ use Rattle.std.specs.Prelude.{ℕ, ◌≡◌, ◌+◌, ◌<◌, ◌⊎◌, true,
 use Rattle.bay_config.specs.declared.bay.Point.{Point}
 use Rattle.il_image.specs.declared.instr.Instr.{Instr}
 use Rattle.il_image.specs.declared.instr.Instr.TheVariants.{Halt, Push, Drop, Slot, Not, Combine, Compute, Compare, Widen, Jump, Timer}
-use Rattle.il_image.specs.declared.kind.Kind.{Kind}
+use Rattle.il_image.specs.declared.kind.CellKind.{CellKind}
 use Rattle.il_image.specs.Effects.{effect}
 use Rattle.il_image.specs.Images.{Image}
 use Rattle.il_image.specs.Kinds.{AreWithin}
@@ -18,15 +18,16 @@ use Rattle.il_verify.specs.Slots.{slots_of}
 -- ---- the kinds before a place
 
 -- the kinds behind an instruction of the image
-abbrev pub after : Image → Instr → List Kind → Option (List Kind)
+abbrev pub after : Image → Instr → List CellKind → Option (List CellKind)
 after image instr kinds = effect (slot_types image) (length image.timers) instr kinds
 
 -- The table has kinds before the instruction at a place, which leads to the other place, and gives
 -- these.
-pub record ComesFrom (image : Image) (table : Table) (from to : ℕ) (kinds : List Kind) : Type 0 where
+pub record ComesFrom (image : Image) (table : Table) (from to : ℕ) (kinds : List CellKind)
+    : Type 0 where
   pub instr : Instr
   pub next : ℕ
-  pub before : List Kind
+  pub before : List CellKind
   pub here : instr_at image.code from ≡ Some (instr, next)
   pub known : table from ≡ Some before
   pub gives : after image instr before ≡ Some kinds
@@ -34,34 +35,41 @@ pub record ComesFrom (image : Image) (table : Table) (from to : ℕ) (kinds : Li
 
 -- These kinds come to the place: none at the start of the code, and what an instruction before
 -- `done` gives that leads there.
-abbrev pub Comes : Image → Table → ℕ → ℕ → List Kind → Type 0
-Comes image table done to kinds = ((to ≡ 0) × (kinds ≡ [])) ⊎ ((from : ℕ) × (from < done) × ComesFrom image table from to kinds)
+abbrev pub Comes : Image → Table → ℕ → ℕ → List CellKind → Type 0
+Comes image table done to kinds =
+    ((to ≡ 0) × (kinds ≡ [])) ⊎ ((from : ℕ) × (from < done) × ComesFrom image table from to kinds)
 
--- Something comes to the place, and these are the least kinds above all that comes.
-pub record IsMerge (image : Image) (table : Table) (done to : ℕ) (kinds : List Kind) : Type 0 where
-  pub some : (first : List Kind) × Comes image table done to first
-  pub above : (others : List Kind) → Comes image table done to others → AreWithin others kinds
-  pub least : (top : List Kind) → ((others : List Kind) → Comes image table done to others → AreWithin others top) → AreWithin kinds top
+-- Something comes to the place, and these are the join of all that comes: the least kinds above it.
+pub record IsJoin (image : Image) (table : Table) (done to : ℕ) (kinds : List CellKind)
+    : Type 0 where
+  pub some : (first : List CellKind) × Comes image table done to first
+  pub above : (others : List CellKind) → Comes image table done to others → AreWithin others kinds
+  pub least : (top : List CellKind)
+      → ((others : List CellKind) → Comes image table done to others → AreWithin others top)
+      → AreWithin kinds top
 
 -- The place has no fault: its instruction has none on the kinds there, leads to instructions alone,
 -- and gives as many kinds as come there from places before it.
 pub record Passes (image : Image) (table : Table) (place : ℕ) : Type 0 where
   pub instr : Instr
   pub next : ℕ
-  pub kinds : List Kind
-  pub gives : List Kind
+  pub kinds : List CellKind
+  pub gives : List CellKind
   pub here : instr_at image.code place ≡ Some (instr, next)
   pub known : table place ≡ Some kinds
   pub faultless : fault_of (slots_of image) (length image.timers) instr kinds ≡ None
   pub effect : after image instr kinds ≡ Some gives
   pub targets : (to : ℕ) → LeadsTo instr next to → IsPlace image.code to
-  pub depths : (to : ℕ) → LeadsTo instr next to → (others : List Kind) → Comes image table place to others → length others ≡ length gives
+  pub depths : (to : ℕ) → LeadsTo instr next to → (others : List CellKind)
+      → Comes image table place to others → length others ≡ length gives
 
 -- The table has the least kinds at each place below `done`, and nothing elsewhere; and none of
 -- these places has a fault.
 pub record IsFront (image : Image) (table : Table) (done : ℕ) : Type 0 where
-  pub only : (place : ℕ) (kinds : List Kind) → table place ≡ Some kinds → (place < done) × IsPlace image.code place
-  pub merged : (place : ℕ) (kinds : List Kind) → table place ≡ Some kinds → IsMerge image table place place kinds
+  pub only : (place : ℕ) (kinds : List CellKind) → table place ≡ Some kinds
+      → (place < done) × IsPlace image.code place
+  pub joined : (place : ℕ) (kinds : List CellKind) → table place ≡ Some kinds
+      → IsJoin image table place place kinds
   pub passes : (place : ℕ) → place < done → IsPlace image.code place → Passes image table place
 
 -- ---- the faults of a place, of which at most one is its first
@@ -70,13 +78,16 @@ pub record IsFront (image : Image) (table : Table) (done : ℕ) : Type 0 where
 pub record Arrives (image : Image) (table : Table) (place : ℕ) : Type 0 where
   pub instr : Instr
   pub next : ℕ
-  pub kinds : List Kind
+  pub kinds : List CellKind
   pub here : instr_at image.code place ≡ Some (instr, next)
-  pub merged : IsMerge image table place place kinds
+  pub joined : IsJoin image table place place kinds
 
-abbrev pub own_fault : {image : Image} {table : Table} {place : ℕ} → Arrives image table place → Option VerifyFault
+-- the fault of the place's instruction by itself
+abbrev pub own_fault : {image : Image} {table : Table} {place : ℕ} → Arrives image table place
+    → Option VerifyFault
 own_fault {image} a = fault_of (slots_of image) (length image.timers) a.instr a.kinds
 
+-- The instruction jumps to this place.
 abbrev pub JumpsTo : Instr → ℕ → ℕ → Type 0
 JumpsTo (Jump when distance) next to = to ≡ next + distance
 JumpsTo Halt next to = ⊥
@@ -110,13 +121,13 @@ pub record GoesPast (image : Image) (table : Table) (place : ℕ) : Type 0 where
 -- a place before it.
 pub record Clashes (image : Image) (table : Table) (place : ℕ) : Type 0 where
   pub at : Arrives image table place
-  pub gives : List Kind
+  pub gives : List CellKind
   pub faultless : own_fault at ≡ None
   pub effect : after image at.instr at.kinds ≡ Some gives
   pub targets : (to : ℕ) → LeadsTo at.instr at.next to → IsPlace image.code to
   pub to : ℕ
   pub leads : LeadsTo at.instr at.next to
-  pub others : List Kind
+  pub others : List CellKind
   pub comes : Comes image table place to others
   pub unequal : length others ≡ length gives → ⊥
 
@@ -124,8 +135,10 @@ pub record Clashes (image : Image) (table : Table) (place : ℕ) : Type 0 where
 abbrev pub HasOwn : Image → Table → ℕ → VerifyFault → Type 0
 HasOwn image table place fault = (a : Arrives image table place) × (own_fault a ≡ Some fault)
 
+-- This is the first fault of the place.
 abbrev pub IsFaultAt : Image → Table → ℕ → VerifyFault → Type 0
-IsFaultAt image table place Unreachable = (kinds : List Kind) → Comes image table place place kinds → ⊥
+IsFaultAt image table place Unreachable =
+    (kinds : List CellKind) → Comes image table place place kinds → ⊥
 IsFaultAt image table place BadTarget = JumpsBadly image table place
 IsFaultAt image table place NoHalt = GoesPast image table place
 IsFaultAt image table place DepthClash = Clashes image table place
@@ -150,7 +163,9 @@ IsWithoutCode image fault place = (image.code ≡ []) × (fault ≡ NoHalt) × (
 
 -- The first place with a fault is this one.
 abbrev pub FailsAt : Image → VerifyFault → ℕ → Type 0
-FailsAt image fault place = (table : Table) × IsFront image table place × IsPlace image.code place × IsFaultAt image table place fault
+FailsAt image fault place =
+    (table : Table) × IsFront image table place × IsPlace image.code place
+    × IsFaultAt image table place fault
 
 -- It fits the bay and has code, so that its places are gone over.
 abbrev pub TakesMemory : List Point → Image → Type 0
@@ -159,4 +174,5 @@ TakesMemory bay image = (fits bay image ≡ true) × (0 < length image.code)
 -- This is the image's first fault, and the place of it.
 abbrev pub IsRefusal : List Point → Image → VerifyFault → ℕ → Type 0
 IsRefusal bay image fault place =
-    DoesNotFit bay image fault place ⊎ ((fits bay image ≡ true) × (IsWithoutCode image fault place ⊎ FailsAt image fault place))
+    DoesNotFit bay image fault place
+    ⊎ ((fits bay image ≡ true) × (IsWithoutCode image fault place ⊎ FailsAt image fault place))

@@ -5,18 +5,20 @@ use Rattle.il_image.specs.declared.image.ImagePoint.{ImagePoint}
 use Rattle.il_image.specs.declared.value.Value.{Value}
 use Rattle.il_image.specs.Images.{Image}
 use Rattle.il_image.specs.Values.{type_of}
-use Rattle.il_verify.specs.declared.slots.Slot.{Slot}
+use Rattle.il_verify.specs.declared.slots.SlotType.{SlotType}
 
 -- the code may write a point where the point says so
-abbrev pub point_slot : ImagePoint → Slot
+abbrev pub point_slot : ImagePoint → SlotType
 point_slot p = record { elementary = p.elementary; writable = p.writable }
 
 -- and each variable
-abbrev pub variable_slot : Value → Slot
+abbrev pub variable_slot : Value → SlotType
 variable_slot v = record { elementary = type_of v; writable = true }
 
-unfoldable pub slots_of : Image → List Slot
+-- the slots of an image, in the order of their numbers
+unfoldable pub slots_of : Image → List SlotType
 slots_of i = map point_slot i.points ++ map variable_slot i.variables
 
-abbrev pub types_of : List Slot → List ElementaryType
+-- their types
+abbrev pub types_of : List SlotType → List ElementaryType
 types_of slots = map (λ s. s.elementary) slots

@@ -2,7 +2,7 @@
 use Rattle.std.specs.Prelude.{ℕ, ◌≡◌, ◌≤◌, true, false, List, length, Some}
 use Rattle.bay_config.specs.declared.bay.Point.{Point}
 use Rattle.il_image.specs.declared.instr.Instr.{Instr}
-use Rattle.il_image.specs.declared.kind.Kind.{Kind}
+use Rattle.il_image.specs.declared.kind.CellKind.{CellKind}
 use Rattle.il_image.specs.Images.{Image}
 use Rattle.il_image.specs.Reading.{instr_at}
 use Rattle.il_image.specs.Tables.{Agrees, Ends, HasTable, IsPlace, Table}
@@ -12,7 +12,9 @@ use Rattle.il_verify.specs.Slots.{slots_of}
 
 -- No instruction of the code writes a point that may only be read.
 abbrev pub KeepsReadOnly : Image → Type 0
-KeepsReadOnly image = (place : ℕ) (instr : Instr) (next : ℕ) → IsPlace image.code place → instr_at image.code place ≡ Some (instr, next) → writes_read_only (slots_of image) instr ≡ false
+KeepsReadOnly image = (place : ℕ) (instr : Instr) (next : ℕ) → IsPlace image.code place
+    → instr_at image.code place ≡ Some (instr, next)
+    → writes_read_only (slots_of image) instr ≡ false
 
 -- A table agrees with the code, and it writes what it may.
 pub record IsSafe (image : Image) : Type 0 where
@@ -26,8 +28,9 @@ pub record IsBudget (code : List ℕ) (budget : ℕ) : Type 0 where
 
 -- the length of a longest list of the table
 pub record IsLongest (table : Table) (depth : ℕ) : Type 0 where
-  pub some : (place : ℕ) × (kinds : List Kind) × (table place ≡ Some kinds) × (length kinds ≡ depth)
-  pub most : (place : ℕ) (kinds : List Kind) → table place ≡ Some kinds → length kinds ≤ depth
+  pub some : (place : ℕ) × (kinds : List CellKind) × (table place ≡ Some kinds)
+      × (length kinds ≡ depth)
+  pub most : (place : ℕ) (kinds : List CellKind) → table place ≡ Some kinds → length kinds ≤ depth
 
 -- A table agrees with the code, and this is the length of a longest list of each that does.
 pub record IsDepth (image : Image) (depth : ℕ) : Type 0 where

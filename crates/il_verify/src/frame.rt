@@ -1,12 +1,12 @@
-// The frames of the places that are still to come.
+// The frames of the places that are still to come, and how frames are joined.
 ghost use Rattle.std.specs.Prelude.{ℕ, ◌-◌, ◌≡◌, ◌≢◌, ◌+◌, ◌<◌, ◌^◌, Some, None, length, reverse, OnOk, IfOk, IfErr, IfSome, IsSome, option_map, true};
 ghost use Rattle.il_verify.specs.declared.frame.Frame.{Frame};
-ghost use Rattle.il_verify.specs.Frames.{Clashing, Falls, Grows, JumpClash, Jumps, Mark, Pends, beside, frame_at, joins, mark_of, marks_of};
+ghost use Rattle.il_verify.specs.Frames.{Clashing, Falls, Grows, JumpClash, Jumps, PlainFrame, Pends, beside, frame_at, join_all, plain_frame, plain_frames};
 ghost use Rattle.il_verify.specs.Frames as spec;
 
 use crate::fault::VerifyFault;
 use il_image::instr::Instr;
-use il_image::kind::{Kind, join};
+use il_image::kind::{CellKind, join};
 use il_image::opcode::When;
 use std::alloc::{AllocError, Global};
 
@@ -14,13 +14,13 @@ use std::alloc::{AllocError, Global};
 #[derive(Drop)]
 pub(crate) struct Frame {
     /// The kinds on the stack, the top last.
-    pub kinds: Vec<Kind>,
+    pub kinds: Vec<CellKind>,
     /// The number of places on a longest path from the first place to this one.
     pub longest: u32,
 }
 
 // A copy of the kinds on a stack.
-fn copy_of(alloc: Global, kinds: &[Kind]) -> Result<Vec<Kind>, AllocError>
+fn copy_of(alloc: Global, kinds: &[CellKind]) -> Result<Vec<CellKind>, AllocError>
     ensures { IfOk result (λ v. v.items ≡ kinds.now) }
 {
     let mut copy = Vec::new(alloc);
@@ -28,20 +28,24 @@ fn copy_of(alloc: Global, kinds: &[Kind]) -> Result<Vec<Kind>, AllocError>
     Ok(copy)
 }
 
-// Raises each kind to the least above it and the other at its place.
-fn join_all(kinds: &mut Vec<Kind>, others: &[Kind])
+// Joins each kind with the other at its place: the least kind above both.
+fn join_all(kinds: &mut Vec<CellKind>, others: &[CellKind])
     requires { length kinds.old.items ≡ length others.now }
-    ensures { kinds.new.items ≡ joins kinds.old.items others.now }
+    ensures { kinds.new.items ≡ join_all kinds.old.items others.now }
 {
     for i in 0..others.len() {
         kinds[i] = join(kinds[i], others[i]);
     }
 }
 
-// Another path comes to the place of a frame. A frame of another depth stays as it was.
-fn meet(frame: &mut Frame, kinds: &[Kind], longest: u32) -> Result<(), VerifyFault>
-    ensures ok { OnOk result (Grows (record { kinds = reverse kinds.now; longest = longest }) (Some (mark_of frame.old)) (mark_of frame.new)) }
-    ensures err { IfErr result (λ f. (f ≡ VerifyFault.DepthClash) × (length frame.old.kinds.items ≢ length kinds.now)) }
+// Joins a frame with what another path brings to its place. A frame of another depth stays as it
+// was.
+fn join_frame(frame: &mut Frame, kinds: &[CellKind], longest: u32) -> Result<(), VerifyFault>
+    ensures ok { OnOk result
+        (Grows (record { kinds = reverse kinds.now; longest = longest })
+        (Some (plain_frame frame.old)) (plain_frame frame.new)) }
+    ensures err { IfErr result
+        (λ f. (f ≡ VerifyFault.DepthClash) × (length frame.old.kinds.items ≢ length kinds.now)) }
 {
     if frame.kinds.len() != kinds.len() {
         return Err(VerifyFault::DepthClash);
@@ -55,7 +59,8 @@ fn meet(frame: &mut Frame, kinds: &[Kind], longest: u32) -> Result<(), VerifyFau
 fn grow(pending: &mut Vec<Option<Frame>>, place: usize) -> Result<(), AllocError>
     requires { place < 2 ^ 64 - 1 }
     ensures room { OnOk result (place < length pending.new.items) }
-    ensures same { OnOk result ((q : ℕ) → marks_of pending.new.items q ≡ marks_of pending.old.items q) }
+    ensures same { OnOk result
+        ((q : ℕ) → plain_frames pending.new.items q ≡ plain_frames pending.old.items q) }
 {
     for _ in pending.len()..place + 1 {
         pending.push(None)?;
@@ -67,14 +72,20 @@ fn grow(pending: &mut Vec<Option<Frame>>, place: usize) -> Result<(), AllocError
 fn arrive(
     alloc: Global,
     slot: &mut Option<Frame>,
-    kinds: &[Kind],
+    kinds: &[CellKind],
     longest: u32,
 ) -> Result<(), VerifyFault>
-    ensures ok { OnOk result ((frame : Frame) × (slot.new ≡ Some frame) × Grows (record { kinds = reverse kinds.now; longest = longest }) (option_map mark_of slot.old) (mark_of frame)) }
-    ensures err { IfErr result (λ f. f ≢ VerifyFault.OutOfMemory → (f ≡ VerifyFault.DepthClash) × Clashing (option_map mark_of slot.old) (reverse kinds.now)) }
+    ensures ok { OnOk result
+        ((frame : Frame) × (slot.new ≡ Some frame)
+        × Grows (record { kinds = reverse kinds.now; longest = longest })
+        (option_map plain_frame slot.old) (plain_frame frame)) }
+    ensures err { IfErr result
+        (λ f. f ≢ VerifyFault.OutOfMemory
+        → (f ≡ VerifyFault.DepthClash)
+        × Clashing (option_map plain_frame slot.old) (reverse kinds.now)) }
 {
     if let Some(frame) = slot {
-        return meet(frame, kinds, longest);
+        return join_frame(frame, kinds, longest);
     }
     let kinds = copy_of(alloc, kinds)?;
     *slot = Some(Frame { kinds, longest });
@@ -86,12 +97,17 @@ fn pend(
     alloc: Global,
     pending: &mut Vec<Option<Frame>>,
     place: usize,
-    kinds: &[Kind],
+    kinds: &[CellKind],
     longest: u32,
 ) -> Result<(), VerifyFault>
     requires { place < 2 ^ 64 - 1 }
-    ensures ok { OnOk result (Pends (marks_of pending.old.items) (marks_of pending.new.items) place (record { kinds = reverse kinds.now; longest = longest })) }
-    ensures err { IfErr result (λ f. f ≢ VerifyFault.OutOfMemory → (f ≡ VerifyFault.DepthClash) × Clashing (marks_of pending.old.items place) (reverse kinds.now)) }
+    ensures ok { OnOk result
+        (Pends (plain_frames pending.old.items) (plain_frames pending.new.items) place
+        (record { kinds = reverse kinds.now; longest = longest })) }
+    ensures err { IfErr result
+        (λ f. f ≢ VerifyFault.OutOfMemory
+        → (f ≡ VerifyFault.DepthClash)
+        × Clashing (plain_frames pending.old.items place) (reverse kinds.now)) }
 {
     grow(pending, place)?;
     arrive(alloc, &mut pending[place], kinds, longest)
@@ -102,13 +118,18 @@ pub(crate) fn jump(
     alloc: Global,
     instr: Instr,
     next: usize,
-    kinds: &[Kind],
+    kinds: &[CellKind],
     longest: u32,
     pending: &mut Vec<Option<Frame>>,
 ) -> Result<(), VerifyFault>
     requires { next < 2 ^ 63 }
-    ensures ok { OnOk result (Jumps instr next (record { kinds = reverse kinds.now; longest = longest }) (marks_of pending.old.items) (marks_of pending.new.items)) }
-    ensures err { IfErr result (λ f. f ≢ VerifyFault.OutOfMemory → (f ≡ VerifyFault.DepthClash) × JumpClash instr next (marks_of pending.old.items) (reverse kinds.now)) }
+    ensures ok { OnOk result
+        (Jumps instr next (record { kinds = reverse kinds.now; longest = longest })
+        (plain_frames pending.old.items) (plain_frames pending.new.items)) }
+    ensures err { IfErr result
+        (λ f. f ≢ VerifyFault.OutOfMemory
+        → (f ≡ VerifyFault.DepthClash)
+        × JumpClash instr next (plain_frames pending.old.items) (reverse kinds.now)) }
 {
     match instr {
         Instr::Jump(_, distance) => {
@@ -131,7 +152,8 @@ pub(crate) fn goes_on(instr: Instr) -> bool
 // What is pending at a place, which no longer is.
 fn taken(pending: &mut Vec<Option<Frame>>, place: usize) -> Option<Frame>
     ensures value { result ≡ frame_at pending.old.items place }
-    ensures others { (q : ℕ) → (q ≡ place → ⊥) → marks_of pending.new.items q ≡ marks_of pending.old.items q }
+    ensures others { (q : ℕ) → (q ≡ place → ⊥)
+        → plain_frames pending.new.items q ≡ plain_frames pending.old.items q }
 {
     if place < pending.len() {
         pending[place].take()
@@ -147,8 +169,13 @@ pub(crate) fn fall(
     frame: Frame,
     pending: &mut Vec<Option<Frame>>,
 ) -> Result<Option<Frame>, VerifyFault>
-    ensures ok { IfOk result (λ behind. Falls instr next (mark_of frame) (marks_of pending.old.items) (beside next (option_map mark_of behind) (marks_of pending.new.items))) }
-    ensures err { IfErr result (λ f. (f ≡ VerifyFault.DepthClash) × ((spec.goes_on instr ≡ true) × Clashing (marks_of pending.old.items next) (mark_of frame).kinds)) }
+    ensures ok { IfOk result
+        (λ behind. Falls instr next (plain_frame frame) (plain_frames pending.old.items)
+        (beside next (option_map plain_frame behind) (plain_frames pending.new.items))) }
+    ensures err { IfErr result
+        (λ f. (f ≡ VerifyFault.DepthClash)
+        × ((spec.goes_on instr ≡ true)
+        × Clashing (plain_frames pending.old.items next) (plain_frame frame).kinds)) }
 {
     let old = taken(pending, next);
     if !goes_on(instr) {
@@ -156,7 +183,7 @@ pub(crate) fn fall(
     }
     match old {
         None => Ok(Some(frame)),
-        Some(mut other) => match meet(&mut other, frame.kinds.as_slice(), frame.longest) {
+        Some(mut other) => match join_frame(&mut other, frame.kinds.as_slice(), frame.longest) {
             Ok(()) => Ok(Some(other)),
             Err(fault) => return Err(fault),
         },

@@ -8,10 +8,12 @@ ghost use Rattle.il_verify.specs.declared.fault.VerifyFault.{VerifyFault};
 
 /// An image has one first fault at most, and one place of it.
 pub fn one_refusal()
-    ensures { (points : List Point) (image : Image) (f g : VerifyFault) (p q : ℕ) → IsRefusal points image f p → IsRefusal points image g q → (f ≡ g) × (p ≡ q) }
+    ensures { (points : List Point) (image : Image) (f g : VerifyFault) (p q : ℕ)
+        → IsRefusal points image f p → IsRefusal points image g q → (f ≡ g) × (p ≡ q) }
 {}
 
 /// An image that has a first fault is none that is verified.
 pub fn refused_or_verified()
-    ensures { (points : List Point) (image : Image) (fault : VerifyFault) (place : ℕ) → IsRefusal points image fault place → IsVerified points image → ⊥ }
+    ensures { (points : List Point) (image : Image) (fault : VerifyFault) (place : ℕ)
+        → IsRefusal points image fault place → IsVerified points image → ⊥ }
 {}

@@ -5,8 +5,9 @@
 // - `points`: whether an image's points are points of the bay.
 // - `slots`: the slots that the code uses.
 // - `plan`: what is looked up: the slots, and where instructions begin.
-// - `effect`: what an instruction does to the kinds on the stack, and its own faults.
-// - `frame`: the frames of the places that are still to come.
+// - `effect`: the transfer function of each instruction on the kinds on the stack, and its own
+// faults.
+// - `frame`: the frames of the places that are still to come, and how frames are joined.
 // - `visit`: one place of the code.
 // - `pass`: the pass over all places.
 // - `laws`: what holds of the definitions that the contracts cite.

@@ -67,7 +67,8 @@ pub(crate) fn pass(alloc: Global, image: &Image, plan: &Plan) -> Result<Measures
     requires some { 0 < length image.now.code }
     requires format { IsImage image.now }
     ensures ok { IfOk result (λ m. IsMeasured image.now m.budget m.depth) }
-    ensures err { IfErr result (λ s. s.fault ≢ VerifyFault.OutOfMemory → FailsAt image.now s.fault s.place) }
+    ensures err { IfErr result
+        (λ s. s.fault ≢ VerifyFault.OutOfMemory → FailsAt image.now s.fault s.place) }
     ensures memory { IfErr result (λ s. s.fault ≡ VerifyFault.OutOfMemory → s.place ≡ 0) }
 {
     let code = image.code();

@@ -4,7 +4,7 @@ ghost use Rattle.il_image.specs.Images.{IsCode};
 ghost use Rattle.il_verify.specs.Frames.{IsPlan, MarksPlaces};
 ghost use Rattle.il_verify.specs.Sizes.{size_of_opcode};
 
-use crate::slots::{Slot, slots_of};
+use crate::slots::{SlotType, slots_of};
 use bay_base::types::ElementaryType;
 use il_image::image::Image;
 use il_image::opcode::Opcode;
@@ -14,7 +14,7 @@ use std::alloc::{AllocError, Global};
 /// there.
 #[derive(Drop)]
 pub(crate) struct Plan {
-    pub slots: Vec<Slot>,
+    pub slots: Vec<SlotType>,
     pub timers: usize,
     pub starts: Vec<bool>,
 }

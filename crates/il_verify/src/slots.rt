@@ -8,19 +8,19 @@ use il_image::image::{Image, ImagePoint};
 use il_image::value::Value;
 use std::alloc::{AllocError, Global};
 
-/// A slot: its type, and whether the code may write it.
+/// The type of a slot, and whether the code may write it.
 #[derive(Clone, Copy)]
-pub struct Slot {
+pub struct SlotType {
     pub elementary: ElementaryType,
     pub writable: bool,
 }
 
 // Appends the slot of each point.
-fn push_points(slots: &mut Vec<Slot>, points: &[ImagePoint]) -> Result<(), AllocError>
+fn push_points(slots: &mut Vec<SlotType>, points: &[ImagePoint]) -> Result<(), AllocError>
     ensures { OnOk result (slots.new.items ≡ slots.old.items ++ map point_slot points.now) }
 {
     for point in points {
-        slots.push(Slot {
+        slots.push(SlotType {
             elementary: point.elementary,
             writable: point.writable,
         })?;
@@ -29,11 +29,11 @@ fn push_points(slots: &mut Vec<Slot>, points: &[ImagePoint]) -> Result<(), Alloc
 }
 
 // Appends the slot of each variable, which may be written.
-fn push_variables(slots: &mut Vec<Slot>, variables: &[Value]) -> Result<(), AllocError>
+fn push_variables(slots: &mut Vec<SlotType>, variables: &[Value]) -> Result<(), AllocError>
     ensures { OnOk result (slots.new.items ≡ slots.old.items ++ map variable_slot variables.now) }
 {
     for variable in variables {
-        slots.push(Slot {
+        slots.push(SlotType {
             elementary: variable.type_of(),
             writable: true,
         })?;
@@ -43,7 +43,7 @@ fn push_variables(slots: &mut Vec<Slot>, variables: &[Value]) -> Result<(), Allo
 
 /// The points' slots, and then the variables'.
 #[tactic(auto, unfolding(crate::specs::Slots::slots_of))]
-pub(crate) fn slots_of(alloc: Global, image: &Image) -> Result<Vec<Slot>, AllocError>
+pub(crate) fn slots_of(alloc: Global, image: &Image) -> Result<Vec<SlotType>, AllocError>
     ensures { IfOk result (λ slots. slots.items ≡ spec.slots_of image.now) }
 {
     let mut slots = Vec::new(alloc);

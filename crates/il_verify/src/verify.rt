@@ -75,8 +75,10 @@ pub struct Refused {
 fn check(alloc: Global, image: &Image, points: &[Point]) -> Result<Measures, Stop>
     ensures fits { IfOk result (λ m. fits points.now image.now ≡ true) }
     ensures ok { IfOk result (λ m. IsMeasured image.now m.budget m.depth) }
-    ensures err { IfErr result (λ s. s.fault ≢ VerifyFault.OutOfMemory → IsRefusal points.now image.now s.fault s.place) }
-    ensures memory { IfErr result (λ s. s.fault ≡ VerifyFault.OutOfMemory → (s.place ≡ 0) × TakesMemory points.now image.now) }
+    ensures err { IfErr result
+        (λ s. s.fault ≢ VerifyFault.OutOfMemory → IsRefusal points.now image.now s.fault s.place) }
+    ensures memory { IfErr result
+        (λ s. s.fault ≡ VerifyFault.OutOfMemory → (s.place ≡ 0) × TakesMemory points.now image.now) }
 {
     if !fits(points, image) {
         return Err(Stop {
@@ -117,9 +119,12 @@ pub fn verify(alloc: Global, image: Image, points: &[Point]) -> Result<Verified,
     ensures accepted { IfOk result (λ v. IsVerified points.now image) }
 
     ensures back { IfErr result (λ r. r.image ≡ image) }
-    ensures refused { IfErr result (λ r. r.fault ≢ VerifyFault.OutOfMemory → IsRefusal points.now image r.fault r.place) }
-    ensures exact { IfErr result (λ r. r.fault ≢ VerifyFault.OutOfMemory → IsVerified points.now image → ⊥) }
-    ensures memory { IfErr result (λ r. r.fault ≡ VerifyFault.OutOfMemory → (r.place ≡ 0) × TakesMemory points.now image) }
+    ensures refused { IfErr result
+        (λ r. r.fault ≢ VerifyFault.OutOfMemory → IsRefusal points.now image r.fault r.place) }
+    ensures exact { IfErr result
+        (λ r. r.fault ≢ VerifyFault.OutOfMemory → IsVerified points.now image → ⊥) }
+    ensures memory { IfErr result
+        (λ r. r.fault ≡ VerifyFault.OutOfMemory → (r.place ≡ 0) × TakesMemory points.now image) }
 {
     match check(alloc, &image, points) {
         Ok(Measures { budget, depth }) => Ok(Verified {

@@ -3,10 +3,10 @@
 ghost use Rattle.std.specs.Prelude.{◌≡◌, ◌≢◌, ◌<◌, ◌-◌, ◌^◌, ℕ, IfErr, IfOk, OnOk, option_map};
 ghost use Rattle.std.specs.Bool.{OnFalse, OnTrue};
 ghost use Rattle.il_image.specs.Tables.{IsPlace};
-ghost use Rattle.il_verify.specs.Frames.{FailsVisit, IsPlan, JumpsWrong, LeadsRight, LeadsWrong, MarksPlaces, Visits, beside, mark_of, marks_of};
+ghost use Rattle.il_verify.specs.Frames.{FailsVisit, IsPlan, JumpsWrong, LeadsRight, LeadsWrong, MarksPlaces, Visits, beside, plain_frame, plain_frames};
 ghost use Rattle.il_verify.specs.Refusals.{JumpsTo};
 
-use crate::effect::judge;
+use crate::effect::transfer;
 use crate::fault::VerifyFault;
 use crate::frame::{Frame, fall, goes_on, jump};
 use crate::plan::{Plan, is_place};
@@ -56,13 +56,16 @@ pub(crate) fn visit(
     requires plan { IsPlan image.now plan.now }
     requires fits { next < 2 ^ 63 }
     requires short { frame.longest < 2 ^ 32 - 1 }
-    ensures ok { IfOk result (λ behind. Visits image.now instr next (mark_of frame) (marks_of pending.old.items)
-        (beside next (option_map mark_of behind) (marks_of pending.new.items))) }
-    ensures err { IfErr result (λ f. f ≢ VerifyFault.OutOfMemory → FailsVisit image.now instr next (mark_of frame) (marks_of pending.old.items) f) }
+    ensures ok { IfOk result
+        (λ behind. Visits image.now instr next (plain_frame frame) (plain_frames pending.old.items)
+        (beside next (option_map plain_frame behind) (plain_frames pending.new.items))) }
+    ensures err { IfErr result
+        (λ f. f ≢ VerifyFault.OutOfMemory
+        → FailsVisit image.now instr next (plain_frame frame) (plain_frames pending.old.items) f) }
 {
     let Frame { kinds, longest } = frame;
     let mut kinds = kinds;
-    match judge(plan.slots.as_slice(), plan.timers, instr, &mut kinds) {
+    match transfer(plan.slots.as_slice(), plan.timers, instr, &mut kinds) {
         Ok(()) => {}
         Err(fault) => return Err(fault),
     }

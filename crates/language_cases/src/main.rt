@@ -72,6 +72,7 @@ fn run_at_bay(alloc: Global, text: &str) -> Result<String> {
     run(alloc, bay.points.as_slice(), text)
 }
 
+/// Tells how the cases of the standard input come out.
 fn main(rt: HostRuntime) -> Result<()> {
     let mut text = String::new(rt.alloc());
     rt.reader().read_to_string(&mut text)?;

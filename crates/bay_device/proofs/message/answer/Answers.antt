@@ -57,8 +57,8 @@ returns-clause-ok c connections =
     let x : Answered = answered c.args.client c.args.connection.now.pdu (bay_of s) in
     let answered-as = rw c.pdu.ensures at c.in_ok-answer.ensures.ok in
     let did = c.in_ok-due.ensures in
-    answered-done a terms x s c.args.output.now.sent.items c.reply.new.output.sent.items c.args.output.now.commands.items c.reply.new.output.commands.items (bay_view c.answer.new.self) c.replace_due.new.due
+    answered-done a terms x s c.args.made.now.sent.items c.reply.new.made.sent.items c.args.made.now.commands.items c.reply.new.made.commands.items (bay_view c.answer.new.self) c.replace_due.new.due
     answered-as.left
     (c.replace_due.ensures ∙ ap (later_due d.due) (did.due ∙ ap (due_if a terms) answered-as.ending))
-    (did.sent ∙ ap (λ pdus. c.args.output.now.sent.items ++ map (λ pdu. sent_on a (sending terms pdu)) pdus) answered-as.sent)
-    (did.commands ∙ ap (λ cs. c.args.output.now.commands.items ++ cs) answered-as.commands)
+    (did.sent ∙ ap (λ pdus. c.args.made.now.sent.items ++ map (λ pdu. sent_on a (sending terms pdu)) pdus) answered-as.sent)
+    (did.commands ∙ ap (λ cs. c.args.made.now.commands.items ++ cs) answered-as.commands)

@@ -22,7 +22,7 @@ loop-at-init c = record {
   going = c.requires.going;
   first = λ none. refl;
   later = λ some. absurd (omega (arith, some));
-  moves = λ connections. moves-none c.args.now c.args.association c.args.connection.now.talk c.args.octets.now (done_of (state_view connections c.args.state.now) c.args.output.now);
+  moves = λ connections. moves-none c.args.now c.args.association c.args.connection.now.talk c.args.octets.now (done_of (state_view connections c.args.state.now) c.args.made.now);
 }
 
 pub loop-at-preserved : goal.loop-at-preserved
@@ -60,5 +60,5 @@ returns-clause-ok c connections =
     let octets = c.args.octets.now in
     let past : length octets ≤ c.loop-at.at = omega (arith, c.loop-at-test.false) in
     let none : drop c.loop-at.at octets ≡ [] = drop_of_length-le octets past in
-    ends-all c.args.now c.args.association c.args.connection.now.talk octets (done_of (state_view connections c.args.state.now) c.args.output.now) c.loop-at.connection.talk
-    (done_of (state_view connections c.loop-at.state) c.loop-at.output) (returns-clause-left c) (rw none at (c.loop-at.invariant.moves connections))
+    ends-all c.args.now c.args.association c.args.connection.now.talk octets (done_of (state_view connections c.args.state.now) c.args.made.now) c.loop-at.connection.talk
+    (done_of (state_view connections c.loop-at.state) c.loop-at.made) (returns-clause-left c) (rw none at (c.loop-at.invariant.moves connections))

@@ -13,7 +13,7 @@ pub returns-in_err-fed-clause-err : goal.returns-in_err-fed-clause-err
 returns-in_err-fed-clause-err c =
     let p = err_from_is_err_and c.from_residual.result c.from_residual.ensures.1 in
     rw (p.1, p.2) (λ connections.
-    stops-memory c.args.now c.args.association c.args.connection.now.talk c.args.rest.now (done_of (state_view connections c.args.state.now) c.args.output.now) _ refl)
+    stops-memory c.args.now c.args.association c.args.connection.now.talk c.args.rest.now (done_of (state_view connections c.args.state.now) c.args.made.now) _ refl)
 
 pub returns-in_err-hear-clause-err : goal.returns-in_err-hear-clause-err
 returns-in_err-hear-clause-err c =
@@ -23,8 +23,8 @@ returns-in_err-hear-clause-err c =
     let fed = c.in_ok-fed.ensures in
     let why = c.in_err-hear.field-0.0 in
     rw (p.1, p.2) (λ connections.
-    let d = done_of (state_view connections c.args.state.now) c.args.output.now in
-    let e = done_of (state_view connections c.hear.new.state) c.hear.new.output in
+    let d = done_of (state_view connections c.args.state.now) c.args.made.now in
+    let e = done_of (state_view connections c.hear.new.state) c.hear.new.made in
     stops-by c.args.now c.args.association old c.args.rest.now d e why
     (λ is. c.in_err-hear.ensures.memory is connections)
     (λ other. stops-heard c.args.now c.args.association old c.args.rest.now c.in_ok-fed.fed.used new.talk c.requires.going fed.left
@@ -49,5 +49,5 @@ returns-clause-ok c connections =
     let new = c.feed.new.self in
     let fed = c.in_ok-fed.ensures in
     moves-heard c.args.now c.args.association c.args.connection.now.talk c.args.rest.now c.in_ok-fed.fed.used new.talk c.requires.going fed.left
-    (indication_of c.in_ok-fed.fed.heard new) (done_of (state_view connections c.args.state.now) c.args.output.now) (done_of (state_view connections c.hear.new.state) c.hear.new.output)
+    (indication_of c.in_ok-fed.fed.heard new) (done_of (state_view connections c.args.state.now) c.args.made.now) (done_of (state_view connections c.hear.new.state) c.hear.new.made)
     fed.fed (λ later. c.in_ok-hear.ensures.ok connections later)

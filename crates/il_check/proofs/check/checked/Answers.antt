@@ -8,30 +8,62 @@ use Rattle.il_check.proofs.check.checked.Goals as goal
 
 pub of_parts-requires : goal.of_parts-requires
 of_parts-requires c =
-    let names : Names = record { meanings = c.in_ok-declared.declared.meanings; labels = c.in_ok-labels.labels.numbers } in
-    let read : IsRead c.args.points.now (plain_program c.args.program.now) c.in_ok-declared.declared c.in_ok-labels.labels names (map item_view c.in_ok-items.items.items) c.items.new.self.found =
-    is_read c.args.points.now c.args.program.now c.as_slice.result.now c.as_slice-2.result.now c.as_slice-3.result.now c.in_ok-declared.declared c.in_ok-labels.labels _ _
-    c.as_slice.ensures.value c.as_slice-2.ensures.value c.as_slice-3.ensures.value c.in_ok-declared.ensures.stands c.in_ok-declared.ensures.found c.in_ok-labels.ensures.stands c.in_ok-items.ensures.left c.in_ok-items.ensures.found in
-    let was = passed c.args.points.now (plain_program c.args.program.now) c.in_ok-declared.declared c.in_ok-labels.labels names _ _ read c.in-None.is in
+    let names : Names =
+    record {
+      meanings = c.in_ok-declared.declared.meanings;
+      labels = c.in_ok-labels.labels.numbers;
+    } in
+    let read : IsRead c.args.points.now (plain_program c.args.program.now) c.in_ok-declared.declared
+    c.in_ok-labels.labels names (map item_view c.in_ok-items.items.items)
+    c.items.new.self.found =
+    is_read c.args.points.now c.args.program.now c.as_slice.result.now c.as_slice-2.result.now
+    c.as_slice-3.result.now c.in_ok-declared.declared c.in_ok-labels.labels _ _
+    c.as_slice.ensures.value c.as_slice-2.ensures.value c.as_slice-3.ensures.value
+    c.in_ok-declared.ensures.stands c.in_ok-declared.ensures.found c.in_ok-labels.ensures.stands
+    c.in_ok-items.ensures.left c.in_ok-items.ensures.found in
+    let was =
+    passed c.args.points.now (plain_program c.args.program.now) c.in_ok-declared.declared
+    c.in_ok-labels.labels names _ _ read c.in-None.is in
     record {
       checked = (c.args.points.now, plain_program c.args.program.now, was);
-      apart = apart_names c.args.points.now (plain_program c.args.program.now) c.in_ok-declared.declared c.in_ok-labels.labels names _ _ read c.in-None.is;
+      apart = apart_names c.args.points.now (plain_program c.args.program.now)
+          c.in_ok-declared.declared c.in_ok-labels.labels names _ _ read c.in-None.is;
       typed = typed_of c.args.points.now (plain_program c.args.program.now) _ was;
     }
 
 pub returns-in-Some-clause-checked : goal.returns-in-Some-clause-checked
 returns-in-Some-clause-checked c =
-    let names : Names = record { meanings = c.in_ok-declared.declared.meanings; labels = c.in_ok-labels.labels.numbers } in
-    let read : IsRead c.args.points.now (plain_program c.args.program.now) c.in_ok-declared.declared c.in_ok-labels.labels names (map item_view c.in_ok-items.items.items) c.items.new.self.found =
-    is_read c.args.points.now c.args.program.now c.as_slice.result.now c.as_slice-2.result.now c.as_slice-3.result.now c.in_ok-declared.declared c.in_ok-labels.labels _ _
-    c.as_slice.ensures.value c.as_slice-2.ensures.value c.as_slice-3.ensures.value c.in_ok-declared.ensures.stands c.in_ok-declared.ensures.found c.in_ok-labels.ensures.stands c.in_ok-items.ensures.left c.in_ok-items.ensures.found in
-    inr (refused c.args.points.now (plain_program c.args.program.now) c.in_ok-declared.declared c.in_ok-labels.labels names _ _ read c.in-Some.fault c.in-Some.is)
+    let names : Names =
+    record {
+      meanings = c.in_ok-declared.declared.meanings;
+      labels = c.in_ok-labels.labels.numbers;
+    } in
+    let read : IsRead c.args.points.now (plain_program c.args.program.now) c.in_ok-declared.declared
+    c.in_ok-labels.labels names (map item_view c.in_ok-items.items.items)
+    c.items.new.self.found =
+    is_read c.args.points.now c.args.program.now c.as_slice.result.now c.as_slice-2.result.now
+    c.as_slice-3.result.now c.in_ok-declared.declared c.in_ok-labels.labels _ _
+    c.as_slice.ensures.value c.as_slice-2.ensures.value c.as_slice-3.ensures.value
+    c.in_ok-declared.ensures.stands c.in_ok-declared.ensures.found c.in_ok-labels.ensures.stands
+    c.in_ok-items.ensures.left c.in_ok-items.ensures.found in
+    inr (refused c.args.points.now (plain_program c.args.program.now) c.in_ok-declared.declared
+    c.in_ok-labels.labels names _ _ read c.in-Some.fault c.in-Some.is)
 
 pub returns-in-None-clause-checked : goal.returns-in-None-clause-checked
 returns-in-None-clause-checked c =
-    let names : Names = record { meanings = c.in_ok-declared.declared.meanings; labels = c.in_ok-labels.labels.numbers } in
-    let read : IsRead c.args.points.now (plain_program c.args.program.now) c.in_ok-declared.declared c.in_ok-labels.labels names (map item_view c.in_ok-items.items.items) c.items.new.self.found =
-    is_read c.args.points.now c.args.program.now c.as_slice.result.now c.as_slice-2.result.now c.as_slice-3.result.now c.in_ok-declared.declared c.in_ok-labels.labels _ _
-    c.as_slice.ensures.value c.as_slice-2.ensures.value c.as_slice-3.ensures.value c.in_ok-declared.ensures.stands c.in_ok-declared.ensures.found c.in_ok-labels.ensures.stands c.in_ok-items.ensures.left c.in_ok-items.ensures.found in
-    passed c.args.points.now (plain_program c.args.program.now) c.in_ok-declared.declared c.in_ok-labels.labels names _ _ read c.in-None.is
+    let names : Names =
+    record {
+      meanings = c.in_ok-declared.declared.meanings;
+      labels = c.in_ok-labels.labels.numbers;
+    } in
+    let read : IsRead c.args.points.now (plain_program c.args.program.now) c.in_ok-declared.declared
+    c.in_ok-labels.labels names (map item_view c.in_ok-items.items.items)
+    c.items.new.self.found =
+    is_read c.args.points.now c.args.program.now c.as_slice.result.now c.as_slice-2.result.now
+    c.as_slice-3.result.now c.in_ok-declared.declared c.in_ok-labels.labels _ _
+    c.as_slice.ensures.value c.as_slice-2.ensures.value c.as_slice-3.ensures.value
+    c.in_ok-declared.ensures.stands c.in_ok-declared.ensures.found c.in_ok-labels.ensures.stands
+    c.in_ok-items.ensures.left c.in_ok-items.ensures.found in
+    passed c.args.points.now (plain_program c.args.program.now) c.in_ok-declared.declared
+    c.in_ok-labels.labels names _ _ read c.in-None.is
     ∙ ap (λ t. Ok (checked_view t)) (sym c.of_parts.ensures)

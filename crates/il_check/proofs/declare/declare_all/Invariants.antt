@@ -1,4 +1,4 @@
-use Rattle.il_check.proofs.StandingLemmas.{SoFar}
+use Rattle.il_check.proofs.DeclarationsViewLemmas.{SoFar}
 use Rattle.il_check.proofs.declare.declare_all.Given as goal
 
 abbrev pub invariant-loop-declaration : goal.invariant-loop-declaration

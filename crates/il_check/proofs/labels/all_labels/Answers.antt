@@ -7,8 +7,11 @@ loop-item-init c = labels-none c.args.items.now _ (search rules) c.new-2.ensures
 
 pub loop-item-preserved : goal.loop-item-preserved
 loop-item-preserved c =
-    labels-more c.args.items.now c.loop-item.item-index c.item-item.result c.loop-item.labels c.add_item.new.self c.loop-item-test.true c.item-item.is
+    labels-more c.args.items.now c.loop-item.item-index c.item-item.result c.loop-item.labels
+    c.add_item.new.self c.loop-item-test.true c.item-item.is
     c.loop-item.invariant c.in_ok-add_item.ensures
 
 pub returns-clause-stands : goal.returns-clause-stands
-returns-clause-stands c = labels-all c.args.items.now c.loop-item.item-index c.loop-item.labels c.loop-item-test.false c.loop-item.invariant
+returns-clause-stands c =
+    labels-all c.args.items.now c.loop-item.item-index c.loop-item.labels c.loop-item-test.false
+    c.loop-item.invariant

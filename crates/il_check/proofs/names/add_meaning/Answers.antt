@@ -8,6 +8,9 @@ use Rattle.il_check.proofs.names.add_meaning.Goals as goal
 pub returns-clause-meanings : goal.returns-clause-meanings
 returns-clause-meanings c = λ other.
     let absent : is_some (get_by_text c.args.meanings.now (string_bytes c.args.name)) ≡ false =
-    ap (λ bs. is_some (get_by_text c.args.meanings.now bs)) (sym c.as_str.ensures.value) ∙ sym c.contains_key.ensures ∙ c.if-contains_key.false in
-    btree_map_updates_text (string_bytes c.args.name) c.args.meanings.now c.insert.new.self (Some c.args.meaning) c.in_ok-insert.ensures.updates other
-    ∙ with_value-new (λ q. get_by_text c.args.meanings.now q) (string_bytes c.args.name) c.args.meaning other absent
+    ap (λ bs. is_some (get_by_text c.args.meanings.now bs)) (sym c.as_str.ensures.value)
+    ∙ sym c.contains_key.ensures ∙ c.if-contains_key.false in
+    btree_map_updates_text (string_bytes c.args.name) c.args.meanings.now c.insert.new.self
+    (Some c.args.meaning) c.in_ok-insert.ensures.updates other
+    ∙ with_value-new (λ q. get_by_text c.args.meanings.now q) (string_bytes c.args.name)
+    c.args.meaning other absent

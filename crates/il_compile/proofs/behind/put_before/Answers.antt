@@ -8,7 +8,12 @@ loop-instr-preserved c =
     let grown = c.in_ok-push.ensures.items in
     let at = c.loop-instr.invariant in
     record {
-      bounded = omega (arith, c.joined-all.ensures);
-      counted = one_counted c.loop-instr.line.items c.pop.new.self.items c.in-Some.instr c.loop-instr.all c.joined-all.result c.octets_of.result line c.octets_of.ensures c.joined-all.ensures at.bounded ∙ at.counted;
-      before = one_before c.loop-instr.line.items c.pop.new.self.items c.loop-instr.behind.items c.push.new.self.items c.in-Some.instr line grown ∙ at.before;
+      bounded = omega (arith, c.bounded_sum-all.ensures);
+      counted =
+          one_counted c.loop-instr.line.items c.pop.new.self.items c.in-Some.instr c.loop-instr.all
+          c.bounded_sum-all.result c.octets_of.result line c.octets_of.ensures
+          c.bounded_sum-all.ensures at.bounded ∙ at.counted;
+      before =
+          one_before c.loop-instr.line.items c.pop.new.self.items c.loop-instr.behind.items
+          c.push.new.self.items c.in-Some.instr line grown ∙ at.before;
     }

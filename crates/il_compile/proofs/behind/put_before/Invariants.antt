@@ -5,8 +5,10 @@ use Rattle.il_compile.proofs.behind.put_before.Given as goal
 abbrev pub invariant-loop-instr : goal.invariant-loop-instr
 invariant-loop-instr l = record {
   bounded : l.all ≤ 65_536;
-  counted : min (l.all + spec.octets l.line.items) 65_536 ≡ min (l.initial.all + spec.octets l.initial.line.items) 65_536;
-  before : l.line.items ++ reverse l.behind.items ≡ l.initial.line.items ++ reverse l.initial.behind.items;
+  counted : min (l.all + spec.octets l.line.items) 65_536
+      ≡ min (l.initial.all + spec.octets l.initial.line.items) 65_536;
+  before : l.line.items ++ reverse l.behind.items
+      ≡ l.initial.line.items ++ reverse l.initial.behind.items;
 }
 
 abbrev pub decreases-loop-instr : goal.decreases-loop-instr

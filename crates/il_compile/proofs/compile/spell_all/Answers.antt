@@ -9,5 +9,8 @@ use Rattle.il_compile.proofs.compile.spell_all.Goals as goal
 pub returns : goal.returns
 returns c =
     let empty : c.loop-instr.behind.items ≡ [] = search rules in
-    c.in_ok-spell-3.ensures.ok ∙ whole_spelled (reverse c.args.behind.items) c.loop-instr.behind.items unset Halt c.loop-instr.code.items empty
-    (c.loop-instr.invariant ∙ ap (λ l. l ++ all_spelled (reverse c.args.behind.items)) (c.in_ok-spell.ensures.ok ∙ ap (λ l. l ++ spelling unset) c.new-code.ensures.items))
+    c.in_ok-spell-3.ensures.ok
+    ∙ whole_spelled (reverse c.args.behind.items) c.loop-instr.behind.items unset Halt
+    c.loop-instr.code.items empty
+    (c.loop-instr.invariant ∙ ap (λ l. l ++ all_spelled (reverse c.args.behind.items))
+    (c.in_ok-spell.ensures.ok ∙ ap (λ l. l ++ spelling unset) c.new-code.ensures.items))

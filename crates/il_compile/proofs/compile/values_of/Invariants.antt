@@ -2,4 +2,5 @@ use Rattle.std.proofs.Common.{◌≡◌, map, take}
 use Rattle.il_compile.proofs.compile.values_of.Given as goal
 
 abbrev pub invariant-loop-variable : goal.invariant-loop-variable
-invariant-loop-variable l = l.values.items ≡ map (λ v. v.initial) (take l.variable-index l.variables)
+invariant-loop-variable l =
+    l.values.items ≡ map (λ v. v.initial) (take l.variable-index l.variables)

@@ -7,6 +7,10 @@ use Rattle.il_compile.proofs.emit.+put_entry.Given as goal
 
 abbrev pub invariant-loop-inner : goal.invariant-loop-inner
 invariant-loop-inner l = record {
-  rest : l.code.items ++ entries_code l.externals (entries_of (map entry_view (drop l.inner-index l.inner-items))) ≡ l.initial.code.items ++ entries_code l.externals (entries_of (map entry_view l.inner-items));
-  spellable : AreSpellableEntries l.externals (entries_of (map entry_view (drop l.inner-index l.inner-items)));
+  rest : l.code.items ++ entries_code l.externals
+      (entries_of (map entry_view (drop l.inner-index l.inner-items)))
+      ≡ l.initial.code.items ++ entries_code l.externals
+      (entries_of (map entry_view l.inner-items));
+  spellable : AreSpellableEntries l.externals
+      (entries_of (map entry_view (drop l.inner-index l.inner-items)));
 }

@@ -4,4 +4,6 @@ use Rattle.il_image.proofs.ItemLemmas.{joined}
 use Rattle.il_image.proofs.decode.timers_at.Given as goal
 
 abbrev pub invariant-items : goal.invariant-items
-invariant-items l = counted_at (timer_at l.version) l.octets ≡ joined l.timers.items (items_at (timer_at l.version) (l.count - l.counter) l.rest)
+invariant-items l =
+    counted_at (timer_at l.version) l.octets
+    ≡ joined l.timers.items (items_at (timer_at l.version) (l.count - l.counter) l.rest)

@@ -6,11 +6,21 @@ use Rattle.il_image.proofs.decode.variables_at.Goals as goal
 
 pub returns-in_err-value : goal.returns-in_err-value
 returns-in_err-value c =
-    let p = err_from_is_err_and c.from_residual-in_err-value.result c.from_residual-in_err-value.ensures.1 in
-    rw (p.1, p.2) (inr (going_err (variable_at c.args.version) c.args.octets.now c.in_ok-count.count c.items.counter c.items.variables.items c.items.rest.now c.in_err-value.field-0.0 c.items.invariant c.items-test.true c.in_err-value.ensures))
+    let p = err_from_is_err_and c.from_residual-in_err-value.result
+    c.from_residual-in_err-value.ensures.1 in
+    rw (p.1, p.2)
+    (inr (going_err (variable_at c.args.version) c.args.octets.now c.in_ok-count.count
+    c.items.counter c.items.variables.items c.items.rest.now c.in_err-value.field-0.0
+    c.items.invariant c.items-test.true c.in_err-value.ensures))
 
 pub items-preserved : goal.items-preserved
-items-preserved c = going_turn (variable_at c.args.version) c.args.octets.now c.in_ok-count.count c.items.counter c.items.variables.items c.push.new.self.items c.items.rest.now c.in_ok-value.behind.now c.in_ok-value.value c.items.invariant c.items-test.true c.in_ok-value.ensures c.in_ok-push.ensures.items
+items-preserved c =
+    going_turn (variable_at c.args.version) c.args.octets.now c.in_ok-count.count c.items.counter
+    c.items.variables.items c.push.new.self.items c.items.rest.now c.in_ok-value.behind.now
+    c.in_ok-value.value c.items.invariant c.items-test.true c.in_ok-value.ensures
+    c.in_ok-push.ensures.items
 
 pub returns : goal.returns
-returns c = rw c.new.ensures (going_end (variable_at c.args.version) c.args.octets.now c.in_ok-count.count c.items.counter c.items.variables.items c.items.rest.now c.items.invariant c.items-test.false)
+returns c =
+    rw c.new.ensures (going_end (variable_at c.args.version) c.args.octets.now c.in_ok-count.count
+    c.items.counter c.items.variables.items c.items.rest.now c.items.invariant c.items-test.false)

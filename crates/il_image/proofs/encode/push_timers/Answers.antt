@@ -4,4 +4,7 @@ use Rattle.il_image.proofs.EachLemmas.{each_turn_at}
 use Rattle.il_image.proofs.encode.push_timers.Goals as goal
 
 pub loop-kind-preserved : goal.loop-kind-preserved
-loop-kind-preserved c = each_turn_at (timer_octets Two) c.args.kinds.now c.loop-kind.kind-index _ c.push_number.new.octets.items c.loop-kind.octets.items c.push_timer.new.octets.items c.loop-kind-test.true c.loop-kind.invariant c.in_ok-push_timer.ensures
+loop-kind-preserved c =
+    each_turn_at (timer_octets Two) c.args.kinds.now c.loop-kind.kind-index _
+    c.push_number.new.octets.items c.loop-kind.octets.items c.push_timer.new.octets.items
+    c.loop-kind-test.true c.loop-kind.invariant c.in_ok-push_timer.ensures

@@ -3,4 +3,5 @@ use Rattle.il_image.proofs.PlaceLemmas.{shorter}
 use Rattle.il_image.proofs.read.first_of.Goals as goal
 
 pub overflow_sub-result : goal.overflow_sub-result
-overflow_sub-result c = omega (arith, shorter c.args.octets.now c.in-Ok.instr c.in-Ok.rest.now c.in-Ok.ensures)
+overflow_sub-result c =
+    omega (arith, shorter c.args.octets.now c.in-Ok.instr c.in-Ok.rest.now c.in-Ok.ensures)

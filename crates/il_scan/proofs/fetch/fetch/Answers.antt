@@ -3,19 +3,31 @@ use Rattle.il_scan.proofs.FetchLemmas.{fetched, no_opcode, place_within, whole_o
 use Rattle.il_scan.proofs.fetch.fetch.Goals as goal
 
 pub bounds-code-place : goal.bounds-code-place
-bounds-code-place c = place_within c.args.code.now c.args.place (λ k. (c.type_inv.code k).fits) c.requires
+bounds-code-place c =
+    place_within c.args.code.now c.args.place (λ k. (c.type_inv.code k).fits) c.requires
 
 pub overflow_add-place : goal.overflow_add-place
-overflow_add-place c = let h = place_within c.args.code.now c.args.place (λ k. (c.type_inv.code k).fits) c.requires in omega arith
+overflow_add-place c = let h =
+    place_within c.args.code.now c.args.place (λ k. (c.type_inv.code k).fits) c.requires in
+    omega arith
 
 pub operand-requires-clause-whole : goal.operand-requires-clause-whole
-operand-requires-clause-whole c = whole_operand c.args.code.now c.args.place (λ k. (c.type_inv.code k).fits) c.requires c.in-Some.opcode (sym c.of.ensures ∙ c.in-Some.is)
+operand-requires-clause-whole c =
+    whole_operand c.args.code.now c.args.place (λ k. (c.type_inv.code k).fits) c.requires
+    c.in-Some.opcode (sym c.of.ensures ∙ c.in-Some.is)
 
 pub operand-requires-clause-within : goal.operand-requires-clause-within
-operand-requires-clause-within c = let h = place_within c.args.code.now c.args.place (λ k. (c.type_inv.code k).fits) c.requires in omega arith
+operand-requires-clause-within c = let h =
+    place_within c.args.code.now c.args.place (λ k. (c.type_inv.code k).fits) c.requires in
+    omega arith
 
 pub unreachable-requires : goal.unreachable-requires
-unreachable-requires c = no_opcode c.args.code.now c.args.place (λ k. (c.type_inv.code k).fits) c.requires (sym c.of.ensures ∙ c.in-None.is)
+unreachable-requires c =
+    no_opcode c.args.code.now c.args.place (λ k. (c.type_inv.code k).fits) c.requires
+    (sym c.of.ensures ∙ c.in-None.is)
 
 pub returns-clause-value : goal.returns-clause-value
-returns-clause-value c = fetched c.args.code.now c.args.place (λ k. (c.type_inv.code k).fits) c.requires c.in-Some.opcode (sym c.of.ensures ∙ c.in-Some.is) c.operand.result c.operand.ensures.value c.operand.ensures.within
+returns-clause-value c =
+    fetched c.args.code.now c.args.place (λ k. (c.type_inv.code k).fits) c.requires c.in-Some.opcode
+    (sym c.of.ensures ∙ c.in-Some.is) c.operand.result c.operand.ensures.value
+    c.operand.ensures.within

@@ -1,7 +1,7 @@
 use Rattle.std.proofs.Common.{ap, ◌∙◌, List}
 use Rattle.std.specs.Prelude.{map}
 use Rattle.il_image.specs.declared.image.ImagePoint.{ImagePoint}
-use Rattle.il_image.specs.declared.timer.TimerKind.{TimerKind}
+use Rattle.bay_base.specs.declared.types.TimerKind.{TimerKind}
 use Rattle.il_image.specs.Timers.{first_state}
 use Rattle.il_scan.specs.PointPlaces.{read_places, write_places}
 use Rattle.il_scan.specs.PointPlaces.{writable_count}
@@ -10,15 +10,23 @@ use Rattle.il_scan.proofs.machine.memory_of.Goals as goal
 
 pub returns-clause-first : goal.returns-clause-first
 returns-clause-first c =
-    first_held c.args.image.now c.timers.ensures.kept c.in_ok-slots.slots.items c.in_ok-timers.timers.items c.in_ok-slots.ensures.ok
-    (c.in_ok-timers.ensures.ok ∙ ap (λ (kinds : List TimerKind). map first_state kinds) c.timers.ensures.value)
+    first_held c.args.image.now c.timers.ensures.kept c.in_ok-slots.slots.items
+    c.in_ok-timers.timers.items c.in_ok-slots.ensures.ok
+    (c.in_ok-timers.ensures.ok
+    ∙ ap (λ (kinds : List TimerKind). map first_state kinds) c.timers.ensures.value)
 
 pub returns-clause-kept : goal.returns-clause-kept
 returns-clause-kept c = record {
   held =
-      held_at_first c.args.image.now c.timers.ensures.kept c.in_ok-slots.slots.items c.in_ok-timers.timers.items c.in_ok-slots.ensures.ok
-      (c.in_ok-timers.ensures.ok ∙ ap (λ (kinds : List TimerKind). map first_state kinds) c.timers.ensures.value);
-  read = c.in_ok-places.ensures.reads ∙ ap (λ (ps : List ImagePoint). read_places 0 ps) c.points.ensures.value;
-  written = c.in_ok-places.ensures.writes ∙ ap (λ (ps : List ImagePoint). write_places 0 ps) c.points.ensures.value;
-  room = c.in_ok-outputs.ensures.ok ∙ ap (λ (ps : List ImagePoint). writable_count ps) c.points-2.ensures.value;
+      held_at_first c.args.image.now c.timers.ensures.kept c.in_ok-slots.slots.items
+      c.in_ok-timers.timers.items c.in_ok-slots.ensures.ok
+      (c.in_ok-timers.ensures.ok
+      ∙ ap (λ (kinds : List TimerKind). map first_state kinds) c.timers.ensures.value);
+  read = c.in_ok-places.ensures.reads
+      ∙ ap (λ (ps : List ImagePoint). read_places 0 ps) c.points.ensures.value;
+  written =
+      c.in_ok-places.ensures.writes
+      ∙ ap (λ (ps : List ImagePoint). write_places 0 ps) c.points.ensures.value;
+  room = c.in_ok-outputs.ensures.ok
+      ∙ ap (λ (ps : List ImagePoint). writable_count ps) c.points-2.ensures.value;
 }

@@ -12,32 +12,50 @@ use Rattle.il_scan.proofs.SlotLemmas.{held_points, outputs_are}
 use Rattle.il_scan.proofs.machine.run_once.Goals as goal
 
 pub invariant_of-inputs : goal.invariant_of-inputs
-invariant_of-inputs c = record { are = are_values (map type_of_point (read_only c.args.image.now.points)) c.args.inputs.now c.requires.inputs }
+invariant_of-inputs c =
+    record {
+      are = are_values (map type_of_point (read_only c.args.image.now.points))
+          c.args.inputs.now c.requires.inputs;
+    }
 
 pub run_points-steps-requires-clause-types : goal.run_points-steps-requires-clause-types
-run_points-steps-requires-clause-types c = types_of (map type_of_point (read_only c.args.image.now.points)) c.args.inputs.now c.requires.inputs
+run_points-steps-requires-clause-types c =
+    types_of (map type_of_point (read_only c.args.image.now.points)) c.args.inputs.now
+    c.requires.inputs
 
 pub give_outputs-requires-clause-words : goal.give_outputs-requires-clause-words
 give_outputs-requires-clause-words c =
-    points_words c.args.image.now c.points.result.now c.points.ensures.value c.run_points-steps.new.slots c.run_points-steps.new.timers c.run_points-steps.ensures.held
+    points_words c.args.image.now c.points.result.now c.points.ensures.value
+    c.run_points-steps.new.slots c.run_points-steps.new.timers c.run_points-steps.ensures.held
 
 pub give_outputs-requires-clause-within : goal.give_outputs-requires-clause-within
 give_outputs-requires-clause-within c =
     let image = c.args.image.now in
     let below = writes_below (length image.points) 0 image.points (omega arith) in
-    rw c.points.ensures.value (subst (AllBelow (length image.points)) (sym (c.as_slice-2.ensures.value ∙ c.requires.kept.written)) below)
+    rw c.points.ensures.value
+    (subst (AllBelow (length image.points))
+    (sym (c.as_slice-2.ensures.value ∙ c.requires.kept.written)) below)
 
 pub give_outputs-requires-clause-room : goal.give_outputs-requires-clause-room
 give_outputs-requires-clause-room c =
-    c.requires.kept.room ∙ so_many_writes 0 c.args.image.now.points ∙ sym (ap (λ (ns : List ℕ). length ns) (c.as_slice-2.ensures.value ∙ c.requires.kept.written))
+    c.requires.kept.room ∙ so_many_writes 0 c.args.image.now.points
+    ∙ sym (ap (λ (ns : List ℕ). length ns)
+    (c.as_slice-2.ensures.value ∙ c.requires.kept.written))
 
 pub returns-clause-scans : goal.returns-clause-scans
 returns-clause-scans c =
     let image = c.args.image.now in
     let new = c.run_points-steps.new.slots in
-    let enough = held_points image new c.run_points-steps.new.timers c.run_points-steps.ensures.held in
+    let enough =
+    held_points image new c.run_points-steps.new.timers c.run_points-steps.ensures.held in
     let given =
-    c.give_outputs.ensures ∙ ap (λ (ps : List ImagePoint). map (output_value ps new) c.as_slice-2.result.now) c.points.ensures.value
-    ∙ ap (λ (ns : List ℕ). map (output_value image.points new) ns) (c.as_slice-2.ensures.value ∙ c.requires.kept.written)
-    ∙ outputs_placed image.points new enough ∙ outputs_are image.points (map type_of image.variables) new in
-    subst (λ (os : List Value). Scans (held image c.args.slots.now c.args.timers.now) c.args.inputs.now c.args.now (held image new c.run_points-steps.new.timers) c.run_points-steps.result os) (sym given) c.run_points-steps.ensures.scans
+    c.give_outputs.ensures ∙ ap
+    (λ (ps : List ImagePoint). map (output_value ps new) c.as_slice-2.result.now)
+    c.points.ensures.value
+    ∙ ap (λ (ns : List ℕ). map (output_value image.points new) ns)
+    (c.as_slice-2.ensures.value ∙ c.requires.kept.written)
+    ∙ outputs_placed image.points new enough
+    ∙ outputs_are image.points (map type_of image.variables) new in
+    subst (λ (os : List Value). Scans (held image c.args.slots.now c.args.timers.now)
+    c.args.inputs.now c.args.now (held image new c.run_points-steps.new.timers)
+    c.run_points-steps.result os) (sym given) c.run_points-steps.ensures.scans

@@ -9,14 +9,18 @@ pub loop-next-init : goal.loop-next-init
 loop-next-init c =
     let first = first_state c.args.image.now c.args.slots.now c.args.timers.now in
     let octets = subst AreOctets c.code-code.ensures.value (λ k. (c.type_inv.code k).fits) in
-    subst (λ (stack : List ℤ). Comes c.args.image.now c.args.now first 0 0 (words stack c.args.slots.now c.args.timers.now)) (sym c.new-stack.ensures)
-    (starts c.args.image.now c.args.now c.args.slots.now c.args.timers.now octets c.requires.safe c.requires.held)
+    subst (λ (stack : List ℤ). Comes c.args.image.now c.args.now first 0 0
+    (words stack c.args.slots.now c.args.timers.now)) (sym c.new-stack.ensures)
+    (starts c.args.image.now c.args.now c.args.slots.now c.args.timers.now octets c.requires.safe
+    c.requires.held)
 
 pub loop-next-smaller : goal.loop-next-smaller
 loop-next-smaller c =
     let i = c.loop-next.invariant in
     let first = first_state c.args.image.now c.args.slots.now c.args.timers.now in
-    let on : c.loop-next.place < c.in-Some.next = forward c.args.image.now c.args.now first c.loop-next.place c.loop-next.steps _ i c.turn.ensures.within c.in-Some.next _ (c.in-Some.ensures.turns i.state i.stands) in
+    let on : c.loop-next.place < c.in-Some.next =
+    forward c.args.image.now c.args.now first c.loop-next.place c.loop-next.steps _ i
+    c.turn.ensures.within c.in-Some.next _ (c.in-Some.ensures.turns i.state i.stands) in
     let size = ap (λ (code : List ℕ). length code) c.code-code.ensures.value in
     omega (arith, c.turn.ensures.within, size)
 
@@ -24,9 +28,12 @@ pub loop-next-preserved : goal.loop-next-preserved
 loop-next-preserved c =
     let i = c.loop-next.invariant in
     let first = first_state c.args.image.now c.args.slots.now c.args.timers.now in
-    comes_next c.args.image.now c.args.now first c.loop-next.place c.loop-next.steps _ i c.turn.ensures.within c.in-Some.next _ (c.in-Some.ensures.turns i.state i.stands)
+    comes_next c.args.image.now c.args.now first c.loop-next.place c.loop-next.steps _ i
+    c.turn.ensures.within c.in-Some.next _ (c.in-Some.ensures.turns i.state i.stands)
 
 pub returns : goal.returns
 returns c =
     let i = c.loop-next.invariant in
-    run_ends c.args.image.now c.args.now c.args.slots.now c.args.timers.now c.loop-next.place c.loop-next.steps _ i c.turn.ensures.within c.requires.safe c.requires.held _ (c.in_default.ensures.turns i.state i.stands)
+    run_ends c.args.image.now c.args.now c.args.slots.now c.args.timers.now c.loop-next.place
+    c.loop-next.steps _ i c.turn.ensures.within c.requires.safe c.requires.held _
+    (c.in_default.ensures.turns i.state i.stands)

@@ -5,7 +5,9 @@ use Rattle.il_scan.proofs.RunLemmas.{Comes}
 use Rattle.il_scan.proofs.run.run.Given as goal
 
 abbrev pub invariant-loop-next : goal.invariant-loop-next
-invariant-loop-next l = Comes l.image l.now (first_state l.image l.fn.slots l.fn.timers) l.place l.steps (words l.stack l.slots l.timers)
+invariant-loop-next l =
+    Comes l.image l.now (first_state l.image l.fn.slots l.fn.timers) l.place l.steps
+    (words l.stack l.slots l.timers)
 
 -- the octets that are left
 abbrev pub decreases-loop-next : goal.decreases-loop-next

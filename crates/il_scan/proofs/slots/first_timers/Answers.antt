@@ -6,4 +6,6 @@ use Rattle.il_scan.proofs.slots.first_timers.Goals as goal
 pub loop-kind-preserved : goal.loop-kind-preserved
 loop-kind-preserved c =
     let within : c.loop-kind.kind-index < length c.args.kinds.now = omega arith in
-    mapped_turn first_state c.args.kinds.now c.loop-kind.kind-index _ c.new.result [] c.loop-kind.timers.items c.push.new.self.items c.loop-kind.invariant within c.new.ensures c.in_ok-push.ensures.items
+    mapped_turn first_state c.args.kinds.now c.loop-kind.kind-index _ c.new.result []
+    c.loop-kind.timers.items c.push.new.self.items c.loop-kind.invariant within c.new.ensures
+    c.in_ok-push.ensures.items

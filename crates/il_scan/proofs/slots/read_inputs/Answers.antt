@@ -6,15 +6,22 @@ use Rattle.il_scan.proofs.PlaceLemmas.{below_at, put_step, typed_more}
 use Rattle.il_scan.proofs.slots.read_inputs.Goals as goal
 
 pub take_input-requires : goal.take_input-requires
-take_input-requires g c = rw c.loop-k.auto.slots (below_at (length c.args.slots.now) c.args.reads.now c.loop-k.k c.requires.within c.loop-k-test.true)
+take_input-requires g c =
+    rw c.loop-k.auto.slots (below_at (length c.args.slots.now) c.args.reads.now c.loop-k.k
+    c.requires.within c.loop-k-test.true)
 
 pub loop-k-preserved : goal.loop-k-preserved
 loop-k-preserved g c =
     let values = g.I.Inputs.values c.args.inputs.now in
-    let step = put_step c.args.reads.now values c.loop-k.slots c.loop-k.k c.input.result c.loop-k-test.true c.input.ensures.value in
+    let step =
+    put_step c.args.reads.now values c.loop-k.slots c.loop-k.k c.input.result c.loop-k-test.true
+    c.input.ensures.value in
     record {
       put =
           c.loop-k.invariant.put ∙ step
-          ∙ ap (with_words (drop (c.loop-k.k + 1) c.args.reads.now) (drop (c.loop-k.k + 1) (words_of values))) (sym c.take_input.ensures);
-      typed = typed_more (g.I.Inputs.types c.args.inputs.now) values c.loop-k.k (type_of c.input.result) c.input.result c.loop-k.invariant.typed c.input.ensures.typed c.input.ensures.value refl c.input.ensures.is_value;
+          ∙ ap (with_words (drop (c.loop-k.k + 1) c.args.reads.now)
+          (drop (c.loop-k.k + 1) (words_of values))) (sym c.take_input.ensures);
+      typed = typed_more (g.I.Inputs.types c.args.inputs.now) values c.loop-k.k
+          (type_of c.input.result) c.input.result c.loop-k.invariant.typed c.input.ensures.typed
+          c.input.ensures.value refl c.input.ensures.is_value;
     }

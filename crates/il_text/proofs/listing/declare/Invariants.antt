@@ -6,5 +6,8 @@ use Rattle.il_text.proofs.listing.declare.Given as goal
 
 abbrev pub invariant-loop-token : goal.invariant-loop-token
 invariant-loop-token l =
-    declared_from l.declaring.line l.declaring.scope l.declaring.tail (map declared_of l.fn.declarations.items) false (symbols_of l.names)
-    ≡ declared_from l.declaring.line l.declaring.scope l.declaring.tail (map declared_of l.declarations.items) l.after_name (symbols_of (drop l.token-index l.names))
+    declared_from l.declaring.line l.declaring.scope l.declaring.tail
+    (map declared_of l.fn.declarations.items) false (symbols_of l.names)
+    ≡ declared_from l.declaring.line l.declaring.scope l.declaring.tail
+    (map declared_of l.declarations.items) l.after_name
+    (symbols_of (drop l.token-index l.names))

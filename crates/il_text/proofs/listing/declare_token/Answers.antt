@@ -7,5 +7,7 @@ use Rattle.il_text.proofs.listing.declare_token.Goals as goal
 
 pub returns-clause-ok : goal.returns-clause-ok
 returns-clause-ok c = λ ss.
-    let named : name_of (symbol_of c.args.token) ≡ Some c.in-Some.name.now = sym c.in-Some.ensures in
-    rw (c.if-after_name.false, c.in_ok-push.ensures.items, map-append) (at_name _ _ _ _ _ _ named ss)
+    let named : name_of (symbol_of c.args.token) ≡ Some c.in-Some.name.now =
+    sym c.in-Some.ensures in
+    rw (c.if-after_name.false, c.in_ok-push.ensures.items, map-append)
+    (at_name _ _ _ _ _ _ named ss)

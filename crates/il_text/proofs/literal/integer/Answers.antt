@@ -6,5 +6,6 @@ use Rattle.il_text.proofs.literal.integer.Goals as goal
 
 pub returns-in-Some : goal.returns-in-Some
 returns-in-Some c =
-    let parts : halves c.args.word.now ≡ Some (c.in-Some.base.now, c.in-Some.digits.now) = sym c.in-Some.ensures in
+    let parts : halves c.args.word.now ≡ Some (c.in-Some.base.now, c.in-Some.digits.now) =
+    sym c.in-Some.ensures in
     c.based.ensures ∙ ap capped_signed (sym (integer_some c.args.word.now _ parts))

@@ -8,7 +8,8 @@ use Rattle.il_text.proofs.literal.milliseconds.Goals as goal
 pub returns-in_default : goal.returns-in_default
 unfolding milliseconds
 returns-in_default c =
-    let start : Option Duration = Some (record { rest = c.args.word.now; total = 0; begun = false }) in
+    let start : Option Duration =
+    Some (record { rest = c.args.word.now; total = 0; begun = false }) in
     let days = c.part-days.ensures start refl in
     let hours = c.part-hours.ensures _ days in
     let minutes = c.part-minutes.ensures _ hours in
@@ -20,7 +21,8 @@ returns-in_default c =
 pub returns-then-is_empty : goal.returns-then-is_empty
 unfolding milliseconds
 returns-then-is_empty c =
-    let start : Option Duration = Some (record { rest = c.args.word.now; total = 0; begun = false }) in
+    let start : Option Duration =
+    Some (record { rest = c.args.word.now; total = 0; begun = false }) in
     let days = c.part-days.ensures start refl in
     let hours = c.part-hours.ensures _ days in
     let minutes = c.part-minutes.ensures _ hours in
@@ -34,7 +36,8 @@ returns-then-is_empty c =
 pub returns-else-last : goal.returns-else-last
 unfolding milliseconds
 returns-else-last c =
-    let start : Option Duration = Some (record { rest = c.args.word.now; total = 0; begun = false }) in
+    let start : Option Duration =
+    Some (record { rest = c.args.word.now; total = 0; begun = false }) in
     let days = c.part-days.ensures start refl in
     let hours = c.part-hours.ensures _ days in
     let minutes = c.part-minutes.ensures _ hours in

@@ -6,6 +6,7 @@ use Rattle.il_text.proofs.literal.number.Given as goal
 
 abbrev pub invariant-loop-byte : goal.invariant-loop-byte
 invariant-loop-byte l = record {
-  same : capped (number l.radix l.digits) ≡ number_from l.radix l.wanted l.value (drop l.byte-index l.digits);
+  same : capped (number l.radix l.digits)
+      ≡ number_from l.radix l.wanted l.value (drop l.byte-index l.digits);
   small : l.value ≤ 2 ^ 64 - 1;
 }

@@ -3,4 +3,5 @@ use Rattle.il_text.specs.Characters.{linked}
 use Rattle.il_text.proofs.piece.run_end.Given as goal
 
 abbrev pub invariant-loop-end : goal.invariant-loop-end
-invariant-loop-end l = (k : ℕ) → l.start < k → k < l.end → linked (slice_index l.bytes (k - 1)) (slice_index l.bytes k) ≡ true
+invariant-loop-end l = (k : ℕ) → l.start < k → k < l.end
+    → linked (slice_index l.bytes (k - 1)) (slice_index l.bytes k) ≡ true

@@ -10,7 +10,8 @@ use Rattle.il_text.proofs.read.read_lines.Goals as goal
 pub loop-reader-init : goal.loop-reader-init
 loop-reader-init c = record {
   same = refl;
-  left = rw c.new.ensures.items (program_start c.args.text.now _ _ c.last_line_of.ensures c.new-2.ensures);
+  left = rw c.new.ensures.items
+      (program_start c.args.text.now _ _ c.last_line_of.ensures c.new-2.ensures);
 }
 
 pub returns-in_err-step-clause-refused : goal.returns-in_err-step-clause-refused
@@ -22,15 +23,20 @@ pub returns-in_err-finish-clause-refused : goal.returns-in_err-finish-clause-ref
 returns-in_err-finish-clause-refused c =
     let r = c.loop-reader.reader in
     let end : length r.text.now ≤ r.at = rw c.loop-reader.invariant.same c.loop-reader-test.false in
-    let p = err_from_is_err_and c.from_residual-in_err-finish.result c.from_residual-in_err-finish.ensures.1 in
+    let p = err_from_is_err_and c.from_residual-in_err-finish.result
+    c.from_residual-in_err-finish.ensures.1 in
     rw (p.1, p.2)
-    (λ m. sym c.loop-reader.invariant.left ∙ text_end r.last (read_of r.listing) r.line (symbols_of r.tokens.items) r.text.now r.in_comment r.at end ∙ c.in_err-finish.ensures.refused m)
+    (λ m. sym c.loop-reader.invariant.left
+    ∙ text_end r.last (read_of r.listing) r.line (symbols_of r.tokens.items) r.text.now
+    r.in_comment r.at end ∙ c.in_err-finish.ensures.refused m)
 
 pub returns-clause-ok : goal.returns-clause-ok
 returns-clause-ok c =
     let r = c.loop-reader.reader in
     let end : length r.text.now ≤ r.at = rw c.loop-reader.invariant.same c.loop-reader-test.false in
-    sym c.loop-reader.invariant.left ∙ text_end r.last (read_of r.listing) r.line (symbols_of r.tokens.items) r.text.now r.in_comment r.at end ∙ c.in_ok-finish.ensures.ok
+    sym c.loop-reader.invariant.left
+    ∙ text_end r.last (read_of r.listing) r.line (symbols_of r.tokens.items) r.text.now
+    r.in_comment r.at end ∙ c.in_ok-finish.ensures.ok
 
 pub invariant_of-result : goal.invariant_of-result
 invariant_of-result c =
@@ -39,5 +45,7 @@ invariant_of-result c =
     record {
       rising =
           items_rise c.args.text.now (listed (reached_of c.finish.new.self.listing))
-          (sym c.loop-reader.invariant.left ∙ text_end r.last (read_of r.listing) r.line (symbols_of r.tokens.items) r.text.now r.in_comment r.at end ∙ c.in_ok-finish.ensures.ok);
+          (sym c.loop-reader.invariant.left
+          ∙ text_end r.last (read_of r.listing) r.line (symbols_of r.tokens.items) r.text.now
+          r.in_comment r.at end ∙ c.in_ok-finish.ensures.ok);
     }

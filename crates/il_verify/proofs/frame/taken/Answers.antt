@@ -5,7 +5,8 @@ use Rattle.il_verify.proofs.MapLemmas.{others_stay}
 use Rattle.il_verify.proofs.frame.taken.Goals as goal
 
 pub returns-then-place-len-clause-others : goal.returns-then-place-len-clause-others
-returns-then-place-len-clause-others c = others_stay c.args.pending.now.items c.args.place c.take.new.self
+returns-then-place-len-clause-others c =
+    others_stay c.args.pending.now.items c.args.place c.take.new.self
 
 pub returns-else-place-len-clause-value : goal.returns-else-place-len-clause-value
 returns-else-place-len-clause-value c =

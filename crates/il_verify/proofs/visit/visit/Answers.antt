@@ -1,6 +1,6 @@
 use Rattle.std.proofs.Common.{ℕ, List, ◌+◌, reverse, refl, subst, ◌∙◌, None, Some, inr}
-use Rattle.il_image.specs.declared.kind.Kind.{Kind}
-use Rattle.il_verify.specs.Frames.{Jumps, LeadsRight, Mark, marks_of}
+use Rattle.il_image.specs.declared.kind.CellKind.{CellKind}
+use Rattle.il_verify.specs.Frames.{Jumps, LeadsRight, PlainFrame, plain_frames}
 use Rattle.il_verify.proofs.VisitLemmas.{clash_before, effect_so, fault_there}
 use Rattle.il_verify.proofs.visit.visit.Goals as goal
 
@@ -9,19 +9,27 @@ returns-in-Err-fall-clause-err c = λ ne.
     let image = c.args.image.now in
     let slots = c.as_slice.ensures.value ∙ c.requires.plan.slots in
     let kinds = reverse c.args.frame.kinds.items in
-    let gives = reverse c.judge.new.kinds.items in
-    let come : Mark = record { kinds = gives; longest = c.args.frame.longest + 1 } in
-    let old = marks_of c.args.pending.now.items in
-    let mid = marks_of c.jump.new.pending.items in
-    let jumps = subst (λ (items : List Kind). Jumps c.args.instr c.args.next (record { kinds = reverse items; longest = c.args.frame.longest + 1 }) old mid) c.as_slice-3.ensures.value c.in-Ok-jump.ensures.ok in
+    let gives = reverse c.transfer.new.kinds.items in
+    let come : PlainFrame = record { kinds = gives; longest = c.args.frame.longest + 1 } in
+    let old = plain_frames c.args.pending.now.items in
+    let mid = plain_frames c.jump.new.pending.items in
+    let jumps =
+    subst (λ (items : List CellKind). Jumps c.args.instr c.args.next
+    (record { kinds = reverse items; longest = c.args.frame.longest + 1 }) old mid)
+    c.as_slice-3.ensures.value c.in-Ok-jump.ensures.ok in
     let h = c.in-Err-fall.ensures.err in
     inr (inr (
       h.0,
       record {
         gives = gives;
-        faultless = fault_there image c.as_slice.result.now c.args.plan.now.timers c.args.instr kinds None slots c.requires.plan.timers c.in-Ok.ensures.faultless;
-        effect = effect_so image c.as_slice.result.now c.args.plan.now.timers c.args.instr kinds (Some gives) slots c.requires.plan.timers c.in-Ok.ensures.ok;
-        right = subst (λ (code : List ℕ). LeadsRight code c.args.instr c.args.next) c.code.ensures.value c.in-Ok-check_targets.ensures.ok;
+        faultless =
+            fault_there image c.as_slice.result.now c.args.plan.now.timers c.args.instr kinds None
+            slots c.requires.plan.timers c.in-Ok.ensures.faultless;
+        effect =
+            effect_so image c.as_slice.result.now c.args.plan.now.timers c.args.instr kinds
+            (Some gives) slots c.requires.plan.timers c.in-Ok.ensures.ok;
+        right = subst (λ (code : List ℕ). LeadsRight code c.args.instr c.args.next)
+            c.code.ensures.value c.in-Ok-check_targets.ensures.ok;
         to = c.args.next;
         leads = inr (h.1.0, refl);
         clash = clash_before c.args.instr c.args.next come old mid jumps h.1.1;
@@ -33,15 +41,22 @@ returns-clause-ok c =
     let image = c.args.image.now in
     let slots = c.as_slice.ensures.value ∙ c.requires.plan.slots in
     let kinds = reverse c.args.frame.kinds.items in
-    let gives = reverse c.judge.new.kinds.items in
-    let old = marks_of c.args.pending.now.items in
-    let mid = marks_of c.jump.new.pending.items in
+    let gives = reverse c.transfer.new.kinds.items in
+    let old = plain_frames c.args.pending.now.items in
+    let mid = plain_frames c.jump.new.pending.items in
     record {
       gives = gives;
-      faultless = fault_there image c.as_slice.result.now c.args.plan.now.timers c.args.instr kinds None slots c.requires.plan.timers c.in-Ok.ensures.faultless;
-      effect = effect_so image c.as_slice.result.now c.args.plan.now.timers c.args.instr kinds (Some gives) slots c.requires.plan.timers c.in-Ok.ensures.ok;
-      right = subst (λ (code : List ℕ). LeadsRight code c.args.instr c.args.next) c.code.ensures.value c.in-Ok-check_targets.ensures.ok;
+      faultless =
+          fault_there image c.as_slice.result.now c.args.plan.now.timers c.args.instr kinds None
+          slots c.requires.plan.timers c.in-Ok.ensures.faultless;
+      effect =
+          effect_so image c.as_slice.result.now c.args.plan.now.timers c.args.instr kinds
+          (Some gives) slots c.requires.plan.timers c.in-Ok.ensures.ok;
+      right = subst (λ (code : List ℕ). LeadsRight code c.args.instr c.args.next)
+          c.code.ensures.value c.in-Ok-check_targets.ensures.ok;
       mid = mid;
-      jumps = subst (λ (items : List Kind). Jumps c.args.instr c.args.next (record { kinds = reverse items; longest = c.args.frame.longest + 1 }) old mid) c.as_slice-3.ensures.value c.in-Ok-jump.ensures.ok;
+      jumps = subst (λ (items : List CellKind). Jumps c.args.instr c.args.next
+          (record { kinds = reverse items; longest = c.args.frame.longest + 1 }) old mid)
+          c.as_slice-3.ensures.value c.in-Ok-jump.ensures.ok;
       falls = c.in-Ok-fall.ensures.ok;
     }

@@ -7,8 +7,10 @@ use Rattle.il_check.proofs.declare.Declarations.declare.Goals as goal
 
 pub returns : goal.returns
 returns c =
-    taken c.args.points.now (declared_of c.args.declaration.now) c.args.self.now _ c.add.new.self (string_bytes c.in_ok-name.name) c.in_ok-text.text
-    (option_copied c.point_of-point.result) c.in_ok-is_known.is_known c.is_full-is_full.result c.next_meaning-meaning.result
+    taken c.args.points.now (declared_of c.args.declaration.now) c.args.self.now _ c.add.new.self
+    (string_bytes c.in_ok-name.name) c.in_ok-text.text
+    (option_copied c.point_of-point.result) c.in_ok-is_known.is_known c.is_full-is_full.result
+    c.next_meaning-meaning.result
     c.in_ok-name.ensures (c.in_ok-text.ensures ∙ c.as_str.ensures.value) c.point_of-point.ensures
     (record {
       beyond = c.is_full-is_full.ensures;

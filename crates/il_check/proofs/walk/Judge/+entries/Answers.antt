@@ -1,7 +1,10 @@
-use Rattle.std.proofs.Common.{ap, append-nil, arith, ◌∙◌}
+use Rattle.std.proofs.Common.{Option, ap, append-nil, arith, map, ◌++◌, ◌∙◌}
+use Rattle.std.specs.Option.{option_to_list}
 use Rattle.il_text.proofs.ListingLemmas.{view_label, view_instruction, view_block}
 use Rattle.il_check.specs.Faults.{noted}
 use Rattle.il_check.specs.NamesView.{names_of}
+use Rattle.il_check.specs.Program.{Entry}
+use Rattle.il_check.specs.ProgramViews.{entry_view}
 use Rattle.il_check.specs.WellTyped.{closing_faults}
 use Rattle.il_check.proofs.NotedLemmas.{noted-after}
 use Rattle.il_check.proofs.WalkLemmas.{deep_found, looked_found, entries-more, entries-left}
@@ -9,25 +12,39 @@ use Rattle.il_check.proofs.walk.Judge.+entries.Goals as goal
 
 pub block-returns-clause-found : goal.block-returns-clause-found
 block-returns-clause-found t c =
-    looked_found _ _ c.args.place.room c.args.frame.line _ _ c.if-place-eq0.false
+    looked_found _ _ c.args.context.room c.args.parenthesis.line _ _ c.if-context-eq0.false
     (noted-after _ _ _ _ _ _ _ c.note_opening-self.ensures c.in_ok-inner.ensures.found
     (c.note_closing-self.ensures
-    ∙ ap (λ k. noted c.entries.new.self.found (closing_faults c.args.place.is_reached c.args.frame.end c.args.frame.operator c.args.frame.negated k c.args.kind)) c.in_ok-inner.ensures.kind))
+    ∙ ap (λ k. noted c.entries.new.self.found
+    (closing_faults c.args.context.is_reached c.args.parenthesis.end c.args.parenthesis.operator
+    c.args.parenthesis.negated k c.args.kind)) c.in_ok-inner.ensures.kind))
 
-pub block-returns-then-place-eq0-clause-found : goal.block-returns-then-place-eq0-clause-found
-block-returns-then-place-eq0-clause-found t c = deep_found _ _ _ c.args.place.room c.args.frame.line _ _ c.if-place-eq0.true c.note_opening-self.ensures c.note_if-self.ensures
+pub block-returns-then-context-eq0-clause-found : goal.block-returns-then-context-eq0-clause-found
+block-returns-then-context-eq0-clause-found t c =
+    deep_found _ _ _ c.args.context.room c.args.parenthesis.line _ _ c.if-context-eq0.true
+    c.note_opening-self.ensures c.note_if-self.ensures
 
 pub entries-loop-item-preserved : goal.entries-loop-item-preserved
 entries-loop-item-preserved t c =
-    entries-more (names_of c.args.names.now) c.args.place.room c.args.place.is_reached c.args.place.passed c.args.items.now c.args.self.now.found
-    c.loop-item.item-index c.item-item.result c.loop-item.self.found c.entry.new.self.found c.loop-item.passed c.entry.new.passed (omega arith) c.item-item.is
+    entries-more (names_of c.args.names.now) c.args.context.room c.args.context.is_reached
+    c.args.context.passed c.args.items.now c.args.self.now.found
+    c.loop-item.item-index c.item-item.result c.loop-item.self.found c.entry.new.self.found
+    c.loop-item.passed c.add.new.self (omega arith) c.item-item.is
     c.loop-item.invariant
-    (record { kind = c.in_ok-entry.ensures.kind; left = c.in_ok-entry.ensures.left; found = c.in_ok-entry.ensures.found })
+    (record {
+      kind = c.in_ok-add.ensures.kind ∙ c.in_ok-left.ensures.kind;
+      left = c.in_ok-add.ensures.left
+          ∙ ap (λ (o : Option Entry). map entry_view c.loop-item.passed.entries.items
+          ++ option_to_list o) c.in_ok-left.ensures.left;
+      found = c.in_ok-left.ensures.found;
+    })
 
 pub entries-returns-clause-left : goal.entries-returns-clause-left
 entries-returns-clause-left t c =
-    entries-left (names_of c.args.names.now) c.args.place.room c.args.place.is_reached c.args.place.passed c.args.items.now c.args.self.now.found
-    c.loop-item.item-index c.loop-item.self.found c.loop-item.passed (omega arith) c.loop-item.invariant
+    entries-left (names_of c.args.names.now) c.args.context.room c.args.context.is_reached
+    c.args.context.passed c.args.items.now c.args.self.now.found
+    c.loop-item.item-index c.loop-item.self.found c.loop-item.passed (omega arith)
+    c.loop-item.invariant
 
 pub entry-returns-in-Label-clause-kind : goal.entry-returns-in-Label-clause-kind
 entry-returns-in-Label-clause-kind t c = grind (arith, view_label)
@@ -47,11 +64,14 @@ entry-returns-in-Instruction-clause-left t c = grind (arith, view_instruction)
 pub entry-returns-in-Instruction-clause-found : goal.entry-returns-in-Instruction-clause-found
 entry-returns-in-Instruction-clause-found t c = grind (arith, view_instruction)
 
-pub entry-returns-in_ok-block-in-Block-clause-kind : goal.entry-returns-in_ok-block-in-Block-clause-kind
-entry-returns-in_ok-block-in-Block-clause-kind t c = grind (arith, view_block)
+pub entry-returns-in_ok-entry-in-Block-clause-kind
+    : goal.entry-returns-in_ok-entry-in-Block-clause-kind
+entry-returns-in_ok-entry-in-Block-clause-kind t c = grind (arith, view_block)
 
-pub entry-returns-in_ok-block-in-Block-clause-left : goal.entry-returns-in_ok-block-in-Block-clause-left
-entry-returns-in_ok-block-in-Block-clause-left t c = grind (arith, view_block)
+pub entry-returns-in_ok-entry-in-Block-clause-left
+    : goal.entry-returns-in_ok-entry-in-Block-clause-left
+entry-returns-in_ok-entry-in-Block-clause-left t c = grind (arith, view_block)
 
-pub entry-returns-in_ok-block-in-Block-clause-found : goal.entry-returns-in_ok-block-in-Block-clause-found
-entry-returns-in_ok-block-in-Block-clause-found t c = grind (arith, view_block)
+pub entry-returns-in_ok-entry-in-Block-clause-found
+    : goal.entry-returns-in_ok-entry-in-Block-clause-found
+entry-returns-in_ok-entry-in-Block-clause-found t c = grind (arith, view_block)

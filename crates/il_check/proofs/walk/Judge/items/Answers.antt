@@ -8,28 +8,35 @@ use Rattle.il_check.proofs.walk.Judge.items.Goals as goal
 
 pub loop-item-preserved : goal.loop-item-preserved
 loop-item-preserved c =
-    items-more (names_of c.args.names.now) c.args.items.now c.args.self.now.found (first c.args.arrivals.items)
-    c.loop-item.item-index c.item-item.result c.loop-item.self.found c.item.new.self.found c.loop-item.walk c.keep.new.self (omega arith) c.item-item.is
+    items-more (names_of c.args.names.now) c.args.items.now c.args.self.now.found
+    (first c.args.arrivals.items)
+    c.loop-item.item-index c.item-item.result c.loop-item.self.found c.item.new.self.found
+    c.loop-item.walk c.keep.new.self (omega arith) c.item-item.is
     c.loop-item.invariant
     (record {
       standing = c.keep.ensures.standing ∙ c.in_ok-item.ensures.standing;
-      left = λ none. ap (λ kept. map item_view kept.items) (c.keep.ensures.items none) ∙ c.in_ok-item.ensures.items;
+      left = λ none. ap (λ kept. map item_view kept.items) (c.keep.ensures.items none)
+          ∙ c.in_ok-item.ensures.items;
       found = c.in_ok-item.ensures.found;
     })
 
 pub loop-item-init : goal.loop-item-init
 loop-item-init c = record {
-  left = λ none. ap (λ xs. map item_view xs ++ items_left (names_of c.args.names.now) (map entry_of c.args.items.now) (first c.args.arrivals.items)) c.new.ensures.items;
+  left = λ none. ap (λ xs. map item_view xs
+      ++ items_left (names_of c.args.names.now) (map entry_of c.args.items.now)
+      (first c.args.arrivals.items)) c.new.ensures.items;
   found = refl;
   few = omega arith;
 }
 
 pub returns-clause-left : goal.returns-clause-left
 returns-clause-left c =
-    items-left (names_of c.args.names.now) c.args.items.now c.args.self.now.found (first c.args.arrivals.items) c.loop-item.item-index c.loop-item.self.found
+    items-left (names_of c.args.names.now) c.args.items.now c.args.self.now.found
+    (first c.args.arrivals.items) c.loop-item.item-index c.loop-item.self.found
     c.loop-item.walk c.loop-item-test.false c.loop-item.invariant
 
 pub returns-clause-found : goal.returns-clause-found
 returns-clause-found c =
-    items-found (names_of c.args.names.now) c.args.items.now c.args.self.now.found (first c.args.arrivals.items) c.loop-item.item-index c.loop-item.self.found
+    items-found (names_of c.args.names.now) c.args.items.now c.args.self.now.found
+    (first c.args.arrivals.items) c.loop-item.item-index c.loop-item.self.found
     c.loop-item.walk c.loop-item-test.false c.loop-item.invariant

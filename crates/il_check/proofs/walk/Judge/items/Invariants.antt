@@ -4,4 +4,6 @@ use Rattle.il_check.proofs.WalkLemmas.{ItemsSoFar}
 use Rattle.il_check.proofs.walk.Judge.items.Given as goal
 
 abbrev pub invariant-loop-item : goal.invariant-loop-item
-invariant-loop-item l = ItemsSoFar (names_of l.names) l.items l.fn.self.found (first l.fn.arrivals.items) l.item-index l.self.found l.walk
+invariant-loop-item l =
+    ItemsSoFar (names_of l.names) l.items l.fn.self.found (first l.fn.arrivals.items) l.item-index
+    l.self.found l.walk

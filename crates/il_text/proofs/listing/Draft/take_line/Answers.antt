@@ -8,31 +8,42 @@ use Rattle.il_text.proofs.listing.Draft.take_line.Goals as goal
 
 pub returns-in_default-clause-refused : goal.returns-in_default-clause-refused
 returns-in_default-clause-refused c = λ _.
-    line_refused c.args.position.line c.args.position.last (read_of c.args.self.now) (symbols_of c.args.tokens.now) None c.in_default.ensures refl
+    line_refused c.args.position.line c.args.position.last (read_of c.args.self.now)
+    (symbols_of c.args.tokens.now) None c.in_default.ensures refl
 
 pub returns-in_err-take_form-clause-refused : goal.returns-in_err-take_form-clause-refused
 returns-in_err-take_form-clause-refused c =
     let p = err_from_is_err_and c.from_residual.result c.from_residual.ensures.1 in
     rw (p.1, p.2)
-    (λ m. line_refused c.args.position.line c.args.position.last (read_of c.args.self.now) (symbols_of c.args.tokens.now) (line_parts c.in-Some.form) c.in-Some.ensures (c.in_err-take_form.ensures.none m)
+    (λ m. line_refused c.args.position.line c.args.position.last (read_of c.args.self.now)
+    (symbols_of c.args.tokens.now) (line_parts c.in-Some.form) c.in-Some.ensures
+    (c.in_err-take_form.ensures.none m)
     ∙ ap Err (sym (c.in_err-take_form.ensures.bad m)))
 
 pub returns-in_err-count-clause-refused : goal.returns-in_err-count-clause-refused
 returns-in_err-count-clause-refused c =
-    let p = err_from_is_err_and c.from_residual-in_err-count.result c.from_residual-in_err-count.ensures.1 in
+    let p = err_from_is_err_and c.from_residual-in_err-count.result
+    c.from_residual-in_err-count.ensures.1 in
     rw (p.1, p.2)
-    (λ m. line_taken c.args.position.line c.args.position.last (read_of c.args.self.now) (symbols_of c.args.tokens.now) (line_parts c.in-Some.form) (reached_of c.take_form.new.self) c.has_instruction.result
+    (λ m. line_taken c.args.position.line c.args.position.last (read_of c.args.self.now)
+    (symbols_of c.args.tokens.now) (line_parts c.in-Some.form) (reached_of c.take_form.new.self)
+    c.has_instruction.result
     c.in-Some.ensures c.has_instruction.ensures c.in_ok-take_form.ensures.ok
-    ∙ rw (c.if-has_instruction.true, sym c.in_ok-take_form.ensures.count) c.in_err-count.ensures.refused)
+    ∙ rw (c.if-has_instruction.true, sym c.in_ok-take_form.ensures.count)
+    c.in_err-count.ensures.refused)
 
 pub returns-in_ok-count-clause-ok : goal.returns-in_ok-count-clause-ok
 returns-in_ok-count-clause-ok c =
-    line_taken c.args.position.line c.args.position.last (read_of c.args.self.now) (symbols_of c.args.tokens.now) (line_parts c.in-Some.form) (reached_of c.take_form.new.self) c.has_instruction.result
+    line_taken c.args.position.line c.args.position.last (read_of c.args.self.now)
+    (symbols_of c.args.tokens.now) (line_parts c.in-Some.form) (reached_of c.take_form.new.self)
+    c.has_instruction.result
     c.in-Some.ensures c.has_instruction.ensures c.in_ok-take_form.ensures.ok
     ∙ rw (c.if-has_instruction.true, sym c.in_ok-take_form.ensures.count) c.in_ok-count.ensures.ok
 
 pub returns-else-has_instruction-clause-ok : goal.returns-else-has_instruction-clause-ok
 returns-else-has_instruction-clause-ok c =
-    line_taken c.args.position.line c.args.position.last (read_of c.args.self.now) (symbols_of c.args.tokens.now) (line_parts c.in-Some.form) (reached_of c.take_form.new.self) c.has_instruction.result
+    line_taken c.args.position.line c.args.position.last (read_of c.args.self.now)
+    (symbols_of c.args.tokens.now) (line_parts c.in-Some.form) (reached_of c.take_form.new.self)
+    c.has_instruction.result
     c.in-Some.ensures c.has_instruction.ensures c.in_ok-take_form.ensures.ok
     ∙ rw (c.if-has_instruction.false, c.in_ok-take_form.ensures.count) refl

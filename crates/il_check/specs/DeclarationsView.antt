@@ -19,30 +19,43 @@ use Rattle.il_check.specs.declared.typed.External.{External}
 use Rattle.il_check.specs.declared.typed.Variable.{Variable}
 use Rattle.il_check.specs.declared.typed.Timer.{Timer}
 
+-- how many are declared so far
 abbrev pub counts_in : Declarations → Counts
-counts_in d = record { externals = vec_len d.externals; variables = vec_len d.variables; timers = vec_len d.timers }
+counts_in d =
+    record {
+      externals = vec_len d.externals;
+      variables = vec_len d.variables;
+      timers = vec_len d.timers;
+    }
 
 -- an external, and a variable, of a name in upper case
 abbrev pub external_named : List ℕ → ElementaryType → Option Point → Option External
 external_named name kind None = None
-external_named name kind (Some p) = Some (record { name = name; kind = kind; writable = p.writable; source = p.source })
+external_named name kind (Some p) =
+    Some (record { name = name; kind = kind; writable = p.writable; source = p.source })
 
+-- the variable of a name with the value that it begins with
 abbrev pub variable_named : List ℕ → Option Value → Option Variable
 variable_named name None = None
 variable_named name (Some v) = Some (record { name = name; initial = v })
 
+-- what a declaration, whose name in upper case is given, adds to externals, variables and timers
 abbrev pub external_added : List ℕ → Scope → DeclaredType → Option Point → Option External
 external_added name scope.External (type.Elementary kind) point = external_named name kind point
 external_added name declared_as kind point = None
 
+-- a variable, where a local name has an elementary type and a value that fits it
 abbrev pub variable_added : List ℕ → text.Declared → Scope → DeclaredType → Option Variable
-variable_added name d scope.Local (type.Elementary kind) = variable_named name (initial_in kind d.initial)
+variable_added name d scope.Local (type.Elementary kind) =
+    variable_named name (initial_in kind d.initial)
 variable_added name d declared_as kind = None
 
+-- a timer, where the name has the type of one
 abbrev pub timer_added : List ℕ → DeclaredType → Option Timer
 timer_added name (type.Timer kind) = Some (record { name = name; kind = kind })
 timer_added name (type.Elementary kind) = None
 
+-- All but one stays as it was: the externals, the variables, the timers.
 pub record SameButExternals (old new : Declarations) : Type 0 where
   pub variables : new.variables ≡ old.variables
   pub timers : new.timers ≡ old.timers
@@ -62,26 +75,35 @@ pub record SameButTimers (old new : Declarations) : Type 0 where
   pub found : new.found ≡ old.found
 
 -- what a declaration adds
-pub record Adds (name : List ℕ) (d : text.Declared) (point : Option Point) (old new : Declarations) : Type 0 where
-  pub externals : new.externals.items ≡ old.externals.items ++ option_to_list (external_added name d.scope d.kind point)
-  pub variables : new.variables.items ≡ old.variables.items ++ option_to_list (variable_added name d d.scope d.kind)
+pub record Adds (name : List ℕ) (d : text.Declared) (point : Option Point) (old new : Declarations)
+    : Type 0 where
+  pub externals : new.externals.items
+      ≡ old.externals.items ++ option_to_list (external_added name d.scope d.kind point)
+  pub variables : new.variables.items
+      ≡ old.variables.items ++ option_to_list (variable_added name d d.scope d.kind)
   pub timers : new.timers.items ≡ old.timers.items ++ option_to_list (timer_added name d.kind)
   pub meanings : new.meanings ≡ old.meanings
   pub found : new.found ≡ old.found
 
 -- what taking a declaration changes
 pub record Takes (points : List Point) (d : text.Declared) (old new : Declarations) : Type 0 where
-  pub externals : new.externals.items ≡ old.externals.items ++ option_to_list (external_in points d d.scope d.kind)
-  pub variables : new.variables.items ≡ old.variables.items ++ option_to_list (variable_in d d.scope d.kind)
+  pub externals : new.externals.items
+      ≡ old.externals.items ++ option_to_list (external_in points d d.scope d.kind)
+  pub variables : new.variables.items
+      ≡ old.variables.items ++ option_to_list (variable_in d d.scope d.kind)
   pub timers : new.timers.items ≡ old.timers.items ++ option_to_list (timer_in d d.kind)
   pub meanings : (other : List ℕ) → get_by_text new.meanings other
-      ≡ with_value (λ q. get_by_text old.meanings q) (upper d.name) (meaning_at (counts_in old) d.scope d.kind (point_of points d.name)) other
+      ≡ with_value (λ q. get_by_text old.meanings q) (upper d.name)
+      (meaning_at (counts_in old) d.scope d.kind (point_of points d.name)) other
   pub found : new.found
-      ≡ noted old.found (name_faults (point_of points d.name) (is_some (get_by_text old.meanings (upper d.name))) (is_full (counts_in old) d.kind) d)
+      ≡ noted old.found (name_faults (point_of points d.name)
+      (is_some (get_by_text old.meanings (upper d.name))) (is_full (counts_in old) d.kind) d)
 
 -- these declarations were taken
-pub record StandsFor (points : List Point) (declared : List text.Declared) (d : Declarations) : Type 0 where
+pub record StandsFor (points : List Point) (declared : List text.Declared) (d : Declarations)
+    : Type 0 where
   pub externals : d.externals.items ≡ externals_of points declared
   pub variables : d.variables.items ≡ variables_of declared
   pub timers : d.timers.items ≡ timers_of declared
-  pub meanings : (name : List ℕ) → get_by_text d.meanings name ≡ looked_up (meanings_of points declared) name
+  pub meanings : (name : List ℕ)
+      → get_by_text d.meanings name ≡ looked_up (meanings_of points declared) name
