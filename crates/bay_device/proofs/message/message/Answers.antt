@@ -53,14 +53,8 @@ returns-else-is_err-clause-ok c =
     (λ ok connections.
     let s : State = state_view connections d in
     ok connections
-<<<<<<< HEAD
-    ∙ ap (λ (n : ℕ). answered_with a terms (answered (let x : Client = record { association = a; size = n; now = c.args.now; fresh = c.is_fresh.result } in x) pdu (bay_of s)) (done_of s c.args.output.now))
-    (size-is (association_terms talk.phase) c.pdu_size.result c.requires c.pdu_size.ensures.size)
-    ∙ ap (λ (f : Bool). answered_with a terms (answered (let x : Client = record { association = a; size = size_of (association_terms talk.phase); now = c.args.now; fresh = f } in x) pdu (bay_of s)) (done_of s c.args.output.now))
-=======
     ∙ ap (λ (n : ℕ). answered_with a terms (answered (let x : Client = record { association = a; size = n; now = c.args.now; fresh = c.is_fresh.result } in x) pdu (bay_of s)) (done_of s c.args.made.now))
-    (size-is (link_of talk.phase) c.pdu_size.result c.requires c.pdu_size.ensures.size)
-    ∙ ap (λ (f : Bool). answered_with a terms (answered (let x : Client = record { association = a; size = size_of (link_of talk.phase); now = c.args.now; fresh = f } in x) pdu (bay_of s)) (done_of s c.args.made.now))
->>>>>>> 207ce4dde815c9c6b1cadc4c1a1abbaa9450e187
+    (size-is (association_terms talk.phase) c.pdu_size.result c.requires c.pdu_size.ensures.size)
+    ∙ ap (λ (f : Bool). answered_with a terms (answered (let x : Client = record { association = a; size = size_of (association_terms talk.phase); now = c.args.now; fresh = f } in x) pdu (bay_of s)) (done_of s c.args.made.now))
     (c.is_fresh.ensures connections))
     c.answer-answered.ensures.ok
