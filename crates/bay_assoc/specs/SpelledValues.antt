@@ -52,8 +52,10 @@ pub record IsContext (octets : List ℕ) (c : Context) : Type 0 where
   pub some : 0 < c.id
   pub low : c.id < 32768
   pub listed : SpellAll list (map (value oid_tag) transfers)
-  pub is_acse : c.is_acse ≡ (list_any (λ t. bytes_eq t ber_syntax) transfers && bytes_eq name acse_syntax)
-  pub is_mms : c.is_mms ≡ (list_any (λ t. bytes_eq t ber_syntax) transfers && bytes_eq name mms_syntax)
+  pub is_acse : c.is_acse ≡
+      (list_any (λ t. bytes_eq t ber_syntax) transfers && bytes_eq name acse_syntax)
+  pub is_mms : c.is_mms ≡ (list_any (λ t. bytes_eq t ber_syntax) transfers
+      && bytes_eq name mms_syntax)
 
 -- The octets offer at most 16 contexts, no two of one identifier.
 pub record IsOffer (octets : List ℕ) (contexts : List Context) : Type 0 where
@@ -72,7 +74,8 @@ IsSelectors [] (Some called) = ⊥
 IsSelectors (calling ∷ []) None = calling.tag ≡ context 1
 IsSelectors (first ∷ []) (Some called) = (first ≡ value (context 2) called) × (length called ≤ 16)
 IsSelectors (calling ∷ second ∷ []) None = ⊥
-IsSelectors (calling ∷ second ∷ []) (Some called) = (calling.tag ≡ context 1) × (second ≡ value (context 2) called) × (length called ≤ 16)
+IsSelectors (calling ∷ second ∷ []) (Some called) =
+    (calling.tag ≡ context 1) × (second ≡ value (context 2) called) × (length called ≤ 16)
 IsSelectors (calling ∷ second ∷ next ∷ parts) called = ⊥
 
 -- The octets are parameters of the normal mode, of which these are known, in this order: the
@@ -83,7 +86,8 @@ pub record IsNormal (octets : List ℕ) (c : Connect) : Type 0 where
   pub list : List ℕ
   pub user : List ℕ
   pub spelled : SpellAll octets fields
-  pub known : filter (is_known (context 1 ∷ context 2 ∷ constructed 4 ∷ application 1 ∷ [])) fields ≡ selectors ++ (value (constructed 4) list ∷ value (application 1) user ∷ [])
+  pub known : filter (is_known (context 1 ∷ context 2 ∷ constructed 4 ∷ application 1 ∷ [])) fields
+      ≡ selectors ++ (value (constructed 4) list ∷ value (application 1) user ∷ [])
   pub are_selectors : IsSelectors selectors c.called
   pub offer : IsOffer list c.contexts
   pub carried : IsListed user c.user
@@ -103,8 +107,10 @@ pub record IsRequest (octets : List ℕ) (c : Connect) : Type 0 where
   pub normal : List ℕ
   pub whole : SpellAll octets (value set_tag content ∷ [])
   pub spelled : SpellAll content fields
-  pub known : (filter (is_known (constructed 0 ∷ constructed 2 ∷ [])) fields ≡ value (constructed 0) mode ∷ value (constructed 2) normal ∷ [])
-      ⊎ (filter (is_known (constructed 0 ∷ constructed 2 ∷ [])) fields ≡ value (constructed 2) normal ∷ value (constructed 0) mode ∷ [])
+  pub known : (filter (is_known (constructed 0 ∷ constructed 2 ∷ [])) fields
+      ≡ value (constructed 0) mode ∷ value (constructed 2) normal ∷ [])
+      ⊎ (filter (is_known (constructed 0 ∷ constructed 2 ∷ [])) fields
+      ≡ value (constructed 2) normal ∷ value (constructed 0) mode ∷ [])
   pub is_mode : IsMode mode
   pub is_normal : IsNormal normal c
 
@@ -120,7 +126,8 @@ pub record IsAssociate (octets : List ℕ) (c : Carried) : Type 0 where
   pub inner : List ℕ
   pub whole : SpellAll octets (value (application 0) content ∷ [])
   pub spelled : SpellAll content fields
-  pub known : filter (is_known (constructed 1 ∷ constructed 30 ∷ [])) fields ≡ value (constructed 1) name ∷ value (constructed 30) information ∷ []
+  pub known : filter (is_known (constructed 1 ∷ constructed 30 ∷ [])) fields
+      ≡ value (constructed 1) name ∷ value (constructed 30) information ∷ []
   pub is_name : SpellAll name (value oid_tag mms_application ∷ [])
   pub is_external : SpellAll information (value external_tag inner ∷ [])
   pub carried : IsCarried inner c

@@ -6,7 +6,7 @@ use Rattle.bay_transport.specs.Doings.{Doing, Left, Going, Over, Broken}
 use Rattle.bay_transport.specs.Feeding.{agreed}
 use Rattle.bay_assoc.specs.declared.hearing.Phase.{Phase}
 use Rattle.bay_assoc.specs.declared.hearing.Phase.TheVariants as phases
-use Rattle.bay_assoc.specs.Hears.{link_of}
+use Rattle.bay_assoc.specs.Hears.{association_terms}
 use Rattle.bay_connection.specs.declared.line.Line.{Line}
 use Rattle.bay_connection.specs.Talk.{Talk, Indication, told}
 use Rattle.bay_connection.specs.Feeding.{Client}
@@ -14,7 +14,8 @@ use Rattle.bay_connection.specs.Feeding.{Client}
 -- An open association has a size of TPDUs agreed; where the stream has ended the association is
 -- over, and no stream has failed.
 abbrev pub AreJoined : Left → Phase → Type 0
-AreJoined (Going link rest) phase = IfSome (link_of phase) (λ _. IsSome link.size)
+AreJoined (Going connection rest) phase =
+    IfSome (association_terms phase) (λ _. IsSome connection.size)
 AreJoined Over phase = phase ≡ phases.Over
 AreJoined Broken phase = ⊥
 
@@ -55,7 +56,9 @@ TakesMemory got.Ended = ⊥
 
 -- A doing that left the first talk's stream comes to this, in its phase, and leaves the second.
 abbrev pub Tells : Talk → Doing → Option Indication → Talk → Type 0
-Tells old doing heard new = told old.stream (doing ∷ []) (agreed old.stream) old.phase ≡ record { indications = option_to_list heard; left = new }
+Tells old doing heard new =
+    told old.stream (doing ∷ []) (agreed old.stream) old.phase
+    ≡ record { indications = option_to_list heard; left = new }
 
 -- The same where the transport completed something; else nothing is heard, and nothing changes.
 abbrev pub TellsOf : Talk → Option Doing → Option Indication → Talk → Type 0

@@ -2,7 +2,7 @@
 use Rattle.std.proofs.Common.{◌≡◌, ◌<◌, ℕ, ◌+◌, List, [], ◌∷◌, ◌++◌, length, map, drop, take, get_or, Option, Some, None, IsSome, IfSome, Result, Ok, Err, refl, ap, sym, ◌∙◌, arith, append_assoc}
 use Rattle.std.proofs.lemmas.Grind.{common_steps}
 use Rattle.std.specs.Result.{OnErr, OnOk}
-use Rattle.bay_assoc.specs.declared.hearing.Link.{Link}
+use Rattle.bay_assoc.specs.declared.hearing.AssociationTerms.{AssociationTerms}
 use Rattle.bay_connection.specs.Talk.{Terms, sending}
 use Rattle.bay_control.specs.declared.selection.Standing.{Standing}
 use Rattle.bay_services.specs.Answers.{Answered}
@@ -62,7 +62,7 @@ put-back-done standing s m b sent made commands obeyed restored back own sends d
     ∙ ap (λ (y : List Sent). done s y obeyed) sends ∙ ap (λ (y : List Command). done s sent y) does
 
 -- the size that is agreed
-pub size-is : (o : Option Link) (n : ℕ) → IsSome o → IfSome o (λ (l : Link). n ≡ l.size) → n ≡ size_of o
+pub size-is : (o : Option AssociationTerms) (n : ℕ) → IsSome o → IfSome o (λ (l : AssociationTerms). n ≡ l.size) → n ≡ size_of o
 size-is None n some is = absurd (cc)
 size-is (Some l) n some is = is
 

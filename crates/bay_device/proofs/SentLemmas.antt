@@ -12,7 +12,7 @@ use Rattle.bay_mms.specs.Tags.{constructed, int_tag, sequence}
 use Rattle.bay_transport.specs.Doings.{Run}
 use Rattle.bay_transport.specs.Wrap.{full_before, wrapped}
 use Rattle.bay_transport.proofs.WrapLemmas.{run-data_frames}
-use Rattle.bay_assoc.specs.Hears.{link_of}
+use Rattle.bay_assoc.specs.Hears.{association_terms}
 use Rattle.bay_assoc.specs.Session.{Spdu, spdu_in, transfer}
 use Rattle.bay_assoc.specs.Tags.{application}
 use Rattle.bay_assoc.specs.Texts.{transfer_text, user_text}
@@ -72,14 +72,14 @@ text-size id pdu short =
       length-element (application 1) middle,
     )
 
-read-in : (size : Option ℕ) (phase : Phase) (pdu : List ℕ) → IsSome size → IsOpen phase → length pdu ≤ 65000 → pdu_in (sending_in size (link_of phase) pdu) ≡ pdu
+read-in : (size : Option ℕ) (phase : Phase) (pdu : List ℕ) → IsSome size → IsOpen phase → length pdu ≤ 65000 → pdu_in (sending_in size (association_terms phase) pdu) ≡ pdu
 read-in None phase pdu some is short = absurd (cc)
 read-in (Some n) Idle pdu some is short = absurd is
-read-in (Some n) (Open link) pdu some is short =
-    let user : List ℕ = user_text link.contexts.mms pdu in
-    ap (λ (o : Option (List ℕ)). unwrap_or (o >>= spdu_in >>= user_data >>= value_of) []) (tsdu-read n (transfer_text user) (text-size link.contexts.mms pdu short))
+read-in (Some n) (Open terms) pdu some is short =
+    let user : List ℕ = user_text terms.contexts.mms pdu in
+    ap (λ (o : Option (List ℕ)). unwrap_or (o >>= spdu_in >>= user_data >>= value_of) []) (tsdu-read n (transfer_text user) (text-size terms.contexts.mms pdu short))
     ∙ ap (λ (o : Option Spdu). unwrap_or (o >>= user_data >>= value_of) []) (spdu-read user)
-    ∙ ap (λ (o : Option (List ℕ)). unwrap_or o []) (value-read link.contexts.mms pdu short)
+    ∙ ap (λ (o : Option (List ℕ)). unwrap_or o []) (value-read terms.contexts.mms pdu short)
 read-in (Some n) Over pdu some is short = absurd is
 read-in (Some n) Failed pdu some is short = absurd is
 

@@ -19,7 +19,7 @@ use Rattle.bay_transport.specs.Feeding.{agreed_from, agreed}
 use Rattle.bay_assoc.specs.declared.fault.AssocFault.{AssocFault}
 use Rattle.bay_assoc.specs.declared.fault.AssocFault.TheVariants as fault
 use Rattle.bay_assoc.specs.declared.hearing.Accepted.{Accepted}
-use Rattle.bay_assoc.specs.declared.hearing.Link.{Link as Agreement}
+use Rattle.bay_assoc.specs.declared.hearing.AssociationTerms.{AssociationTerms}
 use Rattle.bay_assoc.specs.declared.hearing.Phase.{Phase}
 use Rattle.bay_assoc.specs.declared.hearing.Phase.TheVariants as phases
 use Rattle.bay_assoc.specs.declared.presentation.Context.{Context}
@@ -141,7 +141,7 @@ agreement-sized contexts user =
 -- an association that is open, with a size of PDUs
 abbrev pub IsOpen : Phase → Type 0
 IsOpen phases.Idle = ⊥
-IsOpen (phases.Open link) = IsPduSize link.size
+IsOpen (phases.Open terms) = IsPduSize terms.size
 IsOpen phases.Over = ⊥
 IsOpen phases.Failed = ⊥
 
@@ -160,19 +160,19 @@ connected-sized user =
     bound IsHeard (wanted fault.BadPresentation (request_in user)) _ (λ request.
     bound-by (λ (x : Accepted × Agreed). IsPduSize x.1.size) IsHeard (agreement request.contexts request.user) _ (agreement-sized request.contexts request.user) (λ x is. (is, tt)))
 
-finished-sized : (link : Agreement) (user : Option (List ℕ)) → OkIs IsHeard (finished link user)
+finished-sized : (terms : AssociationTerms) (user : Option (List ℕ)) → OkIs IsHeard (finished terms user)
 unfolding finished
-finished-sized link None = (tt, tt)
-finished-sized link (Some user) =
+finished-sized terms None = (tt, tt)
+finished-sized terms (Some user) =
     bound IsHeard (wanted fault.BadPresentation (user_in user)) _ (λ c.
-    bound IsHeard (acse_value link.contexts c) _ (λ value.
+    bound IsHeard (acse_value terms.contexts c) _ (λ value.
     bound IsHeard (wanted fault.BadAcse (release_in value)) _ (λ ignored. (tt, tt))))
 
-transferred-sized : (link : Agreement) (user : List ℕ) → IsPduSize link.size → OkIs IsHeard (transferred link user)
+transferred-sized : (terms : AssociationTerms) (user : List ℕ) → IsPduSize terms.size → OkIs IsHeard (transferred terms user)
 unfolding transferred
-transferred-sized link user is =
+transferred-sized terms user is =
     bound IsHeard (wanted fault.BadPresentation (user_in user)) _ (λ c.
-    bound IsHeard (mms_value link.contexts c) _ (λ pdu. (is, is)))
+    bound IsHeard (mms_value terms.contexts c) _ (λ pdu. (is, is)))
 
 idle-sized : (s : Spdu) → OkIs IsHeard (heard_idle s)
 idle-sized (connect user) = connected-sized user
@@ -182,18 +182,18 @@ idle-sized disconnect = tt
 idle-sized abort = (tt, tt)
 idle-sized (transfer user) = tt
 
-open-sized : (link : Agreement) (s : Spdu) → IsPduSize link.size → OkIs IsHeard (heard_open link s)
-open-sized link (connect user) is = tt
-open-sized link accept is = tt
-open-sized link (finish user) is = finished-sized link user
-open-sized link disconnect is = tt
-open-sized link abort is = (tt, tt)
-open-sized link (transfer user) is = transferred-sized link user is
+open-sized : (terms : AssociationTerms) (s : Spdu) → IsPduSize terms.size → OkIs IsHeard (heard_open terms s)
+open-sized terms (connect user) is = tt
+open-sized terms accept is = tt
+open-sized terms (finish user) is = finished-sized terms user
+open-sized terms disconnect is = tt
+open-sized terms abort is = (tt, tt)
+open-sized terms (transfer user) is = transferred-sized terms user is
 
 hearing-sized : (phase : Phase) (tsdu : List ℕ) → IsSized phase → OkIs IsHeard (hearing phase tsdu)
 unfolding hearing
 hearing-sized phases.Idle tsdu is = bound IsHeard (wanted fault.BadSession (spdu_in tsdu)) heard_idle idle-sized
-hearing-sized (phases.Open link) tsdu is = bound IsHeard (wanted fault.BadSession (spdu_in tsdu)) (heard_open link) (λ s. open-sized link s is)
+hearing-sized (phases.Open terms) tsdu is = bound IsHeard (wanted fault.BadSession (spdu_in tsdu)) (heard_open terms) (λ s. open-sized terms s is)
 hearing-sized phases.Over tsdu is = tt
 hearing-sized phases.Failed tsdu is = tt
 

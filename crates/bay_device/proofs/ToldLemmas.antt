@@ -14,7 +14,7 @@ use Rattle.bay_mms.specs.Grammar.{answer_to}
 use Rattle.bay_mms.specs.Requests.{identify, names, attributes, read, write, Message, initiate, conclude, confirmed}
 use Rattle.bay_mms.specs.Tags.{constructed}
 use Rattle.bay_mms.specs.declared.fault.MmsFault.{MmsFault}
-use Rattle.bay_assoc.specs.Hears.{link_of}
+use Rattle.bay_assoc.specs.Hears.{association_terms}
 use Rattle.bay_assoc.specs.Sized.{IsSized}
 use Rattle.bay_assoc.specs.declared.hearing.Phase.{Phase}
 use Rattle.bay_assoc.specs.declared.hearing.Phase.TheVariants as phases
@@ -80,9 +80,9 @@ nothing-told now a n (fails code ∷ is) = refl
 
 -- ---- what is heard
 
-size-small : (phase : Phase) → IsOpen phase → size_of (link_of phase) ≤ 65000
+size-small : (phase : Phase) → IsOpen phase → size_of (association_terms phase) ≤ 65000
 size-small phases.Idle is = absurd is
-size-small (phases.Open link) is = is.most
+size-small (phases.Open terms) is = is.most
 size-small phases.Over is = absurd is
 size-small phases.Failed is = absurd is
 

@@ -33,12 +33,12 @@ refused-here now a (i ∷ is) d = refl
 -- ---- what was fed
 
 fed-some : (left : Left) (t : Talk) (piece : List ℕ) (used : ℕ) (i : Indication) → IsGoing left → FeedsFrom left t piece used (Some i) → Comes t piece used i
-fed-some (Going link rest) t piece used i going fed = fed
+fed-some (Going connection rest) t piece used i going fed = fed
 fed-some Over t piece used i going fed = absurd going
 fed-some Broken t piece used i going fed = absurd going
 
 fed-none : (left : Left) (t : Talk) (piece : List ℕ) (used : ℕ) → IsGoing left → FeedsFrom left t piece used None → (used ≡ length piece) × (indications t piece ≡ [])
-fed-none (Going link rest) t piece used going fed = fed
+fed-none (Going connection rest) t piece used going fed = fed
 fed-none Over t piece used going fed = absurd going
 fed-none Broken t piece used going fed = absurd going
 

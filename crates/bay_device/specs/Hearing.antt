@@ -1,8 +1,8 @@
 -- What the octets of a client make of a device: its PDUs in their order, each answered before the
 -- next is read.
 use Rattle.std.specs.Prelude.{ℕ, zero, suc, List, [], ◌∷◌, ◌++◌, map, Option, None, Some}
-use Rattle.bay_assoc.specs.Hears.{link_of}
-use Rattle.bay_assoc.specs.declared.hearing.Link.{Link}
+use Rattle.bay_assoc.specs.Hears.{association_terms}
+use Rattle.bay_assoc.specs.declared.hearing.AssociationTerms.{AssociationTerms}
 use Rattle.bay_connection.specs.Talk.{Indication, answers, tells, releases, ends, fails, Terms, sending}
 use Rattle.bay_services.specs.Answers.{Answered, answered}
 use Rattle.bay_services.specs.declared.answer.Command.{Command}
@@ -29,13 +29,13 @@ abbrev pub with_sent : ℕ → List ℕ → Done → Done
 with_sent a octets d = record d { sent = d.sent ++ sent_on a octets ∷ [] }
 
 -- the size of a PDU that is agreed where an association is open
-abbrev pub size_of : Option Link → ℕ
+abbrev pub size_of : Option AssociationTerms → ℕ
 size_of None = 0
-size_of (Some link) = link.size
+size_of (Some terms) = terms.size
 
 -- the client of an association, on these terms
 abbrev pub client_at : ℕ → ℕ → Terms → State → Client
-client_at now a terms s = record { association = a; size = size_of (link_of terms.phase); now = now; fresh = is_fresh now s }
+client_at now a terms s = record { association = a; size = size_of (association_terms terms.phase); now = now; fresh = is_fresh now s }
 
 -- the octets in which the reports of an end are sent, for the association that operates
 abbrev pub sending_if : Terms → Option (List ℕ) → Option (List ℕ)

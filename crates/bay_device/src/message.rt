@@ -1,6 +1,6 @@
 // A PDU of a client: its answer is made, and then what it asks for stands.
 ghost use Rattle.std.specs.Prelude.{◌≡◌, ◌≤◌, ◌++◌, List, Option, [], All, IfOk, IfSome, IsSome, OnErr, OnOk, length, map, take};
-ghost use Rattle.bay_assoc.specs.Hears.{link_of};
+ghost use Rattle.bay_assoc.specs.Hears.{association_terms};
 ghost use Rattle.bay_connection.specs.Talk.{Talk, sending, terms_of};
 ghost use Rattle.bay_control.specs.declared.selection.Standing.{Standing};
 ghost use Rattle.bay_services.specs.Answers.{answered};
@@ -42,7 +42,7 @@ impl Made {
 
 /// The octets in which a PDU is sent.
 fn framed(connection: &Connection, pdu: &[u8]) -> Result<Listing<u8>, AllocError>
-    requires open { IsSome (link_of connection.now.talk.phase) }
+    requires open { IsSome (association_terms connection.now.talk.phase) }
     requires short { length pdu.now ≤ 65_000 }
     ensures { IfOk result (λ octets. octets ≡ sending (terms_of connection.now.talk) pdu.now) }
 {
@@ -55,7 +55,7 @@ fn framed_report(
     connection: &Connection,
     report: &Option<Listing<u8>>,
 ) -> Result<Option<Listing<u8>>, AllocError>
-    requires open { IsSome (link_of connection.now.talk.phase) }
+    requires open { IsSome (association_terms connection.now.talk.phase) }
     requires short { IfSome report.now (λ pdu. length pdu ≤ 65_000) }
     ensures { IfOk result (λ octets. octets ≡ sending_if (terms_of connection.now.talk) report.now) }
 {
@@ -70,7 +70,7 @@ fn framed_report(
 
 /// What will tell an association of the end of what it operates.
 fn due_of(connection: &Connection, association: u16, ending: &Ending) -> Result<Due, AllocError>
-    requires open { IsSome (link_of connection.now.talk.phase) }
+    requires open { IsSome (association_terms connection.now.talk.phase) }
     requires short { AreShort ending.now }
     ensures { IfOk result (λ due. due ≡ spec.due_of association (terms_of connection.now.talk) ending.now) }
 {
@@ -89,7 +89,7 @@ fn due_if(
     association: u16,
     ending: &Option<Ending>,
 ) -> Result<Option<Due>, AllocError>
-    requires open { IsSome (link_of connection.now.talk.phase) }
+    requires open { IsSome (association_terms connection.now.talk.phase) }
     requires short { IsShort ending.now }
     ensures { IfOk result (λ due. due ≡ spec.due_if association (terms_of connection.now.talk) ending.now) }
 {
@@ -118,7 +118,7 @@ fn send_all(
     pdus: &[Listing<u8>],
     sent: &mut Vec<Sent>,
 ) -> Result<(), AllocError>
-    requires open { IsSome (link_of connection.now.talk.phase) }
+    requires open { IsSome (association_terms connection.now.talk.phase) }
     requires short { All (λ pdu. length pdu ≤ 65_000) pdus.now }
     ensures ok { OnOk result (sent.new.items ≡ sent.old.items ++ map (λ pdu. sent_on association (sending (terms_of connection.now.talk) pdu)) pdus.now) }
     ensures kept { take (length sent.old.items) sent.new.items ≡ sent.old.items }
@@ -141,7 +141,7 @@ fn reply(
     answer: &Answer,
     made: &mut Made,
 ) -> Result<Option<Due>, AllocError>
-    requires open { IsSome (link_of connection.now.talk.phase) }
+    requires open { IsSome (association_terms connection.now.talk.phase) }
     requires short { All (λ pdu. length pdu ≤ 65_000) answer.now.sent.items }
     requires ending { IsShort answer.now.ending }
     ensures due { IfOk result (λ due. due ≡ spec.due_if association (terms_of connection.now.talk) answer.now.ending) }
@@ -172,7 +172,7 @@ fn answer(
     connection: &Connection,
     made: &mut Made,
 ) -> Result<(), AllocError>
-    requires open { IsSome (link_of connection.now.talk.phase) }
+    requires open { IsSome (association_terms connection.now.talk.phase) }
     requires least { 256 ≤ client.size }
     requires most { client.size ≤ 65_000 }
     ensures ok { OnOk result ((connections : List (Option Talk)) → done_of (state_view connections state.new) made.new
@@ -200,7 +200,7 @@ pub fn message(
     connection: &Connection,
     made: &mut Made,
 ) -> Result<(), AllocError>
-    requires { IsSome (link_of connection.now.talk.phase) }
+    requires { IsSome (association_terms connection.now.talk.phase) }
     ensures ok { OnOk result ((connections : List (Option Talk)) → done_of (state_view connections state.new) made.new
         ≡ said now association (terms_of connection.now.talk) connection.now.pdu (done_of (state_view connections state.old) made.old)) }
     ensures err { OnErr result ((connections : List (Option Talk)) → done_of (state_view connections state.new) made.new ≡ done_of (state_view connections state.old) made.old) }

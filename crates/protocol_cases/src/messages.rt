@@ -1,7 +1,7 @@
 // What faults are told as.
 use anyhow::{Result, bail};
 use bay_ber::fault::BerFault;
-use bay_mms::fault::{MmsFault, EncodeFault};
+use bay_mms::fault::{EncodeFault, MmsFault};
 use bay_transport::fault::TransportFault;
 use cases::words::first_word;
 use std::alloc::Global;

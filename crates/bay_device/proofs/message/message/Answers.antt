@@ -1,5 +1,5 @@
 use Rattle.std.proofs.Common.{◌≡◌, Bool, ℕ, length, take, ap, ◌∙◌, arith}
-use Rattle.bay_assoc.specs.Hears.{link_of}
+use Rattle.bay_assoc.specs.Hears.{association_terms}
 use Rattle.bay_connection.specs.Talk.{Terms, terms_of}
 use Rattle.bay_control.specs.Decisions as control
 use Rattle.bay_services.specs.Answers.{answered}
@@ -54,7 +54,7 @@ returns-else-is_err-clause-ok c =
     let s : State = state_view connections d in
     ok connections
     ∙ ap (λ (n : ℕ). answered_with a terms (answered (let x : Client = record { association = a; size = n; now = c.args.now; fresh = c.is_fresh.result } in x) pdu (bay_of s)) (done_of s c.args.made.now))
-    (size-is (link_of talk.phase) c.pdu_size.result c.requires c.pdu_size.ensures.size)
-    ∙ ap (λ (f : Bool). answered_with a terms (answered (let x : Client = record { association = a; size = size_of (link_of talk.phase); now = c.args.now; fresh = f } in x) pdu (bay_of s)) (done_of s c.args.made.now))
+    (size-is (association_terms talk.phase) c.pdu_size.result c.requires c.pdu_size.ensures.size)
+    ∙ ap (λ (f : Bool). answered_with a terms (answered (let x : Client = record { association = a; size = size_of (association_terms talk.phase); now = c.args.now; fresh = f } in x) pdu (bay_of s)) (done_of s c.args.made.now))
     (c.is_fresh.ensures connections))
     c.answer-answered.ensures.ok
