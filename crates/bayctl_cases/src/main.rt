@@ -1,10 +1,11 @@
-// Runs the command lines that come on standard input, over files of its own folder, and prints each that comes out otherwise than it
-// says, and how many do.
+// Runs the command lines that come on standard input, over files of its own folder, and prints each
+// that comes out otherwise than it says, and how many do.
 //
-// The cases are sections, each with a head `== NAME`. `file NAME` and `octets NAME` make a file, of a text or of octets in hexadecimal
-// digits; `input` is what the next commands read. `run STATUS WORDS` is a case: the command of these words prints this text, and ends
-// with this status. Behind it `complaint` is what the last command writes to standard error, `holds NAME` what a file then holds, in
-// hexadecimal digits, and `gone NAME` a file that is not there. `note` is none.
+// The cases are sections, each with a head `== NAME`. `file NAME` and `octets NAME` make a file, of
+// a text or of octets in hexadecimal digits; `input` is what the next commands read. `run STATUS
+// WORDS` is a case: the command of these words prints this text, and ends with this status. Behind
+// it `complaint` is what the last command writes to standard error, `holds NAME` what a file then
+// holds, in hexadecimal digits, and `gone NAME` a file that is not there. `note` is none.
 #![tactic(auto)]
 
 use anyhow::{Result, bail};

@@ -1,18 +1,26 @@
-// Runs the cases of the device that come on standard input, and prints each that comes out otherwise than it says, and how many do.
+// Runs the cases of the device that come on standard input, and prints each that comes out
+// otherwise than it says, and how many do.
 //
-// The cases are sections, each with a head `== NAME`. `bay`, `frame`, `logic` and `trace` are texts, which stand until
-// another takes their place; the logic follows the frame. `report STATUS [NAME]` is a case: the scenario of these texts ends
-// with this status and this report. `fields`, `nodes` (names of logical nodes), `points` and `rows` are what is read of
-// the bay, and `names` those of a tree, which lists them in pages. Values are spelled as Rust's `{:?}` prints them. `note` is none.
+// The cases are sections, each with a head `== NAME`. `bay`, `frame`, `logic` and `trace` are
+// texts, which stand until another takes their place; the logic follows the frame. `report STATUS
+// [NAME]` is a case: the scenario of these texts ends with this status and this report. `fields`,
+// `nodes` (names of logical nodes), `points` and `rows` are what is read of the bay, and `names`
+// those of a tree, which lists them in pages. Values are spelled as Rust's `{:?}` prints them.
+// `note` is none.
 //
-// In the other sections each line is a case. In `octets` it is `SCENARIO -> STATUS REPORT`, octet by octet. Else it is
-// `QUESTION -> ANSWER`: in `bays` a part of the bay file that is replaced and what by, `OLD|NEW`, and what becomes of that file; in `many` how many switches, inputs and meters a bay file has, and its last line; in `trees` the names of rows; in `images` the octets of an
-// image for the bay, in hexadecimal digits; in `controls` what controls are asked (`controls` says how; a line may be a note behind
-// `#`, or `bay` with the control of each switch, whose controls are asked from then on: `status`, `direct/TRAVEL`, `sbo/TIMEOUT/TRAVEL`
-// or `sbo-enhanced/TIMEOUT/TRAVEL`, with milliseconds); in `jobs` the words of a command line; in `messages` a fault; in `endings` the
-// answer of a replay.
+// In the other sections each line is a case. In `octets` it is `SCENARIO -> STATUS REPORT`, octet
+// by octet. Else it is
+// `QUESTION -> ANSWER`: in `bays` a part of the bay file that is replaced and what by, `OLD|NEW`,
+// and what becomes of that file; in `many` how many switches, inputs and meters a bay file has, and
+// its last line; in `trees` the names of rows; in `images` the octets of an image for the bay, in
+// hexadecimal digits; in `controls` what controls are asked (`controls` says how; a line may be a
+// note behind
+// `#`, or `bay` with the control of each switch, whose controls are asked from then on: `status`,
+// `direct/TRAVEL`, `sbo/TIMEOUT/TRAVEL` or `sbo-enhanced/TIMEOUT/TRAVEL`, with milliseconds); in
+// `jobs` the words of a command line; in `messages` a fault; in `endings` the answer of a replay.
 //
-// The sections behind `== note examples` are those of examples/, as `tools/examples_stdin` makes them of the examples' files.
+// The sections behind `== note examples` are those of examples/, as `tools/examples_stdin` makes
+// them of the examples' files.
 #![tactic(auto)]
 
 mod bay;
