@@ -265,7 +265,7 @@ fn finished<'a>(
     Ok((Heard::Released(octets), Phase::Over))
 }
 
-// Data.
+// What is heard of data: the PDU of MMS that they carry in its context.
 #[tactic(auto, unfolding(crate::specs::Hearing::transferred))]
 fn transferred<'a>(
     terms: AssociationTerms,
