@@ -1,3 +1,5 @@
+pub mod CellLemmas
+pub mod DoesLemmas
 pub mod FetchLemmas
 pub mod NeverLemmas
 pub mod PlaceLemmas

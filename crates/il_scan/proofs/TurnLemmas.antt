@@ -26,7 +26,9 @@ use Rattle.il_verify.proofs.WithinLemmas.{within_length}
 use Rattle.il_image.specs.declared.value.Value.{Value}
 use Rattle.il_scan.specs.Standing.{Fit, KeepsSlots, Standing, StandsAt, Turns, words_at}
 use Rattle.il_scan.specs.Working.{IsReady, Words, leads, top, worked}
-use Rattle.il_scan.proofs.SimLemmas.{Does, does, fit_length}
+use Rattle.il_scan.proofs.CellLemmas.{fit_length}
+use Rattle.il_scan.proofs.DoesLemmas.{Does}
+use Rattle.il_scan.proofs.SimLemmas.{does}
 
 -- ---- where words lead
 
