@@ -23,7 +23,12 @@ pub record State : Type 0 where
 
 -- what the bay file says of a switch's control
 abbrev pub control_in : Switch → SwitchControl
-control_in switch = record { model = switch.control; sbo_timeout_ms = switch.sbo_timeout_ms; travel_ms = switch.travel_ms }
+control_in switch =
+    record {
+      model = switch.control;
+      sbo_timeout_ms = switch.sbo_timeout_ms;
+      travel_ms = switch.travel_ms;
+    }
 
 -- what each switch has of its control
 abbrev pub controls_of : List Switch → List SwitchControl
@@ -38,7 +43,8 @@ initial controls = record { controls = controls; selection = None; execution = N
 -- the selection at a moment: it ends where its time is over
 abbrev pub selection_at : ℕ → List SwitchControl → Option Selection → Option Selection
 selection_at now controls None = None
-selection_at now controls (Some s) = if nat_le (s.since + (control_of controls s.switch).sbo_timeout_ms) now then None else Some s
+selection_at now controls (Some s) =
+    if nat_le (s.since + (control_of controls s.switch).sbo_timeout_ms) now then None else Some s
 
 -- the execution's time is over
 abbrev pub is_over_at : ℕ → List SwitchControl → Execution → Bool
@@ -55,7 +61,11 @@ run_out now controls (Some e) = if is_over_at now controls e then Some e.switch 
 
 -- the controls without what has run out
 abbrev pub advanced : ℕ → State → State
-advanced now s = record s { selection = selection_at now s.controls s.selection; execution = execution_at now s.controls s.execution }
+advanced now s =
+    record s {
+      selection = selection_at now s.controls s.selection;
+      execution = execution_at now s.controls s.execution;
+    }
 
 -- ---- tests of the selection and the execution
 
@@ -125,12 +135,15 @@ rows_of_select a k s = select_rows (is_normal (control_of s.controls k).model) a
 
 -- what refuses a select with value
 abbrev pub rows_of_select_with : ℕ → ℕ → Ask → State → List Row
-rows_of_select_with a k ask s = select_rows (is_enhanced (control_of s.controls k).model) a k s (row ask.test BlockedByMode ∷ [])
+rows_of_select_with a k ask s =
+    select_rows (is_enhanced (control_of s.controls k).model) a k s
+    (row ask.test BlockedByMode ∷ [])
 
 -- the association has not selected the switch, or has selected it with value for something else
 abbrev pub is_unselected : SwitchControl → ℕ → ℕ → Choice → Option Selection → Bool
 is_unselected c a k choice selection =
-    is_sbo c.model && not (is_selected_by a k selection && (not (is_enhanced c.model) || is_chosen choice selection))
+    is_sbo c.model && not (is_selected_by a k selection
+    && (not (is_enhanced c.model) || is_chosen choice selection))
 
 -- what refuses an operate
 abbrev pub rows_of_operate : ℕ → ℕ → Ask → View → State → List Row
@@ -166,15 +179,19 @@ abbrev pub select_of : ℕ → ℕ → ℕ → Option Choice → Result (Unit {0
 select_of a k now choice answer s = record {
   answer = answer;
   after = record s {
-    selection = if is_ok answer then Some (record { switch = k; association = a; since = now; choice = choice }) else s.selection;
+    selection =
+        if is_ok answer then Some
+        (record { switch = k; association = a; since = now; choice = choice }) else s.selection;
   };
 }
 
 abbrev pub select_outcome : ℕ → ℕ → ℕ → State → Outcome
-select_outcome a k now s = let t = advanced now s in select_of a k now None (answer_of (rows_of_select a k t)) t
+select_outcome a k now s = let t =
+    advanced now s in select_of a k now None (answer_of (rows_of_select a k t)) t
 
 abbrev pub select_with_outcome : ℕ → ℕ → Ask → ℕ → State → Outcome
-select_with_outcome a k ask now s = let t = advanced now s in select_of a k now (Some (asked_choice ask)) (answer_of (rows_of_select_with a k ask t)) t
+select_with_outcome a k ask now s = let t = advanced now s in
+    select_of a k now (Some (asked_choice ask)) (answer_of (rows_of_select_with a k ask t)) t
 
 -- an operate by the association that selected the switch ends the selection, accepted or not; an
 -- accepted one starts the execution
@@ -183,16 +200,22 @@ operate_of a k on now answer s = record {
   answer = answer;
   after = record s {
     selection = if is_selected_by a k s.selection then None else s.selection;
-    execution = if is_ok answer then Some (record { switch = k; start = now; on = on }) else s.execution;
+    execution =
+        if is_ok answer then Some (record { switch = k; start = now; on = on }) else s.execution;
   };
 }
 
 abbrev pub operate_outcome : ℕ → ℕ → Ask → View → ℕ → State → Outcome
-operate_outcome a k ask view now s = let t = advanced now s in operate_of a k ask.on now (answer_of (rows_of_operate a k ask view t)) t
+operate_outcome a k ask view now s = let t =
+    advanced now s in operate_of a k ask.on now (answer_of (rows_of_operate a k ask view t)) t
 
 -- a cancel, which where it is not refused ends the selection
 abbrev pub cancel_of : Result (Unit {0}) AddCause → State → Outcome
-cancel_of answer s = record { answer = answer; after = record s { selection = if is_ok answer then None else s.selection } }
+cancel_of answer s =
+    record {
+      answer = answer;
+      after = record s { selection = if is_ok answer then None else s.selection };
+    }
 
 abbrev pub cancel_outcome : ℕ → ℕ → ℕ → State → Outcome
 cancel_outcome a k now s = let t = advanced now s in cancel_of (answer_of (rows_of_cancel a k t)) t
@@ -215,7 +238,8 @@ is_done k position (Some e) = e.switch == k && is_reached e.on position
 
 -- a switch that reaches the position which it was told to reach operates no more
 abbrev pub contacted : ℕ → Dbpos → State → State
-contacted k position s = record s { execution = if is_done k position s.execution then None else s.execution }
+contacted k position s =
+    record s { execution = if is_done k position s.execution then None else s.execution }
 
 -- ---- what is taken and put back
 

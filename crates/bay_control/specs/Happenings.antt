@@ -54,7 +54,8 @@ act_of Advance = None
 -- what a call that asks for something tells, accepted or not
 abbrev pub entries_of : ℕ → Option Act → Bool → List Entry
 entries_of now None is_accepted = []
-entries_of now (Some act) is_accepted = record { now = now; act = act; is_accepted = is_accepted } ∷ []
+entries_of now (Some act) is_accepted =
+    record { now = now; act = act; is_accepted = is_accepted } ∷ []
 
 -- what is seen of a list of happenings
 abbrev pub history : List Happening → State → List Entry
@@ -94,7 +95,8 @@ is_open_after is_open Advance b = is_open b
 
 abbrev pub AreOrderly : (ℕ → Bool) → List Happening → Type 0
 AreOrderly is_open [] = Unit {0}
-AreOrderly is_open (h ∷ hs) = (is_orderly_call is_open h.call ≡ true) × AreOrderly (is_open_after is_open h.call) hs
+AreOrderly is_open (h ∷ hs) =
+    (is_orderly_call is_open h.call ≡ true) × AreOrderly (is_open_after is_open h.call) hs
 
 -- the association is open behind these
 abbrev pub is_open_after_all : (ℕ → Bool) → List Happening → ℕ → Bool
@@ -105,7 +107,8 @@ is_open_after_all is_open (h ∷ hs) b = is_open_after_all (is_open_after is_ope
 
 -- Some happenings lead controls from one state to another, and these entries are seen of them;
 -- which associations are open before and after goes with them.
-pub record Leads (entries : List Entry) (open_before : ℕ → Bool) (before : State) (open_after : ℕ → Bool) (after : State) : Type 0 where
+pub record Leads (entries : List Entry) (open_before : ℕ → Bool) (before : State)
+    (open_after : ℕ → Bool) (after : State) : Type 0 where
   pub happened : List Happening
   pub orderly : AreOrderly open_before happened
   pub seen : entries ≡ history happened before

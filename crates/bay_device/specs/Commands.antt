@@ -26,8 +26,12 @@ pub record AreCommanded (now : ℕ) (s : State) (step : Step) : Type 0 where
 -- Those of each step of a list of events are.
 abbrev pub AllCommanded : List (Option ℕ) → List (ℕ × Event) → State → Type 0
 AllCommanded choices [] s = Unit {0}
-AllCommanded [] (e ∷ es) s = IfOk (outcome None e.0 e.1 s).answer (AreCommanded e.0 s) × AllCommanded [] es (outcome None e.0 e.1 s).after
-AllCommanded (choice ∷ choices) (e ∷ es) s = IfOk (outcome choice e.0 e.1 s).answer (AreCommanded e.0 s) × AllCommanded choices es (outcome choice e.0 e.1 s).after
+AllCommanded [] (e ∷ es) s =
+    IfOk (outcome None e.0 e.1 s).answer (AreCommanded e.0 s)
+    × AllCommanded [] es (outcome None e.0 e.1 s).after
+AllCommanded (choice ∷ choices) (e ∷ es) s =
+    IfOk (outcome choice e.0 e.1 s).answer (AreCommanded e.0 s)
+    × AllCommanded choices es (outcome choice e.0 e.1 s).after
 
 -- A step has one command at most.
 abbrev pub IsSingle : Result Step StepFault → Type 0

@@ -15,7 +15,8 @@ talks clients = map talk_in clients
 
 -- Octets are taken of each association that is open.
 abbrev pub AreGoing : List (Option Talk) → Type 0
-AreGoing connections = (place : ℕ) (t : Talk) → slice_get connections place ≡ Some (Some t) → IsGoing t.stream.left
+AreGoing connections =
+    (place : ℕ) (t : Talk) → slice_get connections place ≡ Some (Some t) → IsGoing t.stream.left
 
 -- There is a place for each of the eight.
 pub record AreEight (connections : List (Option Talk)) : Type 0 where

@@ -164,9 +164,11 @@ measure_taken now k field value s =
 
 -- the value that the contacts, the inputs and the measures give a point
 abbrev pub point_value : State → Source → Value
-point_value s (source.Switch k point) = position_value point (position_leaf s.switches s.rows k (slice_get s.switches k))
+point_value s (source.Switch k point) =
+    position_value point (position_leaf s.switches s.rows k (slice_get s.switches k))
 point_value s (source.Input k) = Truth (unwrap_or (slice_get s.input_values k) false)
-point_value s (source.Meter k field) = Long (number_of_leaf (measure_leaf s.rows k field (slice_get s.meters k)))
+point_value s (source.Meter k field) =
+    Long (number_of_leaf (measure_leaf s.rows k field (slice_get s.meters k)))
 
 -- the values of the points that the program only reads
 abbrev pub inputs_of : State → List Value
@@ -186,7 +188,8 @@ ran_of Unfinished = record { slots = []; timers = []; steps = 0 }
 
 -- the machine's run at a moment, from what the points that are read hold then
 abbrev pub ending_at : ℕ → State → Ending
-ending_at now s = run s.machine.image.code now (length s.machine.image.code) (started s.machine (inputs_of s)) 0
+ending_at now s =
+    run s.machine.image.code now (length s.machine.image.code) (started s.machine (inputs_of s)) 0
 
 -- the program runs once on what stands
 abbrev pub ran_at : ℕ → State → Ran
@@ -196,7 +199,8 @@ ran_at now s = ran_of (ending_at now s)
 abbrev pub after_run : ℕ → Ran → State → State
 after_run now ran s = record s {
   machine = record s.machine { slots = ran.slots; timers = ran.timers };
-  rows = with_outputs s.switches s.writes (outputs_of s.machine.image.points ran.slots) now 0 s.switches s.rows;
+  rows = with_outputs s.switches s.writes (outputs_of s.machine.image.points ran.slots) now 0
+      s.switches s.rows;
   last_scan = Some now;
   is_stale = false;
 }

@@ -26,10 +26,14 @@ IsContinuedIf None = Unit {0}
 IsContinuedIf (Some i) = IsContinued i
 
 -- Octets do something, and then the rest of them, wherever memory is refused later.
-pub record Moves (now a : ℕ) (old : Talk) (octets : List ℕ) (d : Done) (new : Talk) (rest : List ℕ) (e : Done) : Type 0 where
-  pub goes : (later : Option ℕ) → (choice : Option ℕ) × (heard choice now a (indications old octets) d ≡ heard later now a (indications new rest) e)
+pub record Moves (now a : ℕ) (old : Talk) (octets : List ℕ) (d : Done) (new : Talk) (rest : List ℕ)
+    (e : Done) : Type 0 where
+  pub goes : (later : Option ℕ)
+      → (choice : Option ℕ) ×
+      (heard choice now a (indications old octets) d ≡ heard later now a (indications new rest) e)
 
 -- There is a choice with which the octets come to this.
-pub record ComesTo (now a : ℕ) (old : Talk) (octets : List ℕ) (d : Done) (why : Option Why) (e : Done) : Type 0 where
+pub record ComesTo (now a : ℕ) (old : Talk) (octets : List ℕ) (d : Done) (why : Option Why)
+    (e : Done) : Type 0 where
   pub choice : Option ℕ
   pub is : heard choice now a (indications old octets) d ≡ record { done = e; why = why }

@@ -72,7 +72,8 @@ fn framed_report(
 fn due_of(connection: &Connection, association: u16, ending: &Ending) -> Result<Due, AllocError>
     requires open { IsSome (association_terms connection.now.talk.phase) }
     requires short { AreShort ending.now }
-    ensures { IfOk result (λ due. due ≡ spec.due_of association (terms_of connection.now.talk) ending.now) }
+    ensures { IfOk result (λ due. due
+        ≡ spec.due_of association (terms_of connection.now.talk) ending.now) }
 {
     let positive = framed_report(connection, &ending.positive)?;
     let negative = framed_report(connection, &ending.negative)?;
@@ -91,7 +92,8 @@ fn due_if(
 ) -> Result<Option<Due>, AllocError>
     requires open { IsSome (association_terms connection.now.talk.phase) }
     requires short { IsShort ending.now }
-    ensures { IfOk result (λ due. due ≡ spec.due_if association (terms_of connection.now.talk) ending.now) }
+    ensures { IfOk result (λ due. due
+        ≡ spec.due_if association (terms_of connection.now.talk) ending.now) }
 {
     match ending {
         Some(ending) => {
@@ -120,7 +122,9 @@ fn send_all(
 ) -> Result<(), AllocError>
     requires open { IsSome (association_terms connection.now.talk.phase) }
     requires short { All (λ pdu. length pdu ≤ 65_000) pdus.now }
-    ensures ok { OnOk result (sent.new.items ≡ sent.old.items ++ map (λ pdu. sent_on association (sending (terms_of connection.now.talk) pdu)) pdus.now) }
+    ensures ok { OnOk result
+        (sent.new.items ≡ sent.old.items
+        ++ map (λ pdu. sent_on association (sending (terms_of connection.now.talk) pdu)) pdus.now) }
     ensures kept { take (length sent.old.items) sent.new.items ≡ sent.old.items }
 {
     for pdu in pdus {
@@ -144,11 +148,18 @@ fn reply(
     requires open { IsSome (association_terms connection.now.talk.phase) }
     requires short { All (λ pdu. length pdu ≤ 65_000) answer.now.sent.items }
     requires ending { IsShort answer.now.ending }
-    ensures due { IfOk result (λ due. due ≡ spec.due_if association (terms_of connection.now.talk) answer.now.ending) }
-    ensures sent { OnOk result (made.new.sent.items ≡ made.old.sent.items ++ map (λ pdu. sent_on association (sending (terms_of connection.now.talk) pdu)) answer.now.sent.items) }
-    ensures commands { OnOk result (made.new.commands.items ≡ made.old.commands.items ++ answer.now.commands.items) }
-    ensures sent_before { take (length made.old.sent.items) made.new.sent.items ≡ made.old.sent.items }
-    ensures commands_before { take (length made.old.commands.items) made.new.commands.items ≡ made.old.commands.items }
+    ensures due { IfOk result
+        (λ due. due ≡ spec.due_if association (terms_of connection.now.talk) answer.now.ending) }
+    ensures sent { OnOk result
+        (made.new.sent.items ≡ made.old.sent.items
+        ++ map (λ pdu. sent_on association (sending (terms_of connection.now.talk) pdu))
+        answer.now.sent.items) }
+    ensures commands { OnOk result
+        (made.new.commands.items ≡ made.old.commands.items ++ answer.now.commands.items) }
+    ensures sent_before { take (length made.old.sent.items) made.new.sent.items
+        ≡ made.old.sent.items }
+    ensures commands_before { take (length made.old.commands.items) made.new.commands.items
+        ≡ made.old.commands.items }
 {
     let due = due_if(connection, association, &answer.ending)?;
     send_all(
@@ -157,9 +168,7 @@ fn reply(
         answer.sent.as_slice(),
         &mut made.sent,
     )?;
-    made
-        .commands
-        .extend_from_slice(answer.commands.as_slice())?;
+    made.commands.extend_from_slice(answer.commands.as_slice())?;
     Ok(due)
 }
 
@@ -175,14 +184,17 @@ fn answer(
     requires open { IsSome (association_terms connection.now.talk.phase) }
     requires least { 256 ≤ client.size }
     requires most { client.size ≤ 65_000 }
-    ensures ok { OnOk result ((connections : List (Option Talk)) → done_of (state_view connections state.new) made.new
-        ≡ answered_with client.association (terms_of connection.now.talk) (answered client connection.now.pdu (bay_of (state_view connections state.old)))
+    ensures ok { OnOk result
+        ((connections : List (Option Talk)) → done_of (state_view connections state.new) made.new
+        ≡ answered_with client.association (terms_of connection.now.talk)
+        (answered client connection.now.pdu (bay_of (state_view connections state.old)))
         (done_of (state_view connections state.old) made.old)) }
     ensures back { OnErr result ((connections : List (Option Talk)) (standing : Standing)
         → put_back standing (state_view connections state.new)
         ≡ put_back standing (state_view connections state.old)) }
     ensures sent { take (length made.old.sent.items) made.new.sent.items ≡ made.old.sent.items }
-    ensures commands { take (length made.old.commands.items) made.new.commands.items ≡ made.old.commands.items }
+    ensures commands { take (length made.old.commands.items) made.new.commands.items
+        ≡ made.old.commands.items }
 {
     let answer = state.bay.answer(alloc, client, connection.pdu())?;
     let due = reply(connection, client.association, &answer, made)?;
@@ -201,9 +213,14 @@ pub fn message(
     made: &mut Made,
 ) -> Result<(), AllocError>
     requires { IsSome (association_terms connection.now.talk.phase) }
-    ensures ok { OnOk result ((connections : List (Option Talk)) → done_of (state_view connections state.new) made.new
-        ≡ said now association (terms_of connection.now.talk) connection.now.pdu (done_of (state_view connections state.old) made.old)) }
-    ensures err { OnErr result ((connections : List (Option Talk)) → done_of (state_view connections state.new) made.new ≡ done_of (state_view connections state.old) made.old) }
+    ensures ok { OnOk result
+        ((connections : List (Option Talk)) → done_of (state_view connections state.new) made.new
+        ≡ said now association (terms_of connection.now.talk) connection.now.pdu
+        (done_of (state_view connections state.old) made.old)) }
+    ensures err { OnErr result
+        ((connections : List (Option Talk))
+        → done_of (state_view connections state.new) made.new
+        ≡ done_of (state_view connections state.old) made.old) }
 {
     let client = Client {
         association,

@@ -26,7 +26,8 @@ impl From<AllocError> for Why {
 
 /// Sends octets on an association.
 fn send(association: u16, octets: Vec<u8>, made: &mut Made) -> Result<(), AllocError>
-    ensures ok { OnOk result (made.new.sent.items ≡ made.old.sent.items ++ sent_on association octets.items ∷ []) }
+    ensures ok { OnOk result
+        (made.new.sent.items ≡ made.old.sent.items ++ sent_on association octets.items ∷ []) }
     ensures err { OnErr result (made.new.sent.items ≡ made.old.sent.items) }
     ensures commands { made.new.commands.items ≡ made.old.commands.items }
 {
@@ -97,7 +98,8 @@ fn turn(
     requires some { 0 < length rest.now }
     ensures within { IfOk result (λ used. used ≤ length rest.now) }
     ensures moves { IfOk result (λ used. 0 < used) }
-    ensures left { IfOk result (λ used. connection.new.talk ≡ left_by connection.old.talk (take used rest.now)) }
+    ensures left { IfOk result
+        (λ used. connection.new.talk ≡ left_by connection.old.talk (take used rest.now)) }
     ensures going { OnOk result (IsGoing connection.new.talk.stream.left) }
     ensures ok { IfOk result (λ used. (connections : List (Option Talk))
         → Moves now association connection.old.talk rest.now
@@ -109,15 +111,7 @@ fn turn(
         (done_of (state_view connections state.new) made.new)) }
 {
     let fed = connection.feed(rest)?;
-    hear(
-        alloc,
-        now,
-        association,
-        state,
-        connection,
-        fed.heard,
-        made,
-    )?;
+    hear(alloc, now, association, state, connection, fed.heard, made)?;
     Ok(fed.used)
 }
 

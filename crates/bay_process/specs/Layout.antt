@@ -34,7 +34,12 @@ name_in layout handle = slice_index_or layout.names handle []
 
 -- the names at the handles of a value, its quality and its moment
 abbrev pub status_in : Layout → StatusRows → StatusNames
-status_in layout rows = record { value = name_in layout rows.value; quality = name_in layout rows.quality; time = name_in layout rows.time }
+status_in layout rows =
+    record {
+      value = name_in layout rows.value;
+      quality = name_in layout rows.quality;
+      time = name_in layout rows.time;
+    }
 
 -- the names at the handles of a switch
 abbrev pub switch_in : Layout → SwitchRows → SwitchNames
@@ -75,23 +80,30 @@ switches_of bound = map (λ b. b.switch) bound
 -- among the points that may be written, the places of the interlocking values of the switch at a
 -- place
 abbrev pub outputs_at : List Source → ℕ → SwitchOutputs
-outputs_at writes k = record { ena_opn = position (is_point k EnableOpen) writes; ena_cls = position (is_point k EnableClose) writes }
+outputs_at writes k =
+    record {
+      ena_opn = position (is_point k EnableOpen) writes;
+      ena_cls = position (is_point k EnableClose) writes;
+    }
 
 -- the handles of the switch at a place have its names, and its outputs are those of its points
-pub record IsBound (layout : Layout) (writes : List Source) (switches : List Switch) (k : ℕ) (bound : BoundSwitch) : Type 0 where
+pub record IsBound (layout : Layout) (writes : List Source) (switches : List Switch) (k : ℕ)
+    (bound : BoundSwitch) : Type 0 where
   pub named : switch_in layout bound.rows ≡ switch_names switches k bound.switch
   pub leaf_typed : AreSwitchRows layout bound.rows
   pub outputs : bound.outputs ≡ outputs_at writes k
 
 -- each switch is bound at its place
 abbrev pub AreBound : Layout → List Source → List BoundSwitch → Type 0
-AreBound layout writes bound = (k : ℕ) (b : BoundSwitch) → slice_get bound k ≡ Some b → IsBound layout writes (switches_of bound) k b
+AreBound layout writes bound = (k : ℕ) (b : BoundSwitch) → slice_get bound k ≡ Some b
+    → IsBound layout writes (switches_of bound) k b
 
 -- the switches with their rows, from place k on, and the places of their interlocking values
 abbrev pub bound_from : List Source → ℕ → List Switch → List SwitchRows → List BoundSwitch
 bound_from writes k [] rows = []
 bound_from writes k (s ∷ ss) [] = []
-bound_from writes k (s ∷ ss) (r ∷ rs) = record { switch = s; rows = r; outputs = outputs_at writes k } ∷ bound_from writes (k + 1) ss rs
+bound_from writes k (s ∷ ss) (r ∷ rs) =
+    record { switch = s; rows = r; outputs = outputs_at writes k } ∷ bound_from writes (k + 1) ss rs
 
 -- the names at the handles of a meter
 abbrev pub meter_in : Layout → MeterRows → MeterNames
@@ -137,4 +149,5 @@ pub record IsMeterBound (layout : Layout) (k : ℕ) (rows : MeterRows) : Type 0 
 
 -- each meter is bound at its place
 abbrev pub AreMetersBound : Layout → List BoundMeter → Type 0
-AreMetersBound layout bound = (k : ℕ) (m : BoundMeter) → slice_get bound k ≡ Some m → IsMeterBound layout k m.rows
+AreMetersBound layout bound =
+    (k : ℕ) (m : BoundMeter) → slice_get bound k ≡ Some m → IsMeterBound layout k m.rows

@@ -50,7 +50,8 @@ pub record HasSwitch (rows : List Row) (names : SwitchNames) : Type 0 where
 
 -- the rows have the values of each switch
 abbrev pub HasSwitches : List Row → List Nodes → Type 0
-HasSwitches rows nodes = (k : ℕ) (n : Nodes) → slice_get nodes k ≡ Some n → HasSwitch rows (nodes_names n)
+HasSwitches rows nodes =
+    (k : ℕ) (n : Nodes) → slice_get nodes k ≡ Some n → HasSwitch rows (nodes_names n)
 
 -- the rows have a value of each of these names
 pub record AreThere (rows : List Row) (names : StatusNames) : Type 0 where
@@ -77,7 +78,8 @@ pub record AreRowsOf (layout : Layout) (names : SwitchNames) (rows : SwitchRows)
 -- the handles of each switch are those of its nodes
 abbrev pub AreAllRows : Layout → List Nodes → List SwitchRows → Type 0
 AreAllRows layout nodes rows =
-    (k : ℕ) (n : Nodes) (r : SwitchRows) → slice_get nodes k ≡ Some n → slice_get rows k ≡ Some r → AreRowsOf layout (nodes_names n) r
+    (k : ℕ) (n : Nodes) (r : SwitchRows) → slice_get nodes k ≡ Some n → slice_get rows k ≡ Some r
+    → AreRowsOf layout (nodes_names n) r
 
 -- the names are those of the meters' nodes
 abbrev pub AreAllMeters : Bay → List (List ℕ) → Type 0

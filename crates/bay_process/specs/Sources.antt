@@ -20,7 +20,9 @@ source_of bay p = option_map (λ b. b.source) (find (is_point p) bay)
 abbrev pub sources_of : Bool → List Point → List ImagePoint → List Source
 sources_of writable bay [] = []
 sources_of writable bay (p ∷ points) =
-    if beq p.writable writable then cons_option (source_of bay p) (sources_of writable bay points) else sources_of writable bay points
+    if beq p.writable writable
+    then cons_option (source_of bay p) (sources_of writable bay points)
+    else sources_of writable bay points
 
 -- the type of what a point stands for
 abbrev pub type_of_switch_point : SwitchPoint → ElementaryType

@@ -40,7 +40,8 @@ pub fn sources_of(
     bay: &[Point],
     points: &[ImagePoint],
 ) -> Result<Vec<Source>, AllocError>
-    ensures { IfOk result (λ sources. sources.items ≡ spec_sources.sources_of writable bay.now points.now) }
+    ensures { IfOk result (λ sources. sources.items
+        ≡ spec_sources.sources_of writable bay.now points.now) }
 {
     let mut sources = Vec::new(alloc);
     for point in points {

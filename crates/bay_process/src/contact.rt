@@ -56,7 +56,8 @@ fn tells(tree: &Tree, rows: StatusRows, position: Dbpos) -> bool
 /// an end.
 fn put_position(tree: &mut Tree, rows: &SwitchRows, position: Dbpos, now: u64)
     requires { AreSwitchRows (layout_of tree.old) rows.now }
-    ensures rows { tree.new ≡ rows_after_change (switch_in (layout_of tree.old) rows.now) position now tree.old }
+    ensures rows { tree.new ≡ rows_after_change (switch_in (layout_of tree.old) rows.now) position
+        now tree.old }
     ensures layout { layout_of tree.new ≡ layout_of tree.old }
 {
     let is_operation = is_end_position(position)
@@ -83,8 +84,10 @@ fn put_position(tree: &mut Tree, rows: &SwitchRows, position: Dbpos, now: u64)
 /// Takes a switch's position, and answers whether that changed its value or its quality.
 pub fn take_position(tree: &mut Tree, rows: &SwitchRows, position: Dbpos, now: u64) -> bool
     requires { AreSwitchRows (layout_of tree.old) rows.now }
-    ensures changed { result ≡ not (spec.tells (status_in (layout_of tree.old) rows.now.position) position tree.old) }
-    ensures rows { tree.new ≡ rows_after_contact (switch_in (layout_of tree.old) rows.now) position now tree.old }
+    ensures changed { result
+        ≡ not (spec.tells (status_in (layout_of tree.old) rows.now.position) position tree.old) }
+    ensures rows { tree.new ≡ rows_after_contact (switch_in (layout_of tree.old) rows.now) position
+        now tree.old }
     ensures layout { layout_of tree.new ≡ layout_of tree.old }
 {
     if tells(tree, rows.position, position) {

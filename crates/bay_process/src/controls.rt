@@ -50,7 +50,8 @@ fn handle_at(
 /// The handle of the row that tells whether the switch of a control is selected.
 fn selected_at(alloc: Global, tree: &Tree, node: &str) -> Result<Handle, AllocError>
     requires { HasLeaf tree.now (control_names_of node.now).selected leaf_type.Truth }
-    ensures { IfOk result (λ handle. place_of tree.now (control_names_of node.now).selected ≡ Some handle) }
+    ensures { IfOk result (λ handle. place_of tree.now (control_names_of node.now).selected
+        ≡ Some handle) }
 {
     match handle_at(alloc, tree, node, SELECTED)? {
         Some(handle) => Ok(handle),

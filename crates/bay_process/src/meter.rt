@@ -50,7 +50,8 @@ impl MeterRows {
 /// Whether a number stands there.
 fn is_number(tree: &Tree, handle: Handle, number: i32) -> bool
     requires { HasLeafType (layout_of tree.now) handle leaf_type.Int32 }
-    ensures { result ≡ spec.is_number number (leaf_of (name_in (layout_of tree.now) handle) tree.now) }
+    ensures { result ≡ spec.is_number number
+        (leaf_of (name_in (layout_of tree.now) handle) tree.now) }
 {
     number == count_at(tree, handle)
 }
@@ -58,8 +59,10 @@ fn is_number(tree: &Tree, handle: Handle, number: i32) -> bool
 /// Takes a measured value, and answers whether that changed it or its quality.
 pub fn take_measure(tree: &mut Tree, rows: StatusRows, value: i32, now: u64) -> bool
     requires { AreStatusRows (layout_of tree.old) leaf_type.Int32 rows }
-    ensures changed { result ≡ not (tells_measure (status_in (layout_of tree.old) rows) value tree.old) }
-    ensures rows { tree.new ≡ rows_after_measure (status_in (layout_of tree.old) rows) value now tree.old }
+    ensures changed { result
+        ≡ not (tells_measure (status_in (layout_of tree.old) rows) value tree.old) }
+    ensures rows { tree.new ≡ rows_after_measure (status_in (layout_of tree.old) rows) value now
+        tree.old }
     ensures layout { layout_of tree.new ≡ layout_of tree.old }
 {
     let is_same = is_number(tree, rows.value, value);

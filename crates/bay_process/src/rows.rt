@@ -51,7 +51,8 @@ pub fn put(tree: &mut Tree, handle: Handle, leaf: Leaf)
 #[inline(always)]
 pub fn put_status(tree: &mut Tree, rows: StatusRows, value: Leaf, quality: Quality, now: u64)
     requires { AreStatusRows (layout_of tree.old) (leaf_type_of value) rows }
-    ensures rows { tree.new ≡ with_status (status_in (layout_of tree.old) rows) value quality now tree.old }
+    ensures rows { tree.new ≡ with_status (status_in (layout_of tree.old) rows) value quality now
+        tree.old }
     ensures layout { layout_of tree.new ≡ layout_of tree.old }
 {
     put(tree, rows.value, value);
@@ -73,7 +74,8 @@ pub fn position_at(tree: &Tree, handle: Handle) -> Dbpos
 // The quality that stands there.
 fn quality_at(tree: &Tree, handle: Handle) -> Quality
     requires { HasLeafType (layout_of tree.now) handle leaf_type.Quality }
-    ensures { leaf_of (name_in (layout_of tree.now) handle) tree.now ≡ Some (leaves.Quality result) }
+    ensures { leaf_of (name_in (layout_of tree.now) handle) tree.now
+        ≡ Some (leaves.Quality result) }
 {
     match tree.get(handle) {
         Some(Leaf::Quality(quality)) => *quality,
@@ -106,7 +108,8 @@ pub fn count_at(tree: &Tree, handle: Handle) -> i32
 /// Whether a position stands there.
 pub fn is_position(tree: &Tree, handle: Handle, position: Dbpos) -> bool
     requires { HasLeafType (layout_of tree.now) handle leaf_type.Dbpos }
-    ensures { result ≡ spec.is_position position (leaf_of (name_in (layout_of tree.now) handle) tree.now) }
+    ensures { result ≡ spec.is_position position
+        (leaf_of (name_in (layout_of tree.now) handle) tree.now) }
 {
     position == position_at(tree, handle)
 }
@@ -114,7 +117,8 @@ pub fn is_position(tree: &Tree, handle: Handle, position: Dbpos) -> bool
 /// Whether a quality stands there.
 pub fn is_quality(tree: &Tree, handle: Handle, quality: Quality) -> bool
     requires { HasLeafType (layout_of tree.now) handle leaf_type.Quality }
-    ensures value { result ≡ spec.is_quality quality (leaf_of (name_in (layout_of tree.now) handle) tree.now) }
+    ensures value { result ≡ spec.is_quality quality
+        (leaf_of (name_in (layout_of tree.now) handle) tree.now) }
     ensures there { leaf_of (name_in (layout_of tree.now) handle) tree.now ≢ None }
 {
     quality == quality_at(tree, handle)
@@ -123,7 +127,8 @@ pub fn is_quality(tree: &Tree, handle: Handle, quality: Quality) -> bool
 /// Whether a truth value stands there.
 pub fn is_truth(tree: &Tree, handle: Handle, value: bool) -> bool
     requires { HasLeafType (layout_of tree.now) handle leaf_type.Truth }
-    ensures value { result ≡ spec.is_truth value (leaf_of (name_in (layout_of tree.now) handle) tree.now) }
+    ensures value { result ≡ spec.is_truth value
+        (leaf_of (name_in (layout_of tree.now) handle) tree.now) }
     ensures there { leaf_of (name_in (layout_of tree.now) handle) tree.now ≢ None }
 {
     truth_at(tree, handle) == value

@@ -134,7 +134,8 @@ impl<'a> Inputs for ReadPoints<'a> {
 
     ghost types = { λ points. map type_of_source points.reads.now };
 
-    ghost values = { λ points. map (bound_value points.tree.now points.switches.now points.inputs.now points.meters.now) points.reads.now };
+    ghost values = { λ points. map (bound_value points.tree.now points.switches.now points.inputs.now
+        points.meters.now) points.reads.now };
 
     #[inline(always)]
     fn input(&self, place: usize) -> Value {
@@ -147,13 +148,16 @@ impl<'a> Inputs for ReadPoints<'a> {
         )
     }
 
-    ghost sized = { λ points. length-map points.reads.now (bound_value points.tree.now points.switches.now points.inputs.now points.meters.now) ∙ sym (length-map points.reads.now type_of_source) };
+    ghost sized = { λ points. length-map points.reads.now
+        (bound_value points.tree.now points.switches.now points.inputs.now points.meters.now)
+        ∙ sym (length-map points.reads.now type_of_source) };
 }
 
 /// Gives an interlocking value the value of its point.
 fn set_enabled(tree: &mut Tree, rows: StatusRows, value: bool, now: u64)
     requires { AreStatusRows (layout_of tree.old) leaf_type.Truth rows }
-    ensures rows { tree.new ≡ with_enabled (status_in (layout_of tree.old) rows) value now tree.old }
+    ensures rows { tree.new ≡ with_enabled (status_in (layout_of tree.old) rows) value now
+        tree.old }
     ensures layout { layout_of tree.new ≡ layout_of tree.old }
     ensures valued { AreValued tree.old (status_in (layout_of tree.old) rows) }
 {
@@ -178,9 +182,11 @@ fn output(outputs: &Outputs<'_>, place: Option<usize>) -> bool
 /// Gives the interlocking values of the switch at a place new values.
 fn write_output(tree: &mut Tree, rows: &SwitchRows, enabled: Enabled, now: u64)
     requires { AreSwitchRows (layout_of tree.old) rows.now }
-    ensures rows { tree.new ≡ with_output (switch_in (layout_of tree.old) rows.now) enabled.may_open enabled.may_close now tree.old }
+    ensures rows { tree.new ≡ with_output (switch_in (layout_of tree.old) rows.now) enabled.may_open
+        enabled.may_close now tree.old }
     ensures layout { layout_of tree.new ≡ layout_of tree.old }
-    ensures told { (k : ℕ) → AreEnabling (layout_of tree.old) k rows.now → IsTold tree.new k enabled }
+    ensures told { (k : ℕ) → AreEnabling (layout_of tree.old) k rows.now
+        → IsTold tree.new k enabled }
 {
     set_enabled(tree, rows.ena_opn, enabled.may_open, now);
     set_enabled(tree, rows.ena_cls, enabled.may_close, now);
@@ -190,7 +196,8 @@ fn write_output(tree: &mut Tree, rows: &SwitchRows, enabled: Enabled, now: u64)
 fn change_enabled(tree: &mut Tree, rows: StatusRows, stood: bool, value: bool, now: u64)
     requires rows { AreStatusRows (layout_of tree.old) leaf_type.Truth rows }
     requires stands { Stands tree.old (status_in (layout_of tree.old) rows) stood }
-    ensures rows { tree.new ≡ with_enabled (status_in (layout_of tree.old) rows) value now tree.old }
+    ensures rows { tree.new ≡ with_enabled (status_in (layout_of tree.old) rows) value now
+        tree.old }
     ensures layout { layout_of tree.new ≡ layout_of tree.old }
 {
     if value == stood {
@@ -213,7 +220,8 @@ fn tell(
     requires told { AreTold tree.old told.old }
     requires within { place < length told.old }
     requires few { length told.old < 2 ^ 64 }
-    ensures rows { tree.new ≡ with_output (switch_in (layout_of tree.old) rows.now) enabled.may_open enabled.may_close now tree.old }
+    ensures rows { tree.new ≡ with_output (switch_in (layout_of tree.old) rows.now) enabled.may_open
+        enabled.may_close now tree.old }
     ensures layout { layout_of tree.new ≡ layout_of tree.old }
     ensures told { AreTold tree.new told.new }
     ensures sized { length told.new ≡ length told.old }
@@ -240,7 +248,8 @@ pub fn write_outputs(
     requires interlocked { AreInterlocked (layout_of tree.old) switches.now }
     requires told { AreTold tree.old told.old }
     requires sized { length told.old ≡ length switches.now }
-    ensures rows { tree.new ≡ outputs_put (layout_of tree.old) switches.now outputs.now now tree.old }
+    ensures rows { tree.new ≡ outputs_put (layout_of tree.old) switches.now outputs.now now
+        tree.old }
     ensures layout { layout_of tree.new ≡ layout_of tree.old }
     ensures told { AreTold tree.new told.new }
     ensures sized { length told.new ≡ length switches.now }

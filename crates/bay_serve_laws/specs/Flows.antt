@@ -77,9 +77,11 @@ abbrev pub FlowsAt : ℕ → Option NamedData → Script → Held → ℕ → Ty
 FlowsAt now line script h place =
     Flows (taken_of (place + 1) (turn_calls now line script h)) (queue_at place h)
     (sent_to (place + 1) (done_at now (turn_events now line script h) h.device).answers)
-    (queue_at place (turned now line script h).server) (is_up_in place (turned now line script h).server)
+    (queue_at place (turned now line script h).server)
+    (is_up_in place (turned now line script h).server)
 
 -- So it is for each association, and the server is tidy again.
-pub record LosesNothing (now : ℕ) (line : Option NamedData) (script : Script) (h : Held) : Type 0 where
+pub record LosesNothing (now : ℕ) (line : Option NamedData) (script : Script) (h : Held)
+    : Type 0 where
   pub flows : (place : ℕ) → place < 8 → FlowsAt now line script h place
   pub tidy : IsTidy (turned now line script h).server

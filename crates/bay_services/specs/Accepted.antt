@@ -98,7 +98,9 @@ behind_id (id ∷ service ∷ more ∷ parts) = None
 
 -- what stands under a service's tag in a confirmed response
 abbrev pub service_in : ℕ → List ℕ → Option (List ℕ)
-service_in number pdu = value_in pdu >>= under (constructed 1) >>= values_in >>= behind_id >>= under (constructed number)
+service_in number pdu =
+    value_in pdu >>= under (constructed 1) >>= values_in >>= behind_id
+    >>= under (constructed number)
 
 -- the results of a response to a read
 abbrev pub read_results : List ℕ → Option (List Part)
@@ -115,28 +117,33 @@ abbrev pub read_accepted : ℕ → ℕ → Bay → List Naming → List Part →
 read_accepted now a b [] results = []
 read_accepted now a b (name ∷ ns) [] = []
 read_accepted now a b (name ∷ ns) (result ∷ results) =
-    entries_of now (act_of_read a (target_at b (row_named b name))) (is_granted result) ++ read_accepted now a b ns results
+    entries_of now (act_of_read a (target_at b (row_named b name))) (is_granted result)
+    ++ read_accepted now a b ns results
 
 abbrev pub write_accepted : ℕ → ℕ → Bay → List Naming → List Datum → List Part → List Entry
 write_accepted now a b [] values results = []
 write_accepted now a b (name ∷ ns) [] results = []
 write_accepted now a b (name ∷ ns) (given ∷ values) [] = []
 write_accepted now a b (name ∷ ns) (given ∷ values) (result ∷ results) =
-    entries_of now (act_of_write a given (target_at b (row_named b name))) (is_success result) ++ write_accepted now a b ns values results
+    entries_of now (act_of_write a given (target_at b (row_named b name))) (is_success result)
+    ++ write_accepted now a b ns values results
 
 -- an answer without results is an error, and then nothing was done
 abbrev pub service_accepted : ℕ → ℕ → Bay → Asking → List ℕ → List Entry
 service_accepted now a b identify response = []
 service_accepted now a b (names class place after) response = []
 service_accepted now a b (attributes name) response = []
-service_accepted now a b (read ns) response = read_accepted now a b ns (unwrap_or (read_results response) [])
-service_accepted now a b (write ns values) response = write_accepted now a b ns values (unwrap_or (write_results response) [])
+service_accepted now a b (read ns) response =
+    read_accepted now a b ns (unwrap_or (read_results response) [])
+service_accepted now a b (write ns values) response =
+    write_accepted now a b ns values (unwrap_or (write_results response) [])
 
 -- what was accepted of a PDU, by its response
 abbrev pub message_accepted : ℕ → ℕ → Bay → Result Message MmsFault → List ℕ → List Entry
 message_accepted now a b (Ok (initiate proposal)) response = []
 message_accepted now a b (Ok conclude) response = []
-message_accepted now a b (Ok (confirmed id asking)) response = service_accepted now a b asking response
+message_accepted now a b (Ok (confirmed id asking)) response =
+    service_accepted now a b asking response
 message_accepted now a b (Err fault) response = []
 
 -- What a PDU of a client asks at a moment, on an association, of the controls of a bay with these
@@ -168,4 +175,5 @@ may_be_reported (Err fault) = false
 -- the PDUs of an answer and those behind them: the response to the first, and those behind it
 abbrev pub first_response : Bool → List (List ℕ) → (List ℕ) × List (List ℕ)
 first_response reports [] = ([], [])
-first_response reports (pdu ∷ pdus) = if reports && is_report pdu then first_response reports pdus else (pdu, pdus)
+first_response reports (pdu ∷ pdus) =
+    if reports && is_report pdu then first_response reports pdus else (pdu, pdus)

@@ -38,7 +38,8 @@ said pdu b = record { sent = pdu ∷ []; commands = []; ending = None; after = b
 -- A response of more octets than are agreed is answered by an error of the class resource, and
 -- nothing is done.
 abbrev pub within : Client → ℕ → Bay → List ℕ → Answered → Answered
-within c id b response answer = if nat_le (length response) c.size then answer else said (error_text id Resource) b
+within c id b response answer =
+    if nat_le (length response) c.size then answer else said (error_text id Resource) b
 
 -- a response that does nothing else
 abbrev pub responded : Client → ℕ → Bay → List ℕ → Answered
@@ -47,17 +48,24 @@ responded c id b response = within c id b response (said response b)
 -- ---- the services
 
 abbrev pub identified : Client → ℕ → Bay → Answered
-identified c id b = responded c id b (response.confirmed id (element (constructed 2) (identity_text b.vendor b.model b.revision)))
+identified c id b =
+    responded c id b (response.confirmed id
+    (element (constructed 2) (identity_text b.vendor b.model b.revision)))
 
 -- the type of a variable, which can't be deleted by a client
 abbrev pub attributes_at : Client → ℕ → Bay → Option ℕ → Answered
 attributes_at c id b None = said (error_text id NoSuchObject) b
 attributes_at c id b (Some place) =
-    responded c id b (response.confirmed id (element (constructed 6) (element (context 0) (truth_octets false) ++ element (constructed 2) (type_text (type_at b.rows place)))))
+    responded c id b (response.confirmed id
+    (element (constructed 6)
+    (element (context 0) (truth_octets false)
+    ++ element (constructed 2) (type_text (type_at b.rows place)))))
 
 -- what is read, if its response fits
 abbrev pub read_done : Client → ℕ → Bay → Reading → Answered
-read_done c id b r = within c id b (read_text id r.results) (record { sent = read_text id r.results ∷ []; commands = []; ending = None; after = r.bay })
+read_done c id b r =
+    within c id b (read_text id r.results)
+    (record { sent = read_text id r.results ∷ []; commands = []; ending = None; after = r.bay })
 
 abbrev pub read_asked : Client → ℕ → Bay → List Naming → Answered
 read_asked c id b ns = read_done c id b (read_all c ns (nothing_read b))
@@ -65,7 +73,12 @@ read_asked c id b ns = read_done c id b (read_all c ns (nothing_read b))
 -- what is written, if its response fits; the reports of refusals come before it
 abbrev pub write_done : Client → ℕ → Bay → Writing → Answered
 write_done c id b w = within c id b (write_text id w.results)
-    (record { sent = w.reports ++ write_text id w.results ∷ []; commands = w.commands; ending = w.ending; after = w.bay })
+    (record {
+      sent = w.reports ++ write_text id w.results ∷ [];
+      commands = w.commands;
+      ending = w.ending;
+      after = w.bay;
+    })
 
 abbrev pub write_asked : Client → ℕ → Bay → List Naming → List Datum → Answered
 write_asked c id b ns values =

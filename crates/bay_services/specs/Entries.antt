@@ -72,17 +72,21 @@ call_of_write c b given (Some t) = write_call c b given t.switch t.part
 -- what was asked at a moment, and whether the controls accepted it
 abbrev pub seen : Client → Bay → Option Call → List Entry
 seen c b None = []
-seen c b (Some asked) = entries_of c.now (act_of asked) (is_ok (outcome_of asked c.now b.controls).answer)
+seen c b (Some asked) =
+    entries_of c.now (act_of asked) (is_ok (outcome_of asked c.now b.controls).answer)
 
 abbrev pub read_entries : Client → List Naming → Reading → List Entry
 read_entries c [] r = []
-read_entries c (name ∷ ns) r = seen c r.bay (call_of_read c (target_at r.bay (row_named r.bay name))) ++ read_entries c ns (read_one c name r)
+read_entries c (name ∷ ns) r =
+    seen c r.bay (call_of_read c (target_at r.bay (row_named r.bay name)))
+    ++ read_entries c ns (read_one c name r)
 
 abbrev pub write_entries : Client → List Naming → List Datum → Writing → List Entry
 write_entries c [] values w = []
 write_entries c (name ∷ ns) [] w = []
 write_entries c (name ∷ ns) (given ∷ values) w =
-    seen c w.bay (call_of_write c w.bay given (target_at w.bay (row_named w.bay name))) ++ write_entries c ns values (write_one c name given w)
+    seen c w.bay (call_of_write c w.bay given (target_at w.bay (row_named w.bay name)))
+    ++ write_entries c ns values (write_one c name given w)
 
 -- what a response answers that is not too long; the others do nothing
 abbrev pub within_size : Client → List ℕ → List Entry → List Entry
@@ -93,9 +97,12 @@ abbrev pub service_entries : Client → ℕ → Bay → Asking → List Entry
 service_entries c id b identify = []
 service_entries c id b (names class place after) = []
 service_entries c id b (attributes name) = []
-service_entries c id b (read ns) = within_size c (read_text id (read_all c ns (nothing_read b)).results) (read_entries c ns (nothing_read b))
+service_entries c id b (read ns) =
+    within_size c (read_text id (read_all c ns (nothing_read b)).results)
+    (read_entries c ns (nothing_read b))
 service_entries c id b (write ns values) =
-    within_size c (write_text id (write_all c ns values (nothing_written b)).results) (write_entries c ns values (nothing_written b))
+    within_size c (write_text id (write_all c ns values (nothing_written b)).results)
+    (write_entries c ns values (nothing_written b))
 
 -- the same of a PDU
 abbrev pub message_entries : Client → Bay → Result Message MmsFault → List Entry

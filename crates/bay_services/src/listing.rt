@@ -27,7 +27,8 @@ const DOMAIN: i64 = 9;
 
 // The error that there is no such object.
 fn write_unknown(alloc: Global, id: u32) -> Result<Vec<u8>, EncodeFault>
-    ensures { Gives EncodeFault.OutOfMemory (λ octets. octets.items) result (written (error_text id NoSuchObject)) }
+    ensures { Gives EncodeFault.OutOfMemory (λ octets. octets.items) result
+        (written (error_text id NoSuchObject)) }
 {
     let error = write_error(alloc, id, ErrorClass::NoSuchObject)?;
     Ok(error)
@@ -35,7 +36,8 @@ fn write_unknown(alloc: Global, id: u32) -> Result<Vec<u8>, EncodeFault>
 
 // A list of these names, behind which no more stand.
 fn write_names(alloc: Global, id: u32, names: &[Text]) -> Result<Vec<u8>, EncodeFault>
-    ensures { Gives EncodeFault.OutOfMemory (λ octets. octets.items) result (written (page_text id names.now false)) }
+    ensures { Gives EncodeFault.OutOfMemory (λ octets. octets.items) result
+        (written (page_text id names.now false)) }
 {
     let service = Service::Names { names, more: false };
     write_response(alloc, &Response::Confirmed { id, service })
@@ -43,7 +45,8 @@ fn write_names(alloc: Global, id: u32, names: &[Text]) -> Result<Vec<u8>, Encode
 
 // No names.
 fn write_none(alloc: Global, id: u32, after: Option<&[u8]>) -> Result<Vec<u8>, EncodeFault>
-    ensures { Gives EncodeFault.OutOfMemory (λ octets. octets.items) result (written (no_names id (option_copied after.entry))) }
+    ensures { Gives EncodeFault.OutOfMemory (λ octets. octets.items) result
+        (written (no_names id (option_copied after.entry))) }
 {
     match after {
         None => write_names(alloc, id, &[]),
@@ -59,7 +62,8 @@ impl ServedBay {
         id: u32,
         after: Option<&[u8]>,
     ) -> Result<Vec<u8>, EncodeFault>
-        ensures { Gives EncodeFault.OutOfMemory (λ octets. octets.items) result (written (domain_names id (bay_view self.now) (option_copied after.entry))) }
+        ensures { Gives EncodeFault.OutOfMemory (λ octets. octets.items) result
+            (written (domain_names id (bay_view self.now) (option_copied after.entry))) }
     {
         match after {
             None => {
@@ -86,7 +90,8 @@ impl ServedBay {
     ) -> Result<Vec<u8>, EncodeFault>
         requires least { 256 ≤ client.size }
         requires most { client.size ≤ 65_000 }
-        ensures { Gives EncodeFault.OutOfMemory (λ octets. octets.items) result (written (variable_names client id (bay_view self.now) (option_copied after.entry))) }
+        ensures { Gives EncodeFault.OutOfMemory (λ octets. octets.items) result
+            (written (variable_names client id (bay_view self.now) (option_copied after.entry))) }
     {
         match write_page(alloc, id, &self.tree, after, client.size) {
             Ok(page) => Ok(page),
@@ -107,7 +112,9 @@ impl ServedBay {
     ) -> Result<Vec<u8>, EncodeFault>
         requires least { 256 ≤ client.size }
         requires most { client.size ≤ 65_000 }
-        ensures { Gives EncodeFault.OutOfMemory (λ octets. octets.items) result (written (listing client id class (in_domain domain.now) (option_copied after.entry) (bay_view self.now))) }
+        ensures { Gives EncodeFault.OutOfMemory (λ octets. octets.items) result
+            (written (listing client id class (in_domain domain.now) (option_copied after.entry)
+            (bay_view self.now))) }
     {
         if domain != self.domain.as_str().as_bytes() {
             return write_unknown(alloc, id);
@@ -131,7 +138,9 @@ impl ServedBay {
     ) -> Result<Vec<u8>, EncodeFault>
         requires least { 256 ≤ client.size }
         requires most { client.size ≤ 65_000 }
-        ensures { Gives EncodeFault.OutOfMemory (λ octets. octets.items) result (written (listing client id class.now (place scope.now) (option_copied after.entry) (bay_view self.now))) }
+        ensures { Gives EncodeFault.OutOfMemory (λ octets. octets.items) result
+            (written (listing client id class.now (place scope.now) (option_copied after.entry)
+            (bay_view self.now))) }
     {
         let class = *class;
         match scope {

@@ -48,7 +48,8 @@ impl ServedBay {
     /// The control that a row is a part of.
     pub(crate) fn target(&self, row: Handle) -> Option<Target>
         requires { IsFound self.now.tree row }
-        ensures target { result ≡ target_of (length (bay_view self.now).switches) (name_at self.now.tree row) }
+        ensures target { result
+            ≡ target_of (length (bay_view self.now).switches) (name_at self.now.tree row) }
         ensures there { IfSome result (λ target. target.switch < length self.now.switches) }
     {
         target_at(&self.tree, self.control_rows.as_slice(), row)
@@ -71,7 +72,9 @@ impl ServedBay {
             → 4294967296 ≤ length (select_done client switch (name_at self.old.tree row)
             (reading self.old response.old)
             (select_outcome client.association switch client.now self.old.controls)).results) }
-        ensures back { (standing : Standing) → standing_again standing (bay_view self.new) ≡ standing_again standing (bay_view self.old) }
+        ensures back { (standing : Standing)
+            → standing_again standing (bay_view self.new)
+            ≡ standing_again standing (bay_view self.old) }
         ensures switches { self.new.switches ≡ self.old.switches }
         ensures layout { layout_of self.new.tree ≡ layout_of self.old.tree }
     {
@@ -93,9 +96,16 @@ impl ServedBay {
         response: &mut ReadResponse,
     ) -> Result<(), EncodeFault>
         requires { IsFound self.old.tree row }
-        ensures ok { OnOk result (reading self.new response.new ≡ spec.read_row client (reading self.old response.old) (Some row)) }
-        ensures long { IfErr result (λ fault. fault ≡ TooLong → 4294967296 ≤ length (spec.read_row client (reading self.old response.old) (Some row)).results) }
-        ensures back { (standing : Standing) → standing_again standing (bay_view self.new) ≡ standing_again standing (bay_view self.old) }
+        ensures ok { OnOk result
+            (reading self.new response.new
+            ≡ spec.read_row client (reading self.old response.old) (Some row)) }
+        ensures long { IfErr result
+            (λ fault. fault ≡ TooLong
+            → 4294967296 ≤ length (spec.read_row client (reading self.old response.old)
+            (Some row)).results) }
+        ensures back { (standing : Standing)
+            → standing_again standing (bay_view self.new)
+            ≡ standing_again standing (bay_view self.old) }
         ensures switches { self.new.switches ≡ self.old.switches }
         ensures layout { layout_of self.new.tree ≡ layout_of self.old.tree }
     {
@@ -118,9 +128,16 @@ impl ServedBay {
         name: &ObjectName<'_>,
         response: &mut ReadResponse,
     ) -> Result<(), EncodeFault>
-        ensures ok { OnOk result (reading self.new response.new ≡ spec.read_one client (naming name.now) (reading self.old response.old)) }
-        ensures long { IfErr result (λ fault. fault ≡ TooLong → 4294967296 ≤ length (spec.read_one client (naming name.now) (reading self.old response.old)).results) }
-        ensures back { (standing : Standing) → standing_again standing (bay_view self.new) ≡ standing_again standing (bay_view self.old) }
+        ensures ok { OnOk result
+            (reading self.new response.new
+            ≡ spec.read_one client (naming name.now) (reading self.old response.old)) }
+        ensures long { IfErr result
+            (λ fault. fault ≡ TooLong
+            → 4294967296 ≤ length (spec.read_one client (naming name.now)
+            (reading self.old response.old)).results) }
+        ensures back { (standing : Standing)
+            → standing_again standing (bay_view self.new)
+            ≡ standing_again standing (bay_view self.old) }
         ensures switches { self.new.switches ≡ self.old.switches }
         ensures layout { layout_of self.new.tree ≡ layout_of self.old.tree }
     {
@@ -138,9 +155,16 @@ impl ServedBay {
         names: &[ObjectName<'_>],
         response: &mut ReadResponse,
     ) -> Result<(), EncodeFault>
-        ensures ok { OnOk result (reading self.new response.new ≡ spec.read_all client (map naming names.now) (reading self.old response.old)) }
-        ensures long { IfErr result (λ fault. fault ≡ TooLong → 4294967296 ≤ length (spec.read_all client (map naming names.now) (reading self.old response.old)).results) }
-        ensures back { (standing : Standing) → standing_again standing (bay_view self.new) ≡ standing_again standing (bay_view self.old) }
+        ensures ok { OnOk result
+            (reading self.new response.new
+            ≡ spec.read_all client (map naming names.now) (reading self.old response.old)) }
+        ensures long { IfErr result
+            (λ fault. fault ≡ TooLong
+            → 4294967296 ≤ length (spec.read_all client (map naming names.now)
+            (reading self.old response.old)).results) }
+        ensures back { (standing : Standing)
+            → standing_again standing (bay_view self.new)
+            ≡ standing_again standing (bay_view self.old) }
         ensures switches { self.new.switches ≡ self.old.switches }
         ensures layout { layout_of self.new.tree ≡ layout_of self.old.tree }
     {

@@ -13,7 +13,9 @@ pub fn fitting(
     size: u32,
     made: Result<Vec<u8>, EncodeFault>,
 ) -> Result<Option<Listing<u8>>, AllocError>
-    ensures pdu { (pdu : List ℕ) → Gives EncodeFault.OutOfMemory (λ octets. octets.items) made (written pdu) → IfOk result (λ found. found ≡ spec.fitting size pdu) }
+    ensures pdu { (pdu : List ℕ)
+        → Gives EncodeFault.OutOfMemory (λ octets. octets.items) made (written pdu)
+        → IfOk result (λ found. found ≡ spec.fitting size pdu) }
     ensures made { IfOk result (λ found. IfSome found (λ _. is_ok made ≡ true)) }
 {
     match made {

@@ -23,7 +23,11 @@ change_enabled-requires-2-clause-stands c =
     let first = c.change_enabled.ensures in
     let named = c.requires.rows.named in
     let closing : status_in (layout_of mid) c.args.rows.now.ena_cls ≡ closing_of k =
-        ap (λ (l : Layout). status_in l c.args.rows.now.ena_cls) first.layout ∙ named.closing in
-    let opened = first.rows ∙ ap (λ (n : StatusNames). with_enabled n c.args.enabled.may_open c.args.now rows) named.opening in
-    let stands = closing-stands k c.args.enabled.may_open c.in-Some.stood.may_close c.args.now rows (stood c).closing in
+    ap (λ (l : Layout). status_in l c.args.rows.now.ena_cls) first.layout ∙ named.closing in
+    let opened =
+    first.rows ∙ ap (λ (n : StatusNames). with_enabled n c.args.enabled.may_open c.args.now
+    rows) named.opening in
+    let stands =
+    closing-stands k c.args.enabled.may_open c.in-Some.stood.may_close c.args.now rows
+    (stood c).closing in
     rw closing (rw opened stands)

@@ -8,14 +8,19 @@ pub put-requires : goal.put-requires
 put-requires c =
     let k = c.loop-switch.switch in
     let within : k < length c.args.rows.now = omega (arith, c.loop-switch-test.true) in
-    leaf_type_kept c.loop-switch.tree c.args.tree.now _ _ c.loop-switch.invariant.layout (c.requires k _ (slice_get-get_or c.args.rows.now k c.index-rows-switch.result within)).selected_type
+    leaf_type_kept c.loop-switch.tree c.args.tree.now _ _ c.loop-switch.invariant.layout
+    (c.requires k _ (slice_get-get_or c.args.rows.now k c.index-rows-switch.result
+    within)).selected_type
 
 pub loop-switch-preserved : goal.loop-switch-preserved
 loop-switch-preserved c =
     let k = c.loop-switch.switch in
     let within : k < length c.args.rows.now = omega (arith, c.loop-switch-test.true) in
-    let names = c.requires k _ (slice_get-get_or c.args.rows.now k c.index-rows-switch.result within) in
+    let names =
+    c.requires k _ (slice_get-get_or c.args.rows.now k c.index-rows-switch.result within) in
     record {
-      rows = shown_more c.args.selected k c.args.tree.now c.loop-switch.tree c.put.new.tree _ _ c.loop-switch.invariant.layout (selected_named c.args.tree.now _ _ names.selected) c.is_selected.ensures c.loop-switch.invariant.rows c.put.ensures.rows;
+      rows = shown_more c.args.selected k c.args.tree.now c.loop-switch.tree c.put.new.tree _ _
+          c.loop-switch.invariant.layout (selected_named c.args.tree.now _ _ names.selected)
+          c.is_selected.ensures c.loop-switch.invariant.rows c.put.ensures.rows;
       layout = c.put.ensures.layout ∙ c.loop-switch.invariant.layout;
     }

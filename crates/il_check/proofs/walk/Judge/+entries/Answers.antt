@@ -1,11 +1,14 @@
-use Rattle.std.proofs.Common.{Option, ap, append-nil, arith, map, ◌++◌, ◌∙◌}
+use Rattle.std.proofs.Common.{◌≡◌, Option, ap, append-nil, arith, map, option_map, subst, sym, ◌++◌, ◌∙◌}
 use Rattle.std.specs.Option.{option_to_list}
+use Rattle.std.specs.Result.{IfOk}
+use Rattle.il_text.specs.Listing as text
+use Rattle.il_text.specs.Views.{entry_of}
 use Rattle.il_text.proofs.ListingLemmas.{view_label, view_instruction, view_block}
 use Rattle.il_check.specs.Faults.{noted}
 use Rattle.il_check.specs.NamesView.{names_of}
 use Rattle.il_check.specs.Program.{Entry}
 use Rattle.il_check.specs.ProgramViews.{entry_view}
-use Rattle.il_check.specs.WellTyped.{closing_faults}
+use Rattle.il_check.specs.WellTyped.{closing_faults, entry_left, type_behind}
 use Rattle.il_check.proofs.NotedLemmas.{noted-after}
 use Rattle.il_check.proofs.WalkLemmas.{deep_found, looked_found, entries-more, entries-left}
 use Rattle.il_check.proofs.walk.Judge.+entries.Goals as goal
@@ -56,10 +59,23 @@ pub entry-returns-in-Label-clause-found : goal.entry-returns-in-Label-clause-fou
 entry-returns-in-Label-clause-found t c = grind (arith, view_label)
 
 pub entry-returns-in-Instruction-clause-kind : goal.entry-returns-in-Instruction-clause-kind
-entry-returns-in-Instruction-clause-kind t c = grind (arith, view_instruction)
+entry-returns-in-Instruction-clause-kind t c =
+    subst
+    (λ (e : text.Entry). IfOk c.operate.result
+    (λ l. l.kind ≡ type_behind (names_of c.args.names.now) e c.args.kind))
+    (sym (ap entry_of c.in-Instruction.is
+    ∙ view_instruction c.in-Instruction.line c.in-Instruction.instruction))
+    c.operate.ensures.kind
 
 pub entry-returns-in-Instruction-clause-left : goal.entry-returns-in-Instruction-clause-left
-entry-returns-in-Instruction-clause-left t c = grind (arith, view_instruction)
+entry-returns-in-Instruction-clause-left t c =
+    subst
+    (λ (e : text.Entry). IfOk c.operate.result
+    (λ l. option_map entry_view l.entry
+    ≡ entry_left (names_of c.args.names.now) c.args.context.room e c.args.kind))
+    (sym (ap entry_of c.in-Instruction.is
+    ∙ view_instruction c.in-Instruction.line c.in-Instruction.instruction))
+    c.operate.ensures.left
 
 pub entry-returns-in-Instruction-clause-found : goal.entry-returns-in-Instruction-clause-found
 entry-returns-in-Instruction-clause-found t c = grind (arith, view_instruction)
